@@ -1,0 +1,108 @@
+-- `clear::cell_free` meets its contract. Assumes nothing.
+use mathlib.Core.Bool.{not}
+use mathlib.Core.Path.{_≡_, sym, ap, _∙_}
+use denote.Ref.{now}
+use mir.Syntax.{w64}
+use mir.Val.{SFits}
+use mir.Facts.{toZ-ofZ}
+use Rattle.world.specs.Boxes.{corner, meets, moved, cube}
+use Rattle.world.specs.Space.{cellAt, space}
+use Rattle.clear.specs.Clear.{voxel}
+use Rattle.clear.specs.Laws.{unknown-met, unknown-apart, may-be, may-not, apart}
+use borrow.Author.Needs.{needs}
+use Rattle.clear.proofs.cell_free.Statement.{statement}
+use Rattle.clear.proofs.cell_free.Tie as tie
+
+-- signed numbers are what the machine reads back from their bits
+point : (c : tie.After-corner-of) → c .corner-of .result ≡ corner (c .before .before .before .before .before .args .x) (c .before .before .before .before .before .args .y) (c .before .before .before .before .before .args .z)
+point c =
+    let f : SFits w64 (c .before .before .before .before .before .args .x) = c .before .before .before .before .before .fits .x in
+    let g : SFits w64 (c .before .before .before .before .before .args .y) = c .before .before .before .before .before .fits .y in
+    let h : SFits w64 (c .before .before .before .before .before .args .z) = c .before .before .before .before .before .fits .z in
+    simp (toZ-ofZ, f, g, h) at (c .corner-of .ensures)
+
+met : (c : tie.After-intersects) → meets (voxel (corner (c .before .before .before .before .before .before .before .args .x) (c .before .before .before .before .before .before .before .args .y) (c .before .before .before .before .before .before .before .args .z))) (c .before .before .before .before .before .before .before .args .area) ≡ c .intersects .result
+met c = sym (rw (c .before .voxel-at .ensures, point (c .before .before)) at (c .intersects .ensures))
+
+cell : (c : tie.After-cell-at) →
+    cellAt (c .before .before .before .before .before .before .before .before .args .w) (now (c .before .before .before .before .before .before .before .before .args .cells)) (now (c .before .before .before .before .before .before .before .before .args .perms)) (now (c .before .before .before .before .before .before .before .before .args .shapes)) (c .before .before .before .before .before .before .before .before .args .x) (c .before .before .before .before .before .before .before .before .args .y) (c .before .before .before .before .before .before .before .before .args .z) ≡ c .cell-at .result
+cell c =
+    let f : SFits w64 (c .before .before .before .before .before .before .before .before .args .x) = c .before .before .before .before .before .before .before .before .fits .x in
+    let g : SFits w64 (c .before .before .before .before .before .before .before .before .args .y) = c .before .before .before .before .before .before .before .before .fits .y in
+    let h : SFits w64 (c .before .before .before .before .before .before .before .before .args .z) = c .before .before .before .before .before .before .before .before .fits .z in
+    sym (simp (toZ-ofZ, f, g, h) at (c .cell-at .ensures))
+
+corner-of-requires : tie.Need-corner-of-requires
+corner-of-requires c κs = search needs
+
+voxel-at-requires : tie.Need-voxel-at-requires
+voxel-at-requires c κs = search needs
+
+intersects-requires : tie.Need-intersects-requires
+intersects-requires c κs = search needs
+
+cell-at-requires : tie.Need-cell-at-requires
+cell-at-requires c κs = search needs
+
+enum-told : tie.Need-enum-told
+enum-told c = search needs
+
+returns : tie.Need-returns
+unfolding space
+returns c = rw (cell (c .before .before .before) ∙ c .before .enum-told .given .1) (sym (unknown-met _ _ _ (met (c .before .before .before .before) ∙ c .if1 .taken)))
+
+unit-requires : tie.Need-unit-requires
+unit-requires c κs = search needs
+
+offset-requires : tie.Need-offset-requires
+offset-requires c κs = search needs
+
+intersects-requires-2 : tie.Need-intersects-requires-2
+intersects-requires-2 c κs = search needs
+
+enum-known-occupied : tie.Need-enum-known-occupied
+enum-known-occupied c = search needs
+
+table-hits-requires : tie.Need-table-hits-requires
+table-hits-requires c κs = search needs
+
+returns-2 : tie.Need-returns-2
+unfolding space
+returns-2 c = rw (cell (c .before .before .before .before .before) ∙ c .before .before .before .occupied .given .1) (ap not (rw (point (c .before .before .before .before .before .before .before .before)) at (c .table-hits .ensures)) ∙ sym (may-be _ _ _ _ _ _ _ (c .before .if2 .taken)))
+
+returns-3 : tie.Need-returns-3
+unfolding space
+returns-3 c = rw (cell (c .before .before .before .before .before) ∙ c .before .before .before .occupied .given .1) (sym (may-not _ _ _ _ _ _ _ (c .before .if2 .left) (met (c .before .before .before .before .before .before) ∙ c .if3 .taken)))
+
+table-hits-requires-2 : tie.Need-table-hits-requires-2
+table-hits-requires-2 c κs = search needs
+
+returns-4 : tie.Need-returns-4
+unfolding space
+returns-4 c = rw (cell (c .before .before .before .before .before .before) ∙ c .before .before .before .before .enum-told .given .1)
+    (ap not (rw (c .before .offset .ensures, c .before .before .unit .ensures, point (c .before .before .before .before .before .before .before .before .before)) at (c .intersects2 .ensures)) ∙ sym (unknown-apart _ _ _ (met (c .before .before .before .before .before .before .before) ∙ c .before .before .before .if1 .left)))
+
+returns-5 : tie.Need-returns-5
+unfolding space
+returns-5 c = rw (cell (c .before .before .before .before .before .before) ∙ c .before .before .before .before .occupied .given .1) (ap not (rw (point (c .before .before .before .before .before .before .before .before .before)) at (c .table-hits2 .ensures)) ∙ sym (apart _ _ _ _ _ _ _ (c .before .before .if2 .left) (met (c .before .before .before .before .before .before .before) ∙ c .before .if3 .left)))
+
+pub cell-free-spec : {M : Type 1} → statement M
+cell-free-spec =
+    tie.close
+    (tie.spec
+    corner-of-requires
+    voxel-at-requires
+    intersects-requires
+    cell-at-requires
+    enum-told
+    returns
+    unit-requires
+    offset-requires
+    intersects-requires-2
+    enum-known-occupied
+    table-hits-requires
+    returns-2
+    returns-3
+    table-hits-requires-2
+    returns-4
+    returns-5)
