@@ -2,7 +2,7 @@
 ghost use mathlib.Core.Path.{_≡_};
 ghost use Prim.Native.Nat.{_+_, _*_, _<_, _≤_};
 ghost use lib.IntN.{_-ℤ_};
-ghost use Rattle.world.specs.Boxes.{meets, corner, plus, moved, cube};
+ghost use Rattle.world.specs.Boxes.{meets, corner, plus, minus, moved, cube, voxel, fromFeet, minZero, maxZero, lesser, larger, expandTowards};
 ghost use Rattle.world.specs.Space.{place, recordOf, cellAt, known, boxHere, ofParts};
 
 pub struct Point {
@@ -15,6 +15,25 @@ pub struct Point {
 pub struct Aabb {
     pub min: Point,
     pub max: Point,
+}
+
+// What walks: how wide and how high it is, and how high it steps.
+pub struct Body {
+    pub width: f64,
+    pub height: f64,
+    pub step_height: f64,
+}
+
+// What a search is asked: the two ends, how far it may look, how many points it may keep, and what a step may rise or fall. The budget is a
+// u64, so that no number of a caller is cut before it is judged.
+pub struct Request {
+    pub start: Point,
+    pub goal: Point,
+    pub max_range: f64,
+    pub node_budget: u64,
+    pub step_height: f64,
+    pub jump_height: f64,
+    pub max_drop: f64,
 }
 
 // Where the cell table lies: its least cell, and how many cells it has each way.
@@ -77,6 +96,16 @@ pub fn sum(p: Point, q: Point) -> Point
     }
 }
 
+pub fn difference(p: Point, q: Point) -> Point
+    ensures { λ r. ⌜ r ≡ minus p q ⌝ }
+{
+    Point {
+        x: p.x - q.x,
+        y: p.y - q.y,
+        z: p.z - q.z,
+    }
+}
+
 // A box moved by a point.
 pub fn offset(b: Aabb, by: Point) -> Aabb
     ensures { λ r. ⌜ r ≡ moved b by ⌝ }
@@ -101,6 +130,86 @@ pub fn unit() -> Aabb
             y: 1.0,
             z: 1.0,
         },
+    }
+}
+
+// A cell's own cube, of its least corner.
+pub fn voxel_at(p: Point) -> Aabb
+    ensures { λ r. ⌜ r ≡ voxel p ⌝ }
+{
+    Aabb {
+        min: p,
+        max: sum(
+            p,
+            Point {
+                x: 1.0,
+                y: 1.0,
+                z: 1.0,
+            },
+        ),
+    }
+}
+
+// The box of a body that stands with its feet at a point.
+pub fn from_feet(feet: Point, width: f64, height: f64) -> Aabb
+    ensures { λ r. ⌜ r ≡ fromFeet feet width height ⌝ }
+{
+    let half = width / 2.0;
+    Aabb {
+        min: Point {
+            x: feet.x - half,
+            y: feet.y,
+            z: feet.z - half,
+        },
+        max: Point {
+            x: feet.x + half,
+            y: feet.y + height,
+            z: feet.z + half,
+        },
+    }
+}
+
+// The smaller of a number and 0, and the larger.
+fn less_or_zero(d: f64) -> f64
+    ensures { λ r. ⌜ r ≡ lesser d ⌝ }
+{
+    if d < 0.0 { d } else { 0.0 }
+}
+
+fn more_or_zero(d: f64) -> f64
+    ensures { λ r. ⌜ r ≡ larger d ⌝ }
+{
+    if 0.0 < d { d } else { 0.0 }
+}
+
+// The same of a point, axis by axis.
+fn min_zero(d: Point) -> Point
+    ensures { λ r. ⌜ r ≡ minZero d ⌝ }
+{
+    Point {
+        x: less_or_zero(d.x),
+        y: less_or_zero(d.y),
+        z: less_or_zero(d.z),
+    }
+}
+
+fn max_zero(d: Point) -> Point
+    ensures { λ r. ⌜ r ≡ maxZero d ⌝ }
+{
+    Point {
+        x: more_or_zero(d.x),
+        y: more_or_zero(d.y),
+        z: more_or_zero(d.z),
+    }
+}
+
+// A box grown on the sides that a difference points to.
+pub fn expand_towards(b: Aabb, delta: Point) -> Aabb
+    ensures { λ r. ⌜ r ≡ expandTowards b delta ⌝ }
+{
+    Aabb {
+        min: sum(b.min, min_zero(delta)),
+        max: sum(b.max, max_zero(delta)),
     }
 }
 
