@@ -6,8 +6,8 @@ use lib.Ieee.{Float, binary64, lt, le, add, sub, neg, ofBits}
 use Rattle.floats.specs.Floats.{E, nought, smaller, larger, absolute}
 use Rattle.world.specs.declared.Point.{Point}
 use Rattle.world.specs.declared.Aabb.{Aabb}
-use Rattle.world.specs.declared.request.Body.{Body}
-use Rattle.world.specs.declared.request.Request.{Request}
+use Rattle.world.specs.declared.Body.{Body}
+use Rattle.world.specs.declared.Request.{Request}
 use Rattle.world.specs.Boxes.{fromFeet, expandTowards, minus}
 use Rattle.world.specs.Space.{Space}
 use Rattle.clear.specs.Clear.{clear}
@@ -31,7 +31,7 @@ near most a b = le (absolute (sub binary64 a b)) most
 
 unfoldable pub inRange : Request → Point → Bool
 inRange r p =
-    let most = add binary64 (r .max_range) E in
+    let most = add binary64 (r .«max_range») E in
     near most (p .x) (r .start .x) && near most (p .y) (r .start .y) && near most (p .z) (r .start .z)
 
 -- a body may stand at a point: its box is clear there, and what is under its feet supports it
@@ -40,7 +40,7 @@ standable sp body p = clear sp (fromFeet p (body .width) (body .height)) && supp
 
 -- "step = the smaller step height"
 unfoldable pub stepHeight : Request → Body → Float
-stepHeight r body = smaller (r .step_height) (body .step_height)
+stepHeight r body = smaller (r .«step_height») (body .«step_height»)
 
 -- a kind of movement and its lift
 abbrev pub Moving : Type 0
@@ -50,11 +50,11 @@ Moving = Movement × Float
 unfoldable pub rising : Request → Body → Float → Option Moving
 rising r body dy =
     cond (le dy (add binary64 (stepHeight r body) E)) (some (Step, dy))
-    (cond (le dy (add binary64 (r .jump_height) E)) (some (Jump, r .jump_height)) none)
+    (cond (le dy (add binary64 (r .«jump_height») E)) (some (Jump, r .«jump_height»)) none)
 
 -- "Fall beyond E: Drop, lift 0, if at most max_drop + E, else none."
 unfoldable pub falling : Request → Float → Option Moving
-falling r dy = cond (le (neg dy) (add binary64 (r .max_drop) E)) (some (Drop, nought)) none
+falling r dy = cond (le (neg dy) (add binary64 (r .«max_drop») E)) (some (Drop, nought)) none
 
 -- "Otherwise Walk, lift the larger of dy and 0."
 unfoldable pub moving : Request → Body → Float → Option Moving
