@@ -1,3 +1,4 @@
 pub mod Floats
 pub mod Patterns
 pub mod Laws
+pub mod Order
