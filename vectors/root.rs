@@ -25,10 +25,10 @@ impl Tally {
         self.add(if refused { 9 } else { x.sqrt().to_bits() });
     }
 
-    // The same of a number and of as many beside it on each side.
-    fn beside(&mut self, pattern: u64, places: u64) {
-        for k in 0..=2 * places {
-            self.root(pattern.wrapping_sub(places).wrapping_add(k));
+    // The same of n numbers in a row, the one with this pattern in their middle.
+    fn beside(&mut self, pattern: u64, n: u64) {
+        for k in 0..n {
+            self.root(pattern.wrapping_sub(n / 2).wrapping_add(k));
         }
     }
 }
@@ -77,11 +77,11 @@ fn main() {
     group("subnormals", 20000, |t, i, w| t.root(w % LEAD >> (i % 52)));
     group("squares", 10000, |t, _, w| {
         let r = (w % (1 << 26) + 1) as f64;
-        t.beside(moved((r * r).to_bits(), w), 1);
+        t.beside(moved((r * r).to_bits(), w), 3);
     });
     group("midpoints", 8000, |t, _, w| {
         let r = f64::from_bits(ONE + w % LEAD);
-        t.beside(moved((r * r + r * f64::EPSILON).to_bits(), w), 2);
+        t.beside(moved((r * r + r * f64::EPSILON).to_bits(), w), 5);
     });
     group("patterns", 40000, |t, _, w| t.root(w));
     group("distances", 20000, |t, i, w| {

@@ -72,10 +72,7 @@ fn subnormal(t: Tally, i: u64, w: u64) -> Tally {
 // The square of a whole number, times a power of 4, and the two f64 beside it.
 fn square(t: Tally, w: u64) -> Tally {
     let r = nearest_u64_to_f64(w % 0x400_0000 + 1);
-    let pattern = moved(floats::bits_of(r * r), w);
-    let below = with_root(t, wrapping_sub_u64(pattern, 1));
-    let at = with_root(below, pattern);
-    with_root(at, wrapping_add_u64(pattern, 1))
+    beside(t, moved(floats::bits_of(r * r), w), 3)
 }
 
 // Five f64 around the square of a point half way between two f64, times a power of 4. The square of
@@ -83,12 +80,22 @@ fn square(t: Tally, w: u64) -> Tally {
 // it, so that of the five some are below it and some above.
 fn midpoint(t: Tally, w: u64) -> Tally {
     let r = floats::float_of(ONE + w % LEAD);
-    let middle = moved(floats::bits_of(r * r + r * 2.220446049250313e-16), w);
-    let a = with_root(t, wrapping_sub_u64(middle, 2));
-    let b = with_root(a, wrapping_sub_u64(middle, 1));
-    let c = with_root(b, middle);
-    let d = with_root(c, wrapping_add_u64(middle, 1));
-    with_root(d, wrapping_add_u64(middle, 2))
+    beside(
+        t,
+        moved(floats::bits_of(r * r + r * 2.220446049250313e-16), w),
+        5,
+    )
+}
+
+// The roots of n f64 in a row, the one with this pattern in their middle.
+fn beside(t: Tally, pattern: u64, n: u64) -> Tally {
+    let mut all = t;
+    let mut at = wrapping_sub_u64(pattern, n / 2);
+    for _ in 0..n {
+        all = with_root(all, at);
+        at = wrapping_add_u64(at, 1);
+    }
+    all
 }
 
 // The pattern with an even number from -512 to 510 added to its exponent.
