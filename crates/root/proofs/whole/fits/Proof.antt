@@ -1,7 +1,7 @@
 -- `root::whole::fits` meets its contract, by the two words of r squared (`Halves`). Assumes nothing.
 use borrow.Author.Needs.{needs}
 use native.Mathlib.Omega.{arith}
-use Rattle.root.proofs.Halves.{small, at-equal, at-other}
+use Rattle.root.proofs.Halves.{small, compared}
 use Rattle.root.proofs.whole.fits.Statement.{statement}
 use Rattle.root.proofs.whole.fits.Tie as tie
 
@@ -30,10 +30,7 @@ add-left : tie.Need-add-left
 add-left c = omega (arith, small (c .args .r) (c .pre))
 
 returns : tie.Need-returns
-returns c = at-equal (c .before .args .r) (c .before .pre) (c .before .args .m) (c .if1 .taken)
-
-returns-2 : tie.Need-returns-2
-returns-2 c = at-other (c .before .args .r) (c .before .pre) (c .before .args .m) (c .if1 .left)
+returns c = compared (c .args .r) (c .pre) (c .args .m)
 
 pub fits-spec : {M : Type 1} → statement M
-fits-spec = tie.close (tie.spec mul-bb mul-ab mul-middle add-middle mul-right add-right mul-left add-left returns returns-2)
+fits-spec = tie.close (tie.spec mul-bb mul-ab mul-middle add-middle mul-right add-right mul-left add-left returns)
