@@ -18,6 +18,11 @@ impl Tally {
         self.digest = stirred(self.digest.wrapping_add(answer ^ 0x9e37_79b9_7f4a_7c15));
     }
 
+    // A number or NaN: every NaN has one pattern here.
+    fn number(&mut self, x: f64) {
+        self.add(if x.is_nan() { NAN } else { x.to_bits() });
+    }
+
     // What `root` answers of the number with this pattern: 9 where it refuses.
     fn root(&mut self, pattern: u64) {
         let x = f64::from_bits(pattern);
@@ -73,7 +78,7 @@ fn group(name: &str, n: u64, answered: impl Fn(&mut Tally, u64, u64)) {
 }
 
 fn main() {
-    group("exponents", 32768, |t, i, w| t.root(i / 16 * LEAD | significand(i % 16, w)));
+    group("exponents", 65536, |t, i, w| t.root(i / 16 * LEAD | significand(i % 16, w)));
     group("subnormals", 20000, |t, i, w| t.root(w % LEAD >> (i % 52)));
     group("squares", 10000, |t, _, w| {
         let r = (w % (1 << 26) + 1) as f64;
@@ -84,9 +89,11 @@ fn main() {
         t.beside(moved((r * r + r * f64::EPSILON).to_bits(), w), 5);
     });
     group("patterns", 40000, |t, _, w| t.root(w));
+    group("square_roots", 8192, |t, i, w| {
+        t.number(f64::from_bits((i % 4096) * LEAD | w % LEAD >> (i % 52)).sqrt());
+    });
     group("distances", 20000, |t, i, w| {
         let [x, y, z] = [w, stirred(w), stirred(stirred(w))].map(|w| difference(i, w));
-        let d = (x * x + y * y + z * z).sqrt();
-        t.add(if d.is_nan() { NAN } else { d.to_bits() });
+        t.number((x * x + y * y + z * z).sqrt());
     });
 }

@@ -17,6 +17,6 @@ squareRoot (inf false) = inf false
 squareRoot (inf true) = nan
 squareRoot (fin s m e) = orNan (answer (fin s m e))
 
--- How far apart two points are whose coordinates differ by x, y and z. Each of the six operations rounds once. Where a difference is an infinity or NaN, or the sum too large for a number, so is the answer.
+-- How far apart two points are whose coordinates differ by x, y and z. Each of the six operations rounds once. It is NaN where a difference is NaN, and else the infinity where one is infinite or the sum too large.
 unfoldable pub distance : Float → Float → Float → Float
 distance x y z = squareRoot (add binary64 (add binary64 (mul binary64 x x) (mul binary64 y y)) (mul binary64 z z))

@@ -20,6 +20,7 @@ pub(crate) enum Group {
     Squares,
     Midpoints,
     Patterns,
+    SquareRoots,
     Distances,
 }
 
@@ -30,6 +31,7 @@ pub(crate) fn answered(g: Group, t: Tally, i: u64, w: u64) -> Tally {
         Group::Squares => square(t, w),
         Group::Midpoints => midpoint(t, w),
         Group::Patterns => with_root(t, w),
+        Group::SquareRoots => square_root(t, i, w),
         Group::Distances => distance(t, i, w),
     }
 }
@@ -43,10 +45,10 @@ fn with_root(t: Tally, pattern: u64) -> Tally {
     }
 }
 
-// Every exponent in turn, that of the subnormals, and of the infinity and NaN, too: 16 significands
-// each.
+// Every sign and exponent in turn, those of the subnormals, the infinities and NaN too: 16
+// significands each.
 fn exponent(t: Tally, i: u64, w: u64) -> Tally {
-    with_root(t, (i / 16 % 2048) * LEAD | significand(i % 16, w))
+    with_root(t, (i / 16 % 4096) * LEAD | significand(i % 16, w))
 }
 
 // Eight at the ends of a binade and around its middle, and any others.
@@ -101,6 +103,12 @@ fn beside(t: Tally, pattern: u64, n: u64) -> Tally {
 // The pattern with an even number from -512 to 510 added to its exponent.
 fn moved(pattern: u64, w: u64) -> u64 {
     wrapping_add_u64(wrapping_sub_u64(pattern, 512 * LEAD), (w >> 55) * 2 * LEAD)
+}
+
+// The square root that answers every number, of any number.
+fn square_root(t: Tally, i: u64, w: u64) -> Tally {
+    let r = root::square_root(floats::float_of((i % 4096) * LEAD | w % LEAD >> (i % 52)));
+    tally::with(t, floats::bits_of(r))
 }
 
 // The distance for three differences, from this word and the next two.

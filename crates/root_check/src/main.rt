@@ -1,4 +1,4 @@
-// Works out the roots of some 160,000 numbers and 20,000 distances, group by group, and prints for
+// Works out the roots of some 200,000 numbers and 20,000 distances, group by group, and prints for
 // each group its name, how many answers it has and their digest. What it must print was made with
 // Rust's own `sqrt` (vectors/README.md), of the same numbers made by the same rules.
 mod groups;
@@ -29,10 +29,11 @@ fn line(name: &[u8], t: Tally) {
 }
 
 fn main() {
-    line(b"exponents", run(Group::Exponents, 32768));
+    line(b"exponents", run(Group::Exponents, 65536));
     line(b"subnormals", run(Group::Subnormals, 20000));
     line(b"squares", run(Group::Squares, 10000));
     line(b"midpoints", run(Group::Midpoints, 8000));
     line(b"patterns", run(Group::Patterns, 40000));
+    line(b"square_roots", run(Group::SquareRoots, 8192));
     line(b"distances", run(Group::Distances, 20000));
 }
