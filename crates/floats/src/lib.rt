@@ -1,6 +1,18 @@
-// Floats and their bit patterns, total: NaN included (01, Numbers).
+// Floats (01, Numbers): bit patterns, the smaller, the larger, the size, the canonical zero, E. Every function is total, NaN included.
 ghost use mathlib.Core.Path.{_≡_};
 ghost use lib.Ieee.{binary64, ofBits, toBits};
+ghost use lib.Ieee.Scale.{finite};
+ghost use Rattle.floats.specs.Floats.{E, smaller, larger, absolute, canonical, same};
+
+// 01: "E is 1.0e-7 as f64".
+pub const E: f64 = 1.0e-7;
+
+// E by a call, for a program that compares its bits.
+pub fn epsilon() -> f64
+    ensures { λ r. ⌜ r ≡ E ⌝ }
+{
+    E
+}
 
 // The float of a bit pattern: every NaN pattern is the one NaN.
 pub fn float_of(n: u64) -> f64
@@ -22,4 +34,47 @@ pub fn bits_of(x: f64) -> u64
     } else {
         f64::to_bits(x)
     }
+}
+
+// The smaller of two: the second one where they are equal, and where one is a NaN.
+pub fn min(a: f64, b: f64) -> f64
+    ensures { λ r. ⌜ r ≡ smaller a b ⌝ }
+{
+    if a < b { a } else { b }
+}
+
+// The larger of two: the second one where they are equal, and where one is a NaN.
+pub fn max(a: f64, b: f64) -> f64
+    ensures { λ r. ⌜ r ≡ larger a b ⌝ }
+{
+    if b < a { a } else { b }
+}
+
+// The size of a number. A zero and a NaN stay as they are.
+pub fn abs(x: f64) -> f64
+    ensures { λ r. ⌜ r ≡ absolute x ⌝ }
+{
+    if x < 0.0 { -x } else { x }
+}
+
+// -0.0 as 0.0, and every other float itself.
+pub fn canonical(x: f64) -> f64
+    ensures { λ r. ⌜ r ≡ canonical x ⌝ }
+{
+    if x == 0.0 { 0.0 } else { x }
+}
+
+// Whether two coordinates are the same: equal bits, with -0.0 as 0.
+pub fn same(a: f64, b: f64) -> bool
+    ensures { λ r. ⌜ r ≡ same a b ⌝ }
+{
+    bits_of(canonical(a)) == bits_of(canonical(b))
+}
+
+// Whether a float is a number: neither an infinity nor a NaN.
+pub fn finite(x: f64) -> bool
+    ensures { λ r. ⌜ r ≡ finite x ⌝ }
+{
+    let top = 1.0 / 0.0;
+    (x < top) & (-top < x)
 }
