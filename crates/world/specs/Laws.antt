@@ -22,7 +22,9 @@ use Rattle.world.specs.declared.Cell.{Cell}
 use Rattle.world.specs.declared.Cell.the-variants.{Unknown, Known}
 use Rattle.world.specs.declared.Found.{Found}
 use Rattle.world.specs.declared.Found.the-variants.{Here, End}
-use Rattle.world.specs.Space.{place, recordOf, hasRecord, ofParts, known, cellIn, cellAt, boxAt, boxHere}
+use Rattle.world.specs.declared.Entry.{Entry}
+use Rattle.world.specs.declared.Entry.the-variants.{Of, Missing}
+use Rattle.world.specs.Space.{place, entryAt, ofParts, known, knownBy, boxAt, boxHere}
 
 -- ---- `place`, by the parts of a number
 
@@ -88,6 +90,17 @@ inside (pos k) n d e = go (ltb k n) refl (leb n 256) refl e
     go false p false q r = absurd (let z : _≡_ {A = ℕ} 0 1 = cc in omega arith)
 inside (negsuc k) n d e = absurd (let z : _≡_ {A = ℕ} 0 1 = cc in omega arith)
 
+-- ---- a record of 8 bytes, by the test on its table
+
+module _ (s : List ℕ) (i : ℕ) where
+  pub no-entry : length s / 8 ≤ i → entryAt s i ≡ Missing
+  unfolding entryAt
+  no-entry h = rw (le-ltb i (length s / 8) h)
+
+  pub an-entry : i < length s / 8 → entryAt s i ≡ Of (field 4 s (8 * i)) (field 4 s (8 * i + 4))
+  unfolding entryAt
+  an-entry h = rw (lt-ltb i (length s / 8) h)
+
 -- ---- a cell, by the tests on the tables
 
 module _ (perms shapes : List ℕ) (state shape : ℕ) where
@@ -95,24 +108,10 @@ module _ (perms shapes : List ℕ) (state shape : ℕ) where
   unfolding known
   no-state h = rw (le-ltb state (length perms) h)
 
-  pub no-shape : state < length perms → length shapes / 8 ≤ shape → known perms shapes state shape ≡ Unknown
+  pub by-shape : state < length perms →
+      known perms shapes state shape ≡ knownBy (entryAt shapes shape) (λ first count. ofParts (getD perms state 0) first count)
   unfolding known
-  no-shape h k = rw (lt-ltb state (length perms) h, le-ltb shape (length shapes / 8) k)
-
-  pub both-known : state < length perms → shape < length shapes / 8 →
-      known perms shapes state shape ≡ ofParts (getD perms state 0) (field 4 shapes (8 * shape)) (field 4 shapes (8 * shape + 4))
-  unfolding known
-  both-known h k = rw (lt-ltb state (length perms) h, lt-ltb shape (length shapes / 8) k)
-
-module _ (cells perms shapes : List ℕ) (i : ℕ) where
-  pub no-record : length cells / 8 ≤ i → cellIn cells perms shapes (At i) ≡ Unknown
-  unfolding cellIn
-  no-record h = rw (le-ltb i (length cells / 8) h)
-
-  pub in-record : i < length cells / 8 →
-      cellIn cells perms shapes (At i) ≡ known perms shapes (field 4 cells (8 * i)) (field 4 cells (8 * i + 4))
-  unfolding cellIn
-  in-record h = rw (lt-ltb i (length cells / 8) h)
+  by-shape h = rw (lt-ltb state (length perms) h)
 
 -- ---- a box record, where there is one
 
