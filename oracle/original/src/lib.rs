@@ -1,0 +1,1 @@
+//! The original, unchanged, over stand-ins (to be written).
