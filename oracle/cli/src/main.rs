@@ -1,7 +1,72 @@
-fn main() {
-    let text = std::fs::read_to_string(std::env::args().nth(1).unwrap()).unwrap();
-    let bytes = scene::from_text(&text).unwrap();
-    print!("{}", scene::to_text(&bytes));
-    println!("{:?}", scene::read(&bytes).unwrap().request);
-    assert_eq!(scene::from_text(&scene::to_text(&bytes)).unwrap(), bytes);
+//! The oracle: what walkprint must answer. oracle/README.md describes each
+//! command.
+
+use std::io::{Read, Write};
+use std::process::ExitCode;
+
+const USAGE: &str = "\
+oracle print < SCENE
+oracle nodes < SCENE
+oracle scene FILE
+oracle text < SCENE
+";
+
+fn main() -> ExitCode {
+    let arguments: Vec<String> = std::env::args().skip(1).collect();
+    match run(&arguments) {
+        Ok(true) => ExitCode::SUCCESS,
+        Ok(false) => ExitCode::FAILURE,
+        Err(error) => {
+            eprintln!("{error}");
+            ExitCode::from(2)
+        }
+    }
+}
+
+/// False if a check failed; an error if the command could not be run.
+fn run(arguments: &[String]) -> Result<bool, String> {
+    let words: Vec<&str> = arguments.iter().map(String::as_str).collect();
+    match words[..] {
+        ["print"] => put(scene::print_verdict(&original::verdict(&input()?)).as_bytes()),
+        ["nodes"] => nodes(),
+        ["scene", file] => put(&scene_file(file)?),
+        ["text"] => put(scene::to_text(&input()?).as_bytes()),
+        ["mutants", ..] => Ok(mutants::run(&arguments[1..])),
+        _ => Err(USAGE.to_string()),
+    }
+}
+
+fn input() -> Result<Vec<u8>, String> {
+    let mut bytes = Vec::new();
+    std::io::stdin()
+        .read_to_end(&mut bytes)
+        .map_err(|error| error.to_string())?;
+    Ok(bytes)
+}
+
+fn put(bytes: &[u8]) -> Result<bool, String> {
+    std::io::stdout()
+        .write_all(bytes)
+        .map_err(|error| error.to_string())?;
+    Ok(true)
+}
+
+/// The bytes of a scene in text form.
+fn scene_file(file: &str) -> Result<Vec<u8>, String> {
+    let text = std::fs::read_to_string(file).map_err(|error| format!("{file}: {error}"))?;
+    scene::from_text(&text).map_err(|error| format!("{file}: {error}"))
+}
+
+/// The retained nodes in 01's records, in hex, one a line.
+fn nodes() -> Result<bool, String> {
+    let mut out = String::new();
+    if let Ok(answer) = original::verdict(&input()?) {
+        for node in &answer.nodes {
+            for byte in node.bytes() {
+                out.push_str(&format!("{byte:02x}"));
+            }
+            out.push('\n');
+        }
+    }
+    put(out.as_bytes())
 }
