@@ -9,6 +9,7 @@ oracle print < SCENE
 oracle nodes < SCENE
 oracle scene FILE
 oracle text < SCENE
+oracle make SEED KIND
 ";
 
 fn main() -> ExitCode {
@@ -31,6 +32,7 @@ fn run(arguments: &[String]) -> Result<bool, String> {
         ["nodes"] => nodes(),
         ["scene", file] => put(&scene_file(file)?),
         ["text"] => put(scene::to_text(&input()?).as_bytes()),
+        ["make", seed, kind] => make(seed, kind),
         ["mutants", ..] => Ok(mutants::run(&arguments[1..])),
         _ => Err(USAGE.to_string()),
     }
@@ -55,6 +57,14 @@ fn put(bytes: &[u8]) -> Result<bool, String> {
 fn scene_file(file: &str) -> Result<Vec<u8>, String> {
     let text = std::fs::read_to_string(file).map_err(|error| format!("{file}: {error}"))?;
     scene::from_text(&text).map_err(|error| format!("{file}: {error}"))
+}
+
+/// The scene of a seed and a kind.
+fn make(seed: &str, kind: &str) -> Result<bool, String> {
+    let seed = seed.parse().map_err(|_| format!("{seed} is no seed"))?;
+    let bytes = scene::make(seed, kind)
+        .ok_or_else(|| format!("kinds: mixed {}", scene::KINDS.join(" ")))?;
+    put(&bytes)
 }
 
 /// The retained nodes in 01's records, in hex, one a line.
