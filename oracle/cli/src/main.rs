@@ -1,6 +1,9 @@
 //! The oracle: what walkprint must answer. oracle/README.md describes each
 //! command.
 
+mod stats;
+mod trace;
+
 use std::io::{Read, Write};
 use std::process::ExitCode;
 
@@ -10,6 +13,7 @@ oracle nodes < SCENE
 oracle scene FILE
 oracle text < SCENE
 oracle make SEED KIND
+oracle stats KIND N
 ";
 
 fn main() -> ExitCode {
@@ -33,6 +37,7 @@ fn run(arguments: &[String]) -> Result<bool, String> {
         ["scene", file] => put(&scene_file(file)?),
         ["text"] => put(scene::to_text(&input()?).as_bytes()),
         ["make", seed, kind] => make(seed, kind),
+        ["stats", kind, count] => stats(kind, count),
         ["mutants", ..] => Ok(mutants::run(&arguments[1..])),
         _ => Err(USAGE.to_string()),
     }
@@ -61,10 +66,31 @@ fn scene_file(file: &str) -> Result<Vec<u8>, String> {
 
 /// The scene of a seed and a kind.
 fn make(seed: &str, kind: &str) -> Result<bool, String> {
-    let seed = seed.parse().map_err(|_| format!("{seed} is no seed"))?;
-    let bytes = scene::make(seed, kind)
-        .ok_or_else(|| format!("kinds: mixed {}", scene::KINDS.join(" ")))?;
-    put(&bytes)
+    put(&scene::make(number(seed)?, kind).ok_or_else(kinds_known)?)
+}
+
+/// The shares of a kind, or of each and of all mixed.
+fn stats(kind: &str, count: &str) -> Result<bool, String> {
+    let count = number(count)?;
+    let kinds = match kind {
+        "all" => [&scene::KINDS[..], &["mixed"]].concat(),
+        kind => vec![kind],
+    };
+    for kind in kinds {
+        put(stats::stats(kind, count)
+            .ok_or_else(kinds_known)?
+            .as_bytes())?;
+    }
+    Ok(true)
+}
+
+fn kinds_known() -> String {
+    format!("kinds: mixed {}", scene::KINDS.join(" "))
+}
+
+fn number(word: &str) -> Result<u64, String> {
+    word.parse()
+        .map_err(|_| format!("{word} is no whole number"))
 }
 
 /// The retained nodes in 01's records, in hex, one a line.

@@ -72,9 +72,9 @@ impl Draft {
                 random.from_to(6, 20) as usize,
             ],
             _ => [
-                random.from_to(3, 12) as usize,
+                random.from_to(3, 14) as usize,
                 random.from_to(4, 7) as usize,
-                random.from_to(3, 10) as usize,
+                random.from_to(4, 12) as usize,
             ],
         };
         let mut draft = Self {
@@ -155,16 +155,34 @@ impl Draft {
         let wall = match self.kind {
             "mazes" => {
                 let post = x % 2 == 1 && z % 2 == 1;
-                post || ((x % 2 == 1) != (z % 2 == 1) && self.random.once_in(2))
+                post || ((x % 2 == 1) != (z % 2 == 1) && self.random.once_in(3))
             }
             "open" => self.random.once_in(rough + 4),
-            "levels" | "far" => return self.random.below(3) as usize,
+            "levels" | "far" => return self.slope(x, z),
             _ => self.random.once_in(2 * rough),
         };
         if wall {
             self.random.from_to(1, 2) as usize
         } else {
             0
+        }
+    }
+
+    /// Ground that mostly goes on as high as in the column before.
+    fn slope(&mut self, x: usize, z: usize) -> usize {
+        let neighbour = match (x, z) {
+            (0, 0) => return self.random.below(3) as usize,
+            (0, _) => (0, z - 1),
+            _ => (x - 1, z),
+        };
+        let height = self.sizes[1];
+        let ground = |y: usize| self.cells[self.at(neighbour.0, y, neighbour.1)] == (GROUND, 1);
+        let level = (0..height).take_while(|&y| ground(y)).count().max(1) - 1;
+        match self.random.below(10) {
+            0 => level + 1,
+            1 => level.saturating_sub(1),
+            2 => self.random.below(3) as usize,
+            _ => level,
         }
     }
 
@@ -211,7 +229,8 @@ impl Draft {
             let permission = self.permissions.get(state as usize);
             if permission.is_some_and(|byte| byte & 4 != 0) {
                 let boxes = self.shapes.get(shape as usize).into_iter().flatten();
-                tops.extend(boxes.map(|numbers| y as f64 + numbers[4]));
+                let floor = f64::from(self.origin[1] + y as i32);
+                tops.extend(boxes.map(|numbers| numbers[4] + floor));
             }
         }
         tops
@@ -221,7 +240,7 @@ impl Draft {
     fn roomy(&self, x: usize, top: f64, z: usize) -> bool {
         let [width, height, depth] = self.sizes;
         let edge = x == 0 || z == 0 || x + 1 == width || z + 1 == depth;
-        let low = top.ceil() as usize;
+        let low = (top - f64::from(self.origin[1])).ceil() as usize;
         let free = |y: usize| y < height && self.cells[self.at(x, y, z)] == (AIR, 0);
         !edge && free(low) && (free(low + 1) || self.kind == "bodies")
     }
@@ -229,7 +248,7 @@ impl Draft {
     /// A top and its column, mostly with room above it.
     fn place(&mut self) -> (usize, f64, usize) {
         let careless = self.random.once_in(12);
-        let mut place = (0, 1.0, 0);
+        let mut place = (0, f64::from(self.origin[1] + 1), 0);
         for _ in 0..40 {
             let x = self.random.below(self.sizes[0] as u64) as usize;
             let z = self.random.below(self.sizes[2] as u64) as usize;
@@ -249,7 +268,6 @@ impl Draft {
     /// A point on a top of a column, perhaps off its centre.
     fn point(&mut self) -> [f64; 3] {
         let (x, top, z) = self.place();
-        let top = f64::from(self.origin[1]) + top;
         let offset = |random: &mut Random| match random.below(8) {
             0 | 1 => random.one_of(&[0.0, 0.25, 0.3125, 0.75, 0.5 + E, 0.5 - E]),
             2 => random.part(),
@@ -276,12 +294,25 @@ impl Draft {
         point
     }
 
+    /// A point of the start's row, mostly.
+    fn in_line(&mut self, start: [f64; 3]) -> [f64; 3] {
+        let mut point = self.point();
+        for _ in 0..20 {
+            if point[2] == start[2] {
+                break;
+            }
+            point = self.point();
+        }
+        point
+    }
+
     fn request(&mut self) -> Record {
         let start = self.point();
-        let goal = if self.random.once_in(20) {
-            start
-        } else {
-            self.point()
+        let goal = match self.random.below(20) {
+            0 => start,
+            // In line with the start, so that estimates tie.
+            1..=5 => self.in_line(start),
+            _ => self.point(),
         };
         let random = &mut self.random;
         let mut max_range = match random.below(6) {
@@ -299,7 +330,7 @@ impl Draft {
         let budget = match self.kind {
             "budgets" => random.below(24),
             "mazes" | "open" => random.one_of(&[20, 64, 128, 256, 512]),
-            _ if random.once_in(5) => random.below(60),
+            _ if random.once_in(4) => random.below(40),
             _ => 512,
         };
         let mut record = Record::Request {
@@ -349,7 +380,7 @@ impl Draft {
         }
         let mut numbers = [
             random.one_of(&steps),
-            random.one_of(&[0.0, 0.0, 1.0, 1.25, 1.252203352512, 2.0, 0.5]),
+            random.one_of(&[0.0, 1.0, 1.25, 1.252203352512, 2.0, 0.5]),
             random.one_of(&[3.0, 3.0, 1.0, 0.5, 0.0, 8.0]),
             width,
             height,
