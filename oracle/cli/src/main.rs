@@ -1,7 +1,13 @@
 //! The oracle: what walkprint must answer. oracle/README.md describes each
 //! command.
 
+mod bench;
+mod digest;
+mod geometry;
+mod policy;
+mod selftest;
 mod stats;
+mod store;
 mod trace;
 
 use std::io::{Read, Write};
@@ -14,6 +20,13 @@ oracle scene FILE
 oracle text < SCENE
 oracle make SEED KIND
 oracle stats KIND N
+oracle policy
+oracle policy bytes
+oracle geometry < SCENE
+oracle bench SCENE N
+oracle mutants ...
+oracle store FOLDER
+oracle selftest FOLDER
 ";
 
 fn main() -> ExitCode {
@@ -38,6 +51,12 @@ fn run(arguments: &[String]) -> Result<bool, String> {
         ["text"] => put(scene::to_text(&input()?).as_bytes()),
         ["make", seed, kind] => make(seed, kind),
         ["stats", kind, count] => stats(kind, count),
+        ["policy"] => put(policy::text().as_bytes()),
+        ["policy", "bytes"] => put(&policy::bytes()),
+        ["geometry"] => geometry(),
+        ["bench", file, runs] => bench(file, runs),
+        ["store", folder] => put(store::store(folder)?.as_bytes()),
+        ["selftest", folder] => selftest::selftest(folder),
         ["mutants", ..] => Ok(mutants::run(&arguments[1..])),
         _ => Err(USAGE.to_string()),
     }
@@ -91,6 +110,36 @@ fn kinds_known() -> String {
 fn number(word: &str) -> Result<u64, String> {
     word.parse()
         .map_err(|_| format!("{word} is no whole number"))
+}
+
+/// The original's checks on chosen points of a scene.
+fn geometry() -> Result<bool, String> {
+    let bytes = input()?;
+    let scene = scene::read(&bytes).map_err(|bad| format!("record {} is bad", bad.record))?;
+    if !original::valid_request(&scene) || scene::too_large(&scene.request, &scene.body) {
+        return Err("the request is invalid or too large".to_string());
+    }
+    let mut out = String::new();
+    for question in geometry::questions(&scene) {
+        out.push_str(&question.line());
+        out.push('\n');
+    }
+    put(out.as_bytes())
+}
+
+/// The time of the original on a large world by its name, or on a scene, in
+/// text form if its name ends so.
+fn bench(file: &str, runs: &str) -> Result<bool, String> {
+    if let Some(scene) = scene::large(file) {
+        return put(bench::line(file, &scene, number(runs)?).as_bytes());
+    }
+    let bytes = if file.ends_with(".txt") {
+        scene_file(file)?
+    } else {
+        std::fs::read(file).map_err(|error| format!("{file}: {error}"))?
+    };
+    let scene = scene::read(&bytes).map_err(|bad| format!("record {} is bad", bad.record))?;
+    put(bench::line(file, &scene, number(runs)?).as_bytes())
 }
 
 /// The retained nodes in 01's records, in hex, one a line.

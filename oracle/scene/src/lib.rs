@@ -3,6 +3,7 @@
 //!
 //! Written from document 01 alone; nothing here knows the original.
 
+mod large;
 mod make;
 mod print;
 mod random;
@@ -10,6 +11,7 @@ mod read;
 mod text;
 mod world;
 
+pub use large::{LARGE, large};
 pub use make::{KINDS, make};
 pub use print::{name, print, print_refusal, print_verdict};
 pub use random::Random;

@@ -105,7 +105,7 @@ impl Draft {
                 vec![[0.0, -1.0, 0.0, 1.0, -0.0, 1.0]],
                 vec![[0.0, 0.0, 0.0, 1.0, 0.0, 1.0]],
             ],
-            _ => [slabs(), stairs(), fences(), doors()].concat(),
+            _ => random.one_of(&[slabs, stairs, fences, doors])(),
         };
         if random.once_in(4) {
             shapes.push((0..random.from_to(1, 4)).map(|_| any_box(random)).collect());
