@@ -5,6 +5,7 @@ mod bench;
 mod digest;
 mod geometry;
 mod policy;
+mod reader;
 mod selftest;
 mod stats;
 mod store;

@@ -90,47 +90,49 @@ pub fn jump_records() -> Vec<u8> {
     out
 }
 
+const POWERS: [f32; 15] = [
+    0.42,
+    0.5,
+    1.0,
+    0.0,
+    -0.0,
+    -1.0,
+    0.42_f32.next_up(),
+    f32::MIN_POSITIVE,
+    f32::from_bits(1),
+    f32::MAX,
+    f32::INFINITY,
+    f32::NEG_INFINITY,
+    f32::NAN,
+    1.0e10,
+    16.0,
+];
+
+const GRAVITIES: [f64; 16] = [
+    0.08,
+    0.04,
+    1.0,
+    0.0,
+    -0.0,
+    -0.08,
+    0.08_f64.next_down(),
+    f64::MIN_POSITIVE,
+    5.0e-324,
+    1.0e300,
+    f64::MAX,
+    f64::INFINITY,
+    f64::NEG_INFINITY,
+    f64::NAN,
+    0.42,
+    0.42_f32 as f64,
+];
+
 /// Chosen powers times chosen gravities, then random ones. No NaN carries a
 /// payload of its own.
 pub fn jumps() -> Vec<(f32, f64)> {
-    let powers = [
-        0.42,
-        0.5,
-        1.0,
-        0.0,
-        -0.0,
-        -1.0,
-        0.42_f32.next_up(),
-        f32::MIN_POSITIVE,
-        f32::from_bits(1),
-        f32::MAX,
-        f32::INFINITY,
-        f32::NEG_INFINITY,
-        f32::NAN,
-        1.0e10,
-        16.0,
-    ];
-    let gravities = [
-        0.08,
-        0.04,
-        1.0,
-        0.0,
-        -0.0,
-        -0.08,
-        0.08_f64.next_down(),
-        f64::MIN_POSITIVE,
-        5.0e-324,
-        1.0e300,
-        f64::MAX,
-        f64::INFINITY,
-        f64::NEG_INFINITY,
-        f64::NAN,
-        0.42,
-        f64::from(0.42_f32),
-    ];
     let mut out: Vec<(f32, f64)> = Vec::new();
-    for power in powers {
-        out.extend(gravities.map(|gravity| (power, gravity)));
+    for power in POWERS {
+        out.extend(GRAVITIES.map(|gravity| (power, gravity)));
     }
     let mut random = Random::new(1, "jumps");
     while out.len() < 2048 {

@@ -73,29 +73,37 @@ fn wide() -> Scene {
     scene
 }
 
-/// Carved by a walk that goes back where it cannot go on, always the same.
+const MAZE: usize = 63;
+
 fn maze() -> Scene {
-    const SIZE: usize = 63;
     let mut scene = empty(
         [0, 0, 0],
-        [SIZE as u32, 4, SIZE as u32],
+        [MAZE as u32, 4, MAZE as u32],
         [1.5, 1.0, 1.5],
         [61.5, 1.0, 61.5],
     );
     scene.tables.floor();
-    let mut wall = vec![[true; SIZE]; SIZE];
+    for (z, row) in carved().iter().enumerate() {
+        for (x, _) in row.iter().enumerate().filter(|(_, wall)| **wall) {
+            scene.tables.put([x, 1, z], STONE);
+            scene.tables.put([x, 2, z], STONE);
+        }
+    }
+    scene
+}
+
+/// The walls left by a walk that goes back where it cannot go on, always the
+/// same.
+fn carved() -> [[bool; MAZE]; MAZE] {
+    let mut wall = [[true; MAZE]; MAZE];
     let mut random = Random::new(1, "maze");
-    let mut trail = vec![(1, 1)];
+    let mut trail: Vec<(usize, usize)> = vec![(1, 1)];
     wall[1][1] = false;
     while let Some(&(x, z)) = trail.last() {
         let open: Vec<(usize, usize)> = [(2, 0), (0, 2), (-2, 0), (0, -2)]
             .into_iter()
-            .map(|(dx, dz)| (x as i64 + dx, z as i64 + dz))
-            .filter(|&(a, b)| {
-                (1..SIZE as i64 - 1).contains(&a) && (1..SIZE as i64 - 1).contains(&b)
-            })
-            .map(|(a, b)| (a as usize, b as usize))
-            .filter(|&(a, b)| wall[b][a])
+            .filter_map(|(dx, dz)| Some((x.checked_add_signed(dx)?, z.checked_add_signed(dz)?)))
+            .filter(|&(a, b)| a < MAZE && b < MAZE && wall[b][a])
             .collect();
         if open.is_empty() {
             trail.pop();
@@ -106,15 +114,7 @@ fn maze() -> Scene {
         wall[b][a] = false;
         trail.push((a, b));
     }
-    for (z, row) in wall.iter().enumerate() {
-        for (x, &wall) in row.iter().enumerate() {
-            if wall {
-                scene.tables.put([x, 1, z], STONE);
-                scene.tables.put([x, 2, z], STONE);
-            }
-        }
-    }
-    scene
+    wall
 }
 
 fn tower() -> Scene {
