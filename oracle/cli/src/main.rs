@@ -12,7 +12,7 @@ mod store;
 mod trace;
 mod walks;
 
-use std::io::{Read, Write};
+use std::io::{ErrorKind, Read, Write};
 use std::path::Path;
 use std::process::ExitCode;
 
@@ -82,10 +82,12 @@ fn input() -> Result<Vec<u8>, String> {
 }
 
 fn put(bytes: &[u8]) -> Result<bool, String> {
-    std::io::stdout()
-        .write_all(bytes)
-        .map_err(|error| error.to_string())?;
-    Ok(true)
+    match std::io::stdout().write_all(bytes) {
+        // Whoever read it has enough.
+        Err(error) if error.kind() == ErrorKind::BrokenPipe => Ok(true),
+        Err(error) => Err(error.to_string()),
+        Ok(()) => Ok(true),
+    }
 }
 
 /// The bytes of a scene in text form.
