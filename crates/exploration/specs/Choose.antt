@@ -1,13 +1,13 @@
 -- The waiting element that no later one beats: what a scan from the first to the last keeps. Assumes nothing.
-use mathlib.Core.Path.{_≡_, refl, sym, ap, subst, _∙_}
-use mathlib.Core.Bool.{Bool, true, false, _&&_, not}
+use mathlib.Core.Path.{_≡_, refl, sym, subst, _∙_}
+use mathlib.Core.Bool.{Bool, true, false}
 use mathlib.Core.Option.{Option, none, some}
 use mathlib.Core.List.{List, [], _∷_, _++_}
 use Prim.Native.Nat.{ℕ, zero, suc, _+_}
 use native.Mathlib.Nat.{add-zero, add-suc, suc-add, zero-add}
-use native.Mathlib.Omega.{arith}
 use lib.ListN.{length}
-use Rattle.exploration.specs.Places.{nth, none-some}
+use Rattle.exploration.specs.Lists.{nth}
+use Rattle.exploration.specs.Laws.Lists.{none-some}
 
 module _ {A : Type 0} (waits : A → Bool) (beats : A → A → Bool) where
   abbrev pub swap : Bool → ℕ → A → ℕ × A → Option (ℕ × A)

@@ -4,17 +4,19 @@ use mathlib.Core.Path.{_≡_, refl, sym, ap, subst, _∙_}
 use mathlib.Core.Bool.{Bool, true, false, not}
 use mathlib.Core.Option.{Option, none, some}
 use mathlib.Core.List.{List, [], _∷_}
-use mathlib.Core.Logic.{_⊎_, inl, inr, ⊎-elim}
+use mathlib.Core.Logic.{_⊎_, ⊎-elim}
 use Prim.Native.Nat.{ℕ, zero, suc, _+_, _-_, _≤_}
 use native.Mathlib.Omega.{arith}
 use lib.Dec.{leb}
 use borrow.Author.Tests.{leb-true, leb-false}
-use Rattle.exploration.specs.Places.{count, count-le, true-or-false, true-false, none-some}
+use Rattle.exploration.specs.Lists.{count}
 use Rattle.exploration.specs.Graph.{Graph, GraphLaws}
-use Rattle.exploration.specs.Explore.{Node, Policy, PolicyLaws, State, turn, run, begin, final}
-use Rattle.exploration.specs.Invariant.{shutCount}
-use Rattle.exploration.specs.Turns.{Good, going, struck, Rest, at-hit, at-end, rests, turned, rest-run, begin-good, final-rest}
-use Rattle.exploration.specs.Budgets.{run-add}
+use Rattle.exploration.specs.Policy.{Node, Policy, PolicyLaws}
+use Rattle.exploration.specs.Explore.{State, advance, run, begin, final}
+use Rattle.exploration.specs.Laws.Budgets.{run-add}
+use Rattle.exploration.specs.Laws.Expansions.{Sound, going, struck, Done, at-found, at-end, full-done, advanced, done-run, begin-sound, final-done}
+use Rattle.exploration.specs.Laws.Invariant.{closedCount}
+use Rattle.exploration.specs.Laws.Lists.{count-le, true-or-false, true-false, none-some}
 
 module _ {P L A B : Type 0} (𝓖 : Graph P L) (𝓟 : Policy P L A B) where
   -- whether a search goes on
@@ -24,40 +26,40 @@ module _ {P L A B : Type 0} (𝓖 : Graph P L) (𝓟 : Policy P L A B) where
   busyBy none (some r) = true
 
   unfoldable pub busy : State P L A B → Bool
-  busy s = busyBy (s .hit) (𝓟 .pick (s .nodes) (s .book))
+  busy s = busyBy (s .found) (𝓟 .pick (s .nodes) (s .book))
 
-  idle-rest : (s : State P L A B) → busy s ≡ false → Rest 𝓖 𝓟 s
+  idle-rest : (s : State P L A B) → busy s ≡ false → Done 𝓖 𝓟 s
   unfolding busy
-  idle-rest s e = go (s .hit) (𝓟 .pick (s .nodes) (s .book)) refl refl e
+  idle-rest s e = go (s .found) (𝓟 .pick (s .nodes) (s .book)) refl refl e
     where
-      go : (h : Option (List (P × L))) (o : Option (ℕ × Node P L A)) → s .hit ≡ h → 𝓟 .pick (s .nodes) (s .book) ≡ o → busyBy h o ≡ false → Rest 𝓖 𝓟 s
-      go (some t) o p q e = at-hit t p
+      go : (h : Option (List (P × L))) (o : Option (ℕ × Node P L A)) → s .found ≡ h → 𝓟 .pick (s .nodes) (s .book) ≡ o → busyBy h o ≡ false → Done 𝓖 𝓟 s
+      go (some t) o p q e = at-found t p
       go none none p q e = at-end p q
       go none (some r) p q e = absurd (true-false refl e)
 
-  rest-idle : (s : State P L A B) → Rest 𝓖 𝓟 s → busy s ≡ false
+  rest-idle : (s : State P L A B) → Done 𝓖 𝓟 s → busy s ≡ false
   unfolding busy
-  rest-idle s (at-hit t e) = rw (e, busyBy)
+  rest-idle s (at-found t e) = rw (e, busyBy)
   rest-idle s (at-end e p) = rw (e, p, busyBy)
 
   module _ (𝓛 : GraphLaws 𝓖) (𝓠 : PolicyLaws 𝓟) (b : ℕ) where
     -- an expansion of a search that goes on closes a node
-    closes : (s : State P L A B) → Good 𝓖 𝓟 b s → busy s ≡ true → suc (shutCount 𝓖 𝓟 (s .nodes)) ≤ shutCount 𝓖 𝓟 ((turn 𝓖 𝓟 b s) .nodes)
-    closes s g e = ⊎-elim (λ r. absurd (true-false e (rest-idle s r))) (λ h. h) (turned 𝓖 𝓟 𝓛 𝓠 b s g .2)
+    closes : (s : State P L A B) → Sound 𝓖 𝓟 b s → busy s ≡ true → suc (closedCount 𝓖 𝓟 (s .nodes)) ≤ closedCount 𝓖 𝓟 ((advance 𝓖 𝓟 b s) .nodes)
+    closes s g e = ⊎-elim (λ r. absurd (true-false e (rest-idle s r))) (λ h. h) (advanced 𝓖 𝓟 𝓛 𝓠 b s g .2)
 
-    shut-room : (s : State P L A B) → Good 𝓖 𝓟 b s → shutCount 𝓖 𝓟 (s .nodes) ≤ b
+    shut-room : (s : State P L A B) → Sound 𝓖 𝓟 b s → closedCount 𝓖 𝓟 (s .nodes) ≤ b
     shut-room s (going h inv) = omega (arith, inv .room, count-le (λ n. n .closed) (s .nodes))
     shut-room s (struck t k n rest h r l e i inv) = omega (arith, inv .room, count-le (λ n. n .closed) (s .nodes))
 
     -- a search that has come to rest, after however many expansions, is the whole search
-    longer : (n m : ℕ) → n ≤ m → Rest 𝓖 𝓟 (run 𝓖 𝓟 b n (begin 𝓖 𝓟 b)) → run 𝓖 𝓟 b m (begin 𝓖 𝓟 b) ≡ run 𝓖 𝓟 b n (begin 𝓖 𝓟 b)
-    longer n m h r = ap (λ (i : ℕ). run 𝓖 𝓟 b i (begin 𝓖 𝓟 b)) (sum n m h) ∙ run-add 𝓖 𝓟 b n (m - n) _ ∙ rest-run 𝓖 𝓟 b (m - n) _ r
+    longer : (n m : ℕ) → n ≤ m → Done 𝓖 𝓟 (run 𝓖 𝓟 b n (begin 𝓖 𝓟 b)) → run 𝓖 𝓟 b m (begin 𝓖 𝓟 b) ≡ run 𝓖 𝓟 b n (begin 𝓖 𝓟 b)
+    longer n m h r = ap (λ (i : ℕ). run 𝓖 𝓟 b i (begin 𝓖 𝓟 b)) (sum n m h) ∙ run-add 𝓖 𝓟 b n (m - n) _ ∙ done-run 𝓖 𝓟 b (m - n) _ r
       where
         sum : (n m : ℕ) → n ≤ m → m ≡ n + (m - n)
         sum n m h = omega arith
 
-    pub whole-at-rest : (n : ℕ) → Rest 𝓖 𝓟 (run 𝓖 𝓟 b n (begin 𝓖 𝓟 b)) → run 𝓖 𝓟 b n (begin 𝓖 𝓟 b) ≡ final 𝓖 𝓟 b
-    whole-at-rest n r = ⊎-elim (λ e. sym (longer n b (leb-true n b e) r)) (λ e. longer b n (omega (arith, leb-false n b e)) (final-rest 𝓖 𝓟 𝓛 𝓠 b)) (true-or-false (leb n b))
+    pub whole-at-rest : (n : ℕ) → Done 𝓖 𝓟 (run 𝓖 𝓟 b n (begin 𝓖 𝓟 b)) → run 𝓖 𝓟 b n (begin 𝓖 𝓟 b) ≡ final 𝓖 𝓟 b
+    whole-at-rest n r = ⊎-elim (λ e. sym (longer n b (leb-true n b e) r)) (λ e. longer b n (omega (arith, leb-false n b e)) (final-done 𝓖 𝓟 𝓛 𝓠 b)) (true-or-false (leb n b))
 
 -- who moves: the one whose turn it is if it is searching, else the other if that one is
 abbrev pub next : Bool → Bool → Bool → Option Bool
@@ -107,8 +109,8 @@ module _ {P L A B Q M C D : Type 0} (𝓖 : Graph P L) (𝓗 : Graph Q M) (𝓟 
   Both = State P L A B × State Q M C D
 
   abbrev pub move : Bool → Both → Both
-  move true s = (turn 𝓖 𝓟 b (s .0), s .1)
-  move false s = (s .0, turn 𝓗 𝓡 c (s .1))
+  move true s = (advance 𝓖 𝓟 b (s .0), s .1)
+  move false s = (s .0, advance 𝓗 𝓡 c (s .1))
 
   abbrev pub searching : Bool → Both → Bool
   searching m s = pickOf m (busy 𝓖 𝓟 (s .0)) (busy 𝓗 𝓡 (s .1))
@@ -127,8 +129,8 @@ module _ {P L A B Q M C D : Type 0} (𝓖 : Graph P L) (𝓗 : Graph Q M) (𝓟 
 
   pub alone : (ms : List Bool) (s : Both) → play ms s ≡ (run 𝓖 𝓟 b (count (λ m. m) ms) (s .0), run 𝓗 𝓡 c (count not ms) (s .1))
   alone [] s = refl
-  alone (true ∷ ms) s = alone ms (turn 𝓖 𝓟 b (s .0), s .1)
-  alone (false ∷ ms) s = alone ms (s .0, turn 𝓗 𝓡 c (s .1))
+  alone (true ∷ ms) s = alone ms (advance 𝓖 𝓟 b (s .0), s .1)
+  alone (false ∷ ms) s = alone ms (s .0, advance 𝓗 𝓡 c (s .1))
 
   -- two moves of one guide in a row: the other is not searching between them
   abbrev pub Fair : List Bool → Both → Type 0
@@ -158,29 +160,29 @@ module _ {P L A B Q M C D : Type 0} (𝓖 : Graph P L) (𝓗 : Graph Q M) (𝓟 
       go (some m) f = fair-step n m s (f m)
 
   module _ (𝓛 : GraphLaws 𝓖) (𝓜 : GraphLaws 𝓗) (𝓠 : PolicyLaws 𝓟) (𝓢 : PolicyLaws 𝓡) where
-    abbrev Sound : Both → Type 0
-    Sound s = Good 𝓖 𝓟 b (s .0) × Good 𝓗 𝓡 c (s .1)
+    abbrev BothSound : Both → Type 0
+    BothSound s = Sound 𝓖 𝓟 b (s .0) × Sound 𝓗 𝓡 c (s .1)
 
-    abbrev Still : Both → Type 0
-    Still s = Rest 𝓖 𝓟 (s .0) × Rest 𝓗 𝓡 (s .1)
+    abbrev BothDone : Both → Type 0
+    BothDone s = Done 𝓖 𝓟 (s .0) × Done 𝓗 𝓡 (s .1)
 
     abbrev shuts : Both → ℕ
-    shuts s = shutCount 𝓖 𝓟 (s .0 .nodes) + shutCount 𝓗 𝓡 (s .1 .nodes)
+    shuts s = closedCount 𝓖 𝓟 (s .0 .nodes) + closedCount 𝓗 𝓡 (s .1 .nodes)
 
-    sound-move : (m : Bool) (s : Both) → Sound s → Sound (move m s)
-    sound-move true s g = (turned 𝓖 𝓟 𝓛 𝓠 b (s .0) (g .0) .0, g .1)
-    sound-move false s g = (g .0, turned 𝓗 𝓡 𝓜 𝓢 c (s .1) (g .1) .0)
+    sound-move : (m : Bool) (s : Both) → BothSound s → BothSound (move m s)
+    sound-move true s g = (advanced 𝓖 𝓟 𝓛 𝓠 b (s .0) (g .0) .0, g .1)
+    sound-move false s g = (g .0, advanced 𝓗 𝓡 𝓜 𝓢 c (s .1) (g .1) .0)
 
-    shuts-move : (m : Bool) (s : Both) → Sound s → searching m s ≡ true → suc (shuts s) ≤ shuts (move m s)
+    shuts-move : (m : Bool) (s : Both) → BothSound s → searching m s ≡ true → suc (shuts s) ≤ shuts (move m s)
     shuts-move true s g e = omega (arith, closes 𝓖 𝓟 𝓛 𝓠 b (s .0) (g .0) e)
     shuts-move false s g e = omega (arith, closes 𝓗 𝓡 𝓜 𝓢 c (s .1) (g .1) e)
 
     -- as many moves as the two budgets together are enough
-    settles : (n : ℕ) (w : Bool) (s : Both) → Sound s → b + c ≤ n + shuts s → Still (play (movers n w s) s)
-    settles zero w s g h = (rests 𝓖 𝓟 𝓛 𝓠 b (s .0) (g .0) (omega (arith, shut-room 𝓗 𝓡 𝓜 𝓢 c (s .1) (g .1))), rests 𝓗 𝓡 𝓜 𝓢 c (s .1) (g .1) (omega (arith, shut-room 𝓖 𝓟 𝓛 𝓠 b (s .0) (g .0))))
+    settles : (n : ℕ) (w : Bool) (s : Both) → BothSound s → b + c ≤ n + shuts s → BothDone (play (movers n w s) s)
+    settles zero w s g h = (full-done 𝓖 𝓟 𝓛 𝓠 b (s .0) (g .0) (omega (arith, shut-room 𝓗 𝓡 𝓜 𝓢 c (s .1) (g .1))), full-done 𝓗 𝓡 𝓜 𝓢 c (s .1) (g .1) (omega (arith, shut-room 𝓖 𝓟 𝓛 𝓠 b (s .0) (g .0))))
     settles (suc n) w s g h = go (nextOf w s) refl (λ m i. settles n (not m) (move m s) (sound-move m s g) (omega (arith, shuts-move m s g i)))
       where
-        go : (o : Option Bool) → nextOf w s ≡ o → ((m : Bool) → searching m s ≡ true → Still (play (movers n (not m) (move m s)) (move m s))) → Still (play (moversBy (λ m. movers n (not m) (move m s)) o) s)
+        go : (o : Option Bool) → nextOf w s ≡ o → ((m : Bool) → searching m s ≡ true → BothDone (play (movers n (not m) (move m s)) (move m s))) → BothDone (play (moversBy (λ m. movers n (not m) (move m s)) o) s)
         go none e f = let z = next-none w _ _ e in (idle-rest 𝓖 𝓟 (s .0) (z .0), idle-rest 𝓗 𝓡 (s .1) (z .1))
         go (some m) e f = f m (next-busy w _ _ m e)
 
@@ -194,5 +196,5 @@ module _ {P L A B Q M C D : Type 0} (𝓖 : Graph P L) (𝓗 : Graph Q M) (𝓟 
         a : play ms (begin 𝓖 𝓟 b, begin 𝓗 𝓡 c) ≡ (run 𝓖 𝓟 b (count (λ m. m) ms) (begin 𝓖 𝓟 b), run 𝓗 𝓡 c (count not ms) (begin 𝓗 𝓡 c))
         a = alone ms (begin 𝓖 𝓟 b, begin 𝓗 𝓡 c)
 
-        r : Rest 𝓖 𝓟 (run 𝓖 𝓟 b (count (λ m. m) ms) (begin 𝓖 𝓟 b)) × Rest 𝓗 𝓡 (run 𝓗 𝓡 c (count not ms) (begin 𝓗 𝓡 c))
-        r = subst Still a (settles (b + c) true (begin 𝓖 𝓟 b, begin 𝓗 𝓡 c) (begin-good 𝓖 𝓟 𝓛 𝓠 b, begin-good 𝓗 𝓡 𝓜 𝓢 c) (omega arith))
+        r : Done 𝓖 𝓟 (run 𝓖 𝓟 b (count (λ m. m) ms) (begin 𝓖 𝓟 b)) × Done 𝓗 𝓡 (run 𝓗 𝓡 c (count not ms) (begin 𝓗 𝓡 c))
+        r = subst BothDone a (settles (b + c) true (begin 𝓖 𝓟 b, begin 𝓗 𝓡 c) (begin-sound 𝓖 𝓟 𝓛 𝓠 b, begin-sound 𝓗 𝓡 𝓜 𝓢 c) (omega arith))

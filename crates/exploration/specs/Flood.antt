@@ -1,16 +1,16 @@
 -- Two policies: a flood in discovery order, and best first with whole-number costs. Assumes nothing.
-use mathlib.Core.Path.{_≡_, refl, sym, ap, subst, _∙_}
+use mathlib.Core.Path.{_≡_, refl}
 use mathlib.Core.Bool.{Bool, true, false, _&&_, _||_}
 use mathlib.Core.Option.{Option, none, some}
-use mathlib.Core.List.{List, [], _∷_}
 use mathlib.Core.Logic.{_≢_}
-use Prim.Native.Nat.{ℕ, zero, suc, _+_}
+use Prim.Native.Nat.{ℕ, suc, _+_}
 use lib.Dec.{ltb, eqb}
-use Rattle.exploration.specs.Places.{nth, none-some}
 use Rattle.exploration.specs.Graph.{Graph, GraphLaws}
-use Rattle.exploration.specs.Explore.{Node, Policy, PolicyLaws, Outcome, BudgetExceeded, final, outcome}
+use Rattle.exploration.specs.Policy.{Policy, PolicyLaws}
+use Rattle.exploration.specs.Explore.{BudgetExceeded, final, outcome}
 use Rattle.exploration.specs.Choose.{choose, choose-some, choose-none}
-use Rattle.exploration.specs.Claims.{Agree, agree}
+use Rattle.exploration.specs.Laws.Endings.{Agree, agree}
+use Rattle.exploration.specs.Laws.Lists.{none-some}
 
 module _ {P L : Type 0} where
   -- a node's note is whether it waits; nothing beats an earlier node, and nothing is re-parented
