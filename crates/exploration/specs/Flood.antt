@@ -8,7 +8,8 @@ use lib.Dec.{ltb, eqb}
 use Rattle.exploration.specs.Graph.{Graph, GraphLaws}
 use Rattle.exploration.specs.Policy.{Policy, PolicyLaws}
 use Rattle.exploration.specs.Explore.{BudgetExceeded, final, outcome}
-use Rattle.exploration.specs.Choose.{choose, choose-some, choose-none}
+use Rattle.exploration.specs.Choose.{choose}
+use Rattle.exploration.specs.Laws.Choices.{choose-some, choose-none}
 use Rattle.exploration.specs.Laws.Endings.{Agree, agree}
 use Rattle.exploration.specs.Laws.Lists.{none-some}
 

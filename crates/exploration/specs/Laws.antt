@@ -6,3 +6,4 @@ pub mod Invariant
 pub mod Expansions
 pub mod Budgets
 pub mod Endings
+pub mod Choices
