@@ -7,3 +7,4 @@ pub mod Expansions
 pub mod Budgets
 pub mod Endings
 pub mod Choices
+pub mod Estimates
