@@ -8,3 +8,4 @@ pub mod Budgets
 pub mod Endings
 pub mod Choices
 pub mod Estimates
+pub mod FloatOrder
