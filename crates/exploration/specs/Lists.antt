@@ -1,11 +1,14 @@
 -- Lists by place and by test, as the definitions of this crate speak of them.
-use mathlib.Core.Path.{_≡_}
 use mathlib.Core.Bool.{Bool, true, false, _||_}
-use mathlib.Core.List.{List, [], _∷_, _++_}
-use Prim.Native.Nat.{ℕ, zero, suc}
+use mathlib.Core.List.{List, [], _∷_}
+use Prim.Native.Nat.{ℕ, zero, suc, _+_}
 
 -- the element at a place, counted from 0
 pub use lib.ListN.{getElem? as nth}
+
+abbrev pub total : List ℕ → ℕ
+total [] = zero
+total (n ∷ ns) = n + total ns
 
 abbrev pub tally : Bool → ℕ → ℕ
 tally true n = suc n
@@ -21,7 +24,3 @@ module _ {A : Type 0} where
   abbrev pub count : (A → Bool) → List A → ℕ
   count p [] = zero
   count p (x ∷ xs) = tally (p x) (count p xs)
-
-  -- the first list is how the second one begins
-  abbrev pub Prefix : List A → List A → Type 0
-  Prefix xs ys = (r : List A) × (ys ≡ xs ++ r)

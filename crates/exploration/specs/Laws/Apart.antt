@@ -7,11 +7,7 @@ use Prim.Native.Nat.{suc, _≤_}
 use native.Mathlib.Omega.{arith}
 use lib.ListN.{length}
 use Rattle.exploration.specs.Lists.{has}
-use Rattle.exploration.specs.Laws.Lists.{true-false, or-left, or-right, or-cases}
-
-pub or-false : (a b : Bool) → (a || b) ≡ false → (a ≡ false) × (b ≡ false)
-or-false true b e = absurd (true-false refl e)
-or-false false b e = (refl, e)
+use Rattle.exploration.specs.Laws.Lists.{or-false, true-false, or-left, or-right, or-cases}
 
 has-snoc-false : {A : Type 0} (p : A → Bool) (xs : List A) (x : A) → has p xs ≡ false → p x ≡ false → has p (xs ++ (x ∷ [])) ≡ false
 has-snoc-false p [] x e h = rw h refl

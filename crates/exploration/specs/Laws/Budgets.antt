@@ -1,11 +1,10 @@
 -- Two runs of one search under a smaller and a larger budget: they are the same run until the smaller drops a point, and from there on the smaller
--- retains no further point. Assumes nothing.
+-- retains no further point.
 use mathlib.Core.Path.{_≡_, refl, sym, ap, subst, _∙_}
 use mathlib.Core.Bool.{Bool, true, false}
 use mathlib.Core.Option.{Option, none, some}
 use mathlib.Core.List.{List, [], _∷_, _++_, append-assoc, append-nil}
 use Prim.Native.Nat.{ℕ, zero, suc, _+_, _-_, _≤_, _<_}
-use native.Mathlib.Nat.{zero-add, suc-add}
 use native.Mathlib.Omega.{arith}
 use lib.Dec.{ltb}
 use lib.ListN.{length, length-append, length-map}
@@ -13,9 +12,10 @@ use borrow.Author.Tests.{ltb-true, ltb-false}
 use Rattle.exploration.specs.Graph.{Graph, GraphLaws}
 use Rattle.exploration.specs.Policy.{Node, Policy, PolicyLaws}
 use Rattle.exploration.specs.Explore.{ending, State, Effect, skip, reparent, retain, keepOrDrop, apply, points, effect, visit, visits, expandBy, advanceBy, advance, run, begin, final, blank, startNode}
-use Rattle.exploration.specs.Laws.Expansions.{Sound, going, struck, Advanced, advanced, ran, done-run, begin-sound, final-done}
+use Rattle.exploration.specs.Laws.Expansions.{Sound, sound-room, Advanced, advanced, ran, done-run, begin-sound, final-done}
 use Rattle.exploration.specs.Laws.Invariant.{more-of, drops-of, full-of}
 use Rattle.exploration.specs.Laws.Lists.{map-snoc}
+use Rattle.exploration.specs.Laws.Loops.{run-add}
 use Rattle.exploration.specs.Laws.Visits.{visited}
 
 nil-of : {A : Type 0} (r : List A) → length r ≤ 0 → r ≡ []
@@ -26,7 +26,7 @@ module _ {P L A B : Type 0} (𝓖 : Graph P L) (𝓟 : Policy P L A B) where
   open Graph 𝓖 using (steps)
   open Policy 𝓟 using (pick, opening)
 
-  -- a budget that is full, and has dropped a point: its points are the first of the other's
+  -- the runs have parted: the smaller budget is full and has dropped a point, and its points are the first of the other's
   pub record Parted (b : ℕ) (s t : State P L A B) : Type 0 where
     pub full : b ≤ length (s .nodes)
     pub lost : 0 < s .dropped
@@ -94,10 +94,6 @@ module _ {P L A B : Type 0} (𝓖 : Graph P L) (𝓟 : Policy P L A B) where
       unfolding advance
       compare-advance s = compare-advance-by s (s .found) (pick (s .nodes) (s .book))
 
-      room-of : {s : State P L A B} → Sound 𝓖 𝓟 b s → length (s .nodes) ≤ b
-      room-of (going h inv) = inv .room
-      room-of (struck t k n rest h r l e i inv) = inv .room
-
       left-advance : (s t : State P L A B) → Sound 𝓖 𝓟 b s → Parted b s t → Parted b (advance 𝓖 𝓟 b s) t
       left-advance s t g o = parted-left s _ t o (m .1 ∙ rw nil (append-nil _)) (u .1 .drops)
         where
@@ -108,7 +104,7 @@ module _ {P L A B : Type 0} (𝓖 : Graph P L) (𝓟 : Policy P L A B) where
           m = u .1 .more
 
           nil : m .0 ≡ []
-          nil = nil-of (m .0) (omega (arith, room-of (u .0), o .full, count-points s, count-points (advance 𝓖 𝓟 b s), ap length (m .1), length-append (points s) (m .0)))
+          nil = nil-of (m .0) (omega (arith, sound-room 𝓖 𝓟 (u .0), o .full, count-points s, count-points (advance 𝓖 𝓟 b s), ap length (m .1), length-append (points s) (m .0)))
 
       compare-run : (n : ℕ) (s t : State P L A B) → Sound 𝓖 𝓟 b s → Sound 𝓖 𝓟 c t → Compared b s t → Compared b (run 𝓖 𝓟 b n s) (run 𝓖 𝓟 c n t)
       compare-run zero s t g h p = p
@@ -120,20 +116,6 @@ module _ {P L A B : Type 0} (𝓖 : Graph P L) (𝓟 : Policy P L A B) where
 
       right-run : (n : ℕ) (s t : State P L A B) → Sound 𝓖 𝓟 c t → Parted b s t → Parted b s (run 𝓖 𝓟 c n t)
       right-run n s t h o = parted-right s t _ o (ran 𝓖 𝓟 𝓛 𝓠 c n t h .1 .more)
-
-  -- expansions in two lots
-  pub run-add : (b n m : ℕ) (s : State P L A B) → run 𝓖 𝓟 b (n + m) s ≡ run 𝓖 𝓟 b m (run 𝓖 𝓟 b n s)
-  run-add b zero m s = ap (λ (i : ℕ). run 𝓖 𝓟 b i s) (zero-add m)
-  run-add b (suc n) m s = ap (λ (i : ℕ). run 𝓖 𝓟 b i s) (suc-add n m) ∙ run-add b n m (advance 𝓖 𝓟 b s)
-
-  -- for a loop: one expansion more, and the steps of an expansion in two lots
-  pub run-snoc : (b n : ℕ) (s : State P L A B) → run 𝓖 𝓟 b (suc n) s ≡ advance 𝓖 𝓟 b (run 𝓖 𝓟 b n s)
-  run-snoc b zero s = refl
-  run-snoc b (suc n) s = run-snoc b n (advance 𝓖 𝓟 b s)
-
-  pub visits-append : (b k : ℕ) (f : Node P L A) (s : State P L A B) (ws vs : List (P × L)) → visits 𝓖 𝓟 b k f s (ws ++ vs) ≡ visits 𝓖 𝓟 b k f (visits 𝓖 𝓟 b k f s ws) vs
-  visits-append b k f s [] vs = refl
-  visits-append b k f s (w ∷ ws) vs = visits-append b k f (visit 𝓖 𝓟 b k f s w) ws vs
 
   module _ (𝓛 : GraphLaws 𝓖) (𝓠 : PolicyLaws 𝓟) (b c : ℕ) (b≤c : b ≤ c) where
     compare-begin : Compared b (begin 𝓖 𝓟 b) (begin 𝓖 𝓟 c)
@@ -147,7 +129,7 @@ module _ {P L A B : Type 0} (𝓖 : Graph P L) (𝓟 : Policy P L A B) where
         mid = run 𝓖 𝓟 c b (begin 𝓖 𝓟 c)
 
         split : final 𝓖 𝓟 c ≡ run 𝓖 𝓟 c (c - b) mid
-        split = ap (λ (i : ℕ). run 𝓖 𝓟 c i (begin 𝓖 𝓟 c)) (sum c b b≤c) ∙ run-add c b (c - b) (begin 𝓖 𝓟 c)
+        split = ap (λ (i : ℕ). run 𝓖 𝓟 c i (begin 𝓖 𝓟 c)) (sum c b b≤c) ∙ run-add 𝓖 𝓟 c b (c - b) (begin 𝓖 𝓟 c)
           where
             sum : (c b : ℕ) → b ≤ c → c ≡ b + (c - b)
             sum c b h = omega arith

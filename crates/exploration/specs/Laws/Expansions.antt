@@ -1,4 +1,4 @@
--- The invariant through a whole expansion, and through any number of them. Assumes nothing.
+-- The invariant through a whole expansion, and through any number of them; as many as the budget are enough.
 use mathlib.Core.Path.{_≡_, refl, sym, ap, _∙_}
 use mathlib.Core.Bool.{Bool, true, false, not, _&&_}
 use mathlib.Core.Option.{Option, none, some}
@@ -52,6 +52,14 @@ module _ {P L A B : Type 0} (𝓖 : Graph P L) (𝓟 : Policy P L A B) where
   pub data Sound (b : ℕ) (s : State P L A B) : Type 0 where
     going : s .found ≡ none → Inv 𝓖 𝓟 b none s → Sound b s
     struck : (t : List (P × L)) (k : ℕ) (n : Node P L A) (rest : List (P × L)) → s .found ≡ some t → Route 𝓖 t → length t ≤ suc b → nth (s .nodes) k ≡ some n → ending 𝓖 (n .point) ≡ some rest → Inv 𝓖 𝓟 b (some k) s → Sound b s
+
+  pub sound-room : {b : ℕ} {s : State P L A B} → Sound b s → length (s .nodes) ≤ b
+  sound-room (going h inv) = inv .room
+  sound-room (struck t k n rest h r l e i inv) = inv .room
+
+  pub sound-counted : {b : ℕ} {s : State P L A B} → Sound b s → s .closings ≡ closedCount 𝓖 𝓟 (s .nodes)
+  sound-counted (going h inv) = inv .counted
+  sound-counted (struck t k n rest h r l e i inv) = inv .counted
 
   -- nothing is left to do
   pub data Done (s : State P L A B) : Type 0 where

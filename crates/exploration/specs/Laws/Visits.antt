@@ -12,7 +12,6 @@ use Rattle.exploration.specs.Lists.{nth, has}
 use Rattle.exploration.specs.Graph.{Graph}
 use Rattle.exploration.specs.Policy.{Node, Policy, PolicyLaws}
 use Rattle.exploration.specs.Explore.{State, headOr, seek, child, effect, effectKnown, effectAt, keepOrDrop, apply, visit}
-use Rattle.exploration.specs.Laws.Apart.{or-false}
 use Rattle.exploration.specs.Laws.Lists.{none-some, true-false, or-left, or-right, or-cases}
 
 module _ {P L A : Type 0} (𝓖 : Graph P L) where
@@ -43,15 +42,6 @@ module _ {P L A : Type 0} (𝓖 : Graph P L) where
   pub known-at : (ns : List (Node P L A)) (q : P) → known ns q ≡ true → (k : ℕ) × (n : Node P L A) × (nth ns k ≡ some n) × (same (n .point) q ≡ true)
   known-at [] q h = absurd (true-false h refl)
   known-at (n ∷ ns) q h = ⊎-elim (λ e. (0, n, refl, e)) (λ e. let r = known-at ns q e in (suc (r .0), r .1, r .2, r .3)) (or-cases (same (n .point) q) _ h)
-
-  -- for a loop: no node of the first ones is at the point, and then one is, or none is left
-  pub seek-at : (ns : List (Node P L A)) (m : Node P L A) (ms : List (Node P L A)) (q : P) → known ns q ≡ false → same (m .point) q ≡ true → seek 𝓖 (ns ++ m ∷ ms) q ≡ some (length ns, m)
-  seek-at [] m ms q h e = rw e refl
-  seek-at (n ∷ ns) m ms q h e = let z = or-false (same (n .point) q) _ h in rw (z .0, seek-at ns m ms q (z .1) e)
-
-  pub seek-none : (ns : List (Node P L A)) (q : P) → known ns q ≡ false → seek 𝓖 ns q ≡ none
-  seek-none [] q h = refl
-  seek-none (n ∷ ns) q h = let z = or-false (same (n .point) q) _ h in rw (z .0, seek-none ns q (z .1))
 
 module _ {P L A B : Type 0} (𝓖 : Graph P L) (𝓟 : Policy P L A B) where
   open Graph 𝓖 using (same, alike, start, startLabel, goal, steps, connector)
