@@ -1,10 +1,10 @@
 -- What holds of every bounded exploration, of every graph and under every policy: one theorem a claim, stated in the words of Graph, Explore, WalkBack, Guides,
 -- Choose and Estimates. The letters: 𝓖 a graph and 𝓛 its laws, 𝓟 a policy and 𝓠 its laws, b and c budgets. `answer` is the outcome of a whole search under a
 -- budget, `final` the state that it ends in.
-use mathlib.Core.Path.{_≡_, refl, sym, ap, subst, _∙_}
+use mathlib.Core.Path.{_≡_, refl, sym, ap, _∙_}
 use mathlib.Core.Bool.{Bool, true, false}
 use mathlib.Core.Option.{some}
-use mathlib.Core.List.{List, [], _++_, IsPrefix, append-nil}
+use mathlib.Core.List.{List, [], IsPrefix, append-nil}
 use mathlib.Core.Logic.{_⊎_, inl, inr, _↔_, _≢_}
 use Prim.Native.Nat.{ℕ, suc, _+_, _≤_, _<_}
 use native.Mathlib.Omega.{arith}
@@ -14,20 +14,20 @@ use Rattle.exploration.specs.Lists.{nth, has, count, total}
 use Rattle.exploration.specs.Graph.{Graph, GraphLaws, Route, Reach}
 use Rattle.exploration.specs.Policy.{Policy, PolicyLaws}
 use Rattle.exploration.specs.Explore.{Outcome, Found, Unreachable, BudgetExceeded, Searching, points, runs, begin, final, outcome, answer}
-use Rattle.exploration.specs.WalkBack.{isRoute}
 use Rattle.exploration.specs.Guides.{play, turns, beginBoth, Fair, one}
-use Rattle.exploration.specs.Choose.{choose, WaitsAt, Least, Ordered}
+use Rattle.exploration.specs.WalkBack.{isRoute}
+use Rattle.exploration.specs.Choose.{choose, Least, Ordered}
 use Rattle.exploration.specs.Estimates.{Comparison, sooner, Before, First}
+use Rattle.exploration.specs.Laws.Budgets.{Compared, equal, parted, compare-final}
+use Rattle.exploration.specs.Laws.Choices.{chosen-least, least-chosen}
+use Rattle.exploration.specs.Laws.Endings.{found-of, found-outcome, found-route, unreachable-route, exceeded-cover, found-again, end-of, done-ended, ended-done, done-final, enough-done}
+use Rattle.exploration.specs.Laws.Estimates.{chosen-first, first-chosen}
+use Rattle.exploration.specs.Laws.Expansions.{sound-room, sound-counted, final-sound, final-done}
+use Rattle.exploration.specs.Laws.FloatOrder.{float-comparison}
+use Rattle.exploration.specs.Laws.Guides.{as-alone, movers-fair}
 use Rattle.exploration.specs.Laws.Lists.{count-le}
 use Rattle.exploration.specs.Laws.Loops.{runs-run}
-use Rattle.exploration.specs.Laws.Expansions.{sound-room, sound-counted, final-sound, final-done}
-use Rattle.exploration.specs.Laws.Budgets.{Compared, equal, parted, compare-final}
-use Rattle.exploration.specs.Laws.Endings.{found-of, found-outcome, found-route, unreachable-route, exceeded-cover, found-again, end-of, done-ended, ended-done, done-final, enough-done}
 use Rattle.exploration.specs.Laws.WalkBack.{is-route, route-is}
-use Rattle.exploration.specs.Laws.Guides.{as-alone, movers-fair}
-use Rattle.exploration.specs.Laws.Choices.{chosen-least, least-chosen}
-use Rattle.exploration.specs.Laws.Estimates.{chosen-first, first-chosen}
-use Rattle.exploration.specs.Laws.FloatOrder.{float-comparison}
 
 -- ---- one search, and the same search under another budget
 

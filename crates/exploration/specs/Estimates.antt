@@ -1,7 +1,7 @@
 -- Document 01's order of a frontier, "lowest estimate first, then earliest push", over any kind of estimate that compares like numbers, and what it means to
 -- come first by it.
 use mathlib.Core.Path.{_≡_}
-use mathlib.Core.Bool.{Bool, true, false, not, _&&_, _||_}
+use mathlib.Core.Bool.{Bool, true, not, _&&_, _||_}
 use mathlib.Core.List.{List}
 use mathlib.Core.Logic.{_⊎_, _≢_}
 use Prim.Native.Nat.{ℕ, _<_}

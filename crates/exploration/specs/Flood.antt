@@ -1,11 +1,11 @@
 -- The plainest policy: expand points in discovery order, with no costs. A node's note is whether it waits; nothing is re-parented.
-use mathlib.Core.Path.{_≡_, refl}
+use mathlib.Core.Path.{refl}
 use mathlib.Core.Bool.{Bool, true, false}
 use mathlib.Core.Option.{none}
 use Rattle.exploration.specs.Policy.{Policy, PolicyLaws}
 use Rattle.exploration.specs.Choose.{choose}
-use Rattle.exploration.specs.Laws.Lists.{none-some}
 use Rattle.exploration.specs.Laws.Choices.{choose-some, choose-none}
+use Rattle.exploration.specs.Laws.Lists.{none-some}
 
 module _ {P L : Type 0} where
   -- no waiting node beats another, and so the scan keeps the first

@@ -13,12 +13,12 @@ use Rattle.exploration.specs.Lists.{nth, has}
 use Rattle.exploration.specs.Graph.{Graph, GraphLaws, Way, arrived, connected, stepped, Route, route, Reach, at-start, by-step, connects, labelled}
 use Rattle.exploration.specs.Policy.{Node, Policy, PolicyLaws}
 use Rattle.exploration.specs.Explore.{endingBy, ending, State, Outcome, Found, Unreachable, BudgetExceeded, Searching, points, run, begin, final, outcomeBy, outcome}
-use Rattle.exploration.specs.Laws.Lists.{none-some, true-false, true-or-false, nth-left, nth-map, nth-of-map, has-map}
 use Rattle.exploration.specs.Laws.Apart.{apart-snoc, Covered, pigeon}
-use Rattle.exploration.specs.Laws.Visits.{known, known-at}
-use Rattle.exploration.specs.Laws.Loops.{run-add}
+use Rattle.exploration.specs.Laws.Expansions.{Sound, going, struck, Done, at-found, at-end, closed-of, done-run, final-done}
 use Rattle.exploration.specs.Laws.Invariant.{trail-reach, Link, first-link, next-link, Expanded, Inv}
-use Rattle.exploration.specs.Laws.Expansions.{Sound, going, struck, Done, at-found, at-end, closed-of, done-run, final-sound, final-done}
+use Rattle.exploration.specs.Laws.Lists.{none-some, true-false, true-or-false, nth-left, nth-map, nth-of-map, has-map}
+use Rattle.exploration.specs.Laws.Loops.{run-add}
+use Rattle.exploration.specs.Laws.Visits.{known, known-at}
 
 module _ {P L : Type 0} (𝓖 : Graph P L) where
   open Graph 𝓖 using (same, goal, connector)

@@ -1,5 +1,5 @@
 -- The order by estimate and push is total and transitive where the estimates compare like numbers; so what the scan keeps comes first by it.
-use mathlib.Core.Path.{_≡_, refl, sym, ap, subst, _∙_}
+use mathlib.Core.Path.{_≡_, refl, sym, ap, _∙_}
 use mathlib.Core.Bool.{Bool, true, false, not, _&&_, _||_}
 use mathlib.Core.Option.{some}
 use mathlib.Core.List.{List}
@@ -8,11 +8,10 @@ use Prim.Native.Nat.{ℕ, _≤_, _<_}
 use native.Mathlib.Omega.{arith}
 use lib.Dec.{ltb, eqb}
 use borrow.Author.Tests.{ltb-true, ltb-false, lt-ltb, le-ltb, eqb-true, eqb-false}
-use Rattle.exploration.specs.Lists.{nth}
 use Rattle.exploration.specs.Choose.{choose, WaitsAt, Least, Ordered}
 use Rattle.exploration.specs.Estimates.{atMost, Comparison, sooner, Before, First}
-use Rattle.exploration.specs.Laws.Lists.{true-false, true-or-false, nth-one, and-first, and-second, or-left, or-right}
 use Rattle.exploration.specs.Laws.Choices.{chosen-least, least-chosen}
+use Rattle.exploration.specs.Laws.Lists.{true-false, true-or-false, nth-one, and-second, or-left, or-right}
 
 module _ {E : Type 0} (below level : E → E → Bool) (Number : E → Type 0) (laws : Comparison below level Number) where
   -- two numbers: one is lower, or they are level

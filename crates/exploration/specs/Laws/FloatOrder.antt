@@ -1,15 +1,15 @@
 -- The floats of IEEE 754 that are no NaN compare like numbers: ≤ is total and transitive on them, < and = are what ≤ makes of them. So f64 estimates do.
-use mathlib.Core.Path.{_≡_, refl, sym, ap, subst, _∙_}
+use mathlib.Core.Path.{_≡_, refl, sym, ap, _∙_}
 use mathlib.Core.Bool.{Bool, true, false, not, _&&_, _||_}
 use mathlib.Core.Logic.{_⊎_, inl, inr, ⊎-elim}
-use Prim.Native.Nat.{ℕ, zero, suc, _+_, _*_, _≤_, _<_}
-use native.Mathlib.Nat.{zero-mul, mul-comm, mul-assoc, mul-right-comm, add-mul, mul-le-mul-right, le-of-mul-le-mul-right}
+use Prim.Native.Nat.{ℕ, _+_, _*_, _≤_, _<_}
+use native.Mathlib.Nat.{zero-mul, mul-right-comm, add-mul, mul-le-mul-right, le-of-mul-le-mul-right}
 use native.Mathlib.Omega.{arith}
 use lib.Dec.{ltb, eqb, leb}
-use lib.IntN.{ℤ, pos, negsuc}
+use lib.IntN.{ℤ}
 use lib.Ieee.Fits.{down-pos}
 use lib.Ieee.{Float, nan, inf, fin, up, down, below, level, lt, eq, isNan}
-use borrow.Author.Tests.{ltb-true, ltb-false, lt-ltb, le-ltb, leb-true, leb-false, le-leb, lt-leb, eqb-true, eqb-false, eq-eqb, ne-eqb}
+use borrow.Author.Tests.{ltb-true, ltb-false, lt-ltb, le-ltb, leb-true, le-leb, lt-leb, eqb-true, eq-eqb, ne-eqb}
 use Rattle.exploration.specs.Estimates.{atMost, Comparison}
 use Rattle.exploration.specs.Laws.Lists.{true-false, true-or-false, or-left}
 

@@ -1,9 +1,9 @@
 -- Two guides by turns: each makes the expansions that it would make alone, both come to an end, and the turns are fair.
-use mathlib.Core.Path.{_≡_, refl, sym, ap, subst, _∙_}
+use mathlib.Core.Path.{_≡_, refl, ap, subst, _∙_}
 use mathlib.Core.Bool.{Bool, true, false}
 use mathlib.Core.Option.{Option, none, some}
 use mathlib.Core.List.{List, [], _∷_}
-use mathlib.Core.Logic.{_⊎_, inl, inr, ⊎-elim}
+use mathlib.Core.Logic.{_⊎_, ⊎-elim}
 use Prim.Native.Nat.{ℕ, zero, suc, _+_, _≤_}
 use native.Mathlib.Omega.{arith}
 use Rattle.exploration.specs.Lists.{count}
@@ -11,10 +11,10 @@ use Rattle.exploration.specs.Graph.{Graph, GraphLaws}
 use Rattle.exploration.specs.Policy.{Policy, PolicyLaws}
 use Rattle.exploration.specs.Explore.{State, Outcome, Found, Unreachable, BudgetExceeded, Searching, advance, run, begin, final, outcome}
 use Rattle.exploration.specs.Guides.{Guide, one, two, other, isSearching, nextBy, moversBy, Both, move, searching, next, movers, play, beginBoth, turns, Fair}
-use Rattle.exploration.specs.Laws.Lists.{true-false, none-some, count-le}
-use Rattle.exploration.specs.Laws.Invariant.{closedCount}
-use Rattle.exploration.specs.Laws.Expansions.{Sound, sound-room, Done, full-done, advanced, begin-sound}
 use Rattle.exploration.specs.Laws.Endings.{done-ended, ended-done, done-final}
+use Rattle.exploration.specs.Laws.Expansions.{Sound, sound-room, Done, full-done, advanced, begin-sound}
+use Rattle.exploration.specs.Laws.Invariant.{closedCount}
+use Rattle.exploration.specs.Laws.Lists.{true-false, count-le}
 
 module _ {P L A B : Type 0} (𝓖 : Graph P L) (𝓟 : Policy P L A B) where
   idle-done : (s : State P L A B) → isSearching (outcome 𝓖 𝓟 s) ≡ false → Done 𝓖 𝓟 s

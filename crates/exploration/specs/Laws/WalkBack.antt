@@ -1,6 +1,6 @@
 -- The test of a list passes exactly where the list is a route.
 use mathlib.Core.Path.{_≡_, refl}
-use mathlib.Core.Bool.{Bool, true, false, _&&_, _||_}
+use mathlib.Core.Bool.{true, _&&_}
 use mathlib.Core.List.{List, [], _∷_}
 use mathlib.Core.Logic.{_⊎_, ⊎-elim}
 use Rattle.exploration.specs.Graph.{Graph, Way, arrived, connected, stepped, Route, route, hasStep, connects}
