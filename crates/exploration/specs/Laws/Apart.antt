@@ -1,16 +1,13 @@
 -- Points that are pairwise not the same, and how many of them a list that covers them must have. Assumes nothing.
-use mathlib.Core.Path.{_≡_, refl, sym, ap, _∙_}
+use mathlib.Core.Path.{_≡_, refl, ap}
 use mathlib.Core.Bool.{Bool, true, false, _||_}
 use mathlib.Core.List.{List, [], _∷_, _++_}
-use mathlib.Core.Logic.{_⊎_, inl, inr, ⊎-elim}
-use Prim.Native.Nat.{ℕ, zero, suc, _≤_, _<_}
+use mathlib.Core.Logic.{_⊎_, inl, inr}
+use Prim.Native.Nat.{suc, _≤_}
 use native.Mathlib.Omega.{arith}
 use lib.ListN.{length}
-use Rattle.exploration.specs.Places.{has, true-false, or-left, or-right, or-cases, true-or-false}
-
-pub or-false : (a b : Bool) → (a || b) ≡ false → (a ≡ false) × (b ≡ false)
-or-false true b e = absurd (true-false refl e)
-or-false false b e = (refl, e)
+use Rattle.exploration.specs.Lists.{has}
+use Rattle.exploration.specs.Laws.Lists.{or-false, true-false, or-left, or-right, or-cases}
 
 has-snoc-false : {A : Type 0} (p : A → Bool) (xs : List A) (x : A) → has p xs ≡ false → p x ≡ false → has p (xs ++ (x ∷ [])) ≡ false
 has-snoc-false p [] x e h = rw h refl
