@@ -16,9 +16,11 @@ use Rattle.policy.specs.Doors.{doorPassage}
 use Rattle.policy.specs.Permission.{forbidden, permission}
 use Rattle.policy.specs.Jump.{Jump, rises, tick, after, apexOf, drag}
 
--- the permission byte by what the two questions were answered
-pub byte : (p : WalkPolicy) (w : Bool) (f passage : ℕ) (bad : Bool) → doorPassage p f ≡ passage → forbidden p w f ≡ bad
-    → permission p w f ≡ cond (not bad && not (eqb passage wall)) 1 0 + cond (not bad) 2 0 + cond (not (eqb passage through)) 4 0
+-- the permission byte by a passage's number and by whether a flag is forbidden
+abbrev pub byteOf : ℕ → Bool → ℕ
+byteOf passage bad = cond (not bad && not (eqb passage wall)) 1 0 + cond (not bad) 2 0 + cond (not (eqb passage through)) 4 0
+
+pub byte : (p : WalkPolicy) (w : Bool) (f passage : ℕ) (bad : Bool) → doorPassage p f ≡ passage → forbidden p w f ≡ bad → permission p w f ≡ byteOf passage bad
 unfolding permission
 byte p w f passage bad e h = rw (e, h)
 

@@ -9,10 +9,13 @@ pub struct Flags {
 
 impl Flags {
     pub const WATER: u8 = 1;
+
     pub const DAMAGING: u8 = 2;
+
     pub const GRASS: u8 = 4;
     // Any door half.
     pub const DOOR: u8 = 8;
+
     pub const IRON_DOOR: u8 = 16;
     // A door half whose own state is open.
     pub const OPEN: u8 = 32;

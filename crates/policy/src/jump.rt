@@ -20,7 +20,7 @@ pub fn jump_apex(power: f32, gravity: f64) -> Apex
     ensures { λ r. ⌜ apexAnswer r ≡ jumpApex power gravity ⌝ }
 {
     let mut height: f64 = 0.0;
-    let mut velocity = widened(power);
+    let mut velocity = std::num::f32_to_f64_with_nan(power);
     let mut ticks: u32 = 0;
     while (velocity > 0.0) & (gravity > 0.0) {
         if ticks == TICKS {
@@ -31,14 +31,4 @@ pub fn jump_apex(power: f32, gravity: f64) -> Apex
         ticks += 1;
     }
     Apex::Height(height)
-}
-
-// An f32 as the f64 of the same value, NaN too.
-fn widened(x: f32) -> f64
-    ensures { λ r. ⌜ r ≡ x ⌝ }
-{
-    if x != x {
-        return 0.0 / 0.0;
-    }
-    x as f64
 }

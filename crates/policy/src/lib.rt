@@ -8,5 +8,8 @@ pub mod policy;
 
 pub use doors::Passage;
 pub use flags::Flags;
-pub use jump::{Apex, jump_apex};
-pub use policy::{Asked, Filled, WalkPolicy};
+pub use jump::Apex;
+pub use jump::jump_apex;
+pub use policy::Asked;
+pub use policy::Filled;
+pub use policy::WalkPolicy;

@@ -9,12 +9,16 @@ use crate::flags::Flags;
 
 // The bits of a permission byte.
 const OCCUPIED: u8 = 1;
+
 const SUPPORT: u8 = 2;
+
 const COLLIDES: u8 = 4;
 
 // A search's range around the body, the nodes that it retains, and the highest drop on its way.
 const PATH_MAX_RANGE: f64 = 16.0;
+
 const PATH_NODE_BUDGET: u64 = 2048;
+
 const PATH_MAX_DROP: f64 = 3.0;
 
 pub struct WalkPolicy {
@@ -98,13 +102,7 @@ impl WalkPolicy {
                     OCCUPIED + SUPPORT + COLLIDES
                 }
             }
-            Passage::Through => {
-                if forbidden {
-                    0
-                } else {
-                    OCCUPIED + SUPPORT
-                }
-            }
+            Passage::Through => { if forbidden { 0 } else { OCCUPIED + SUPPORT } }
             Passage::Wall => {
                 if forbidden {
                     COLLIDES
@@ -116,12 +114,7 @@ impl WalkPolicy {
     }
 
     // The permission byte of each flag byte, in a table of the same length; else nothing is written.
-    pub fn fill_permissions(
-        self,
-        in_water: bool,
-        flags: &[u8],
-        permissions: &mut [u8],
-    ) -> Filled
+    pub fn fill_permissions(self, in_water: bool, flags: &[u8], permissions: &mut [u8]) -> Filled
         ensures answer { λ r. ⌜ filledNumber r ≡ filled (now (flags .entry)) (now (permissions .entry)) ⌝ }
         ensures written { λ r. ⌜ now (permissions .exit) ≡ permissionTable self «in_water» (now (flags .entry)) (now (permissions .entry)) ⌝ }
     {

@@ -1,3 +1,4 @@
+-- `policy::jump::jump_apex` meets its contract. The invariant: the answer for the whole jump is the answer for what is left of its ticks, from where it is now. Assumes nothing.
 use mathlib.Core.Path.{_≡_, refl, sym, ap, _∙_}
 use Prim.Native.Nat.{_≤_, _-_}
 use native.Mathlib.Omega.{arith}
@@ -7,9 +8,6 @@ use Rattle.policy.specs.Laws.{endless, at-rest, ticked, drag-bits}
 use Rattle.policy.specs.Jump.{jumpApex, apexOf, after}
 use Rattle.policy.proofs.jump.jump_apex.Statement.{statement}
 use Rattle.policy.proofs.jump.jump_apex.Tie as tie
-use Rattle.policy.proofs.jump.jump_apex.Reads as reads
-use Rattle.policy.proofs.jump.jump_apex.Lts as lts
-use Rattle.policy.proofs.jump.widened.Reads as widened-reads
 
 abbrev Inv-loop : tie.InvT-loop
 Inv-loop power gravity height₀ velocity₀ ticks₀ height velocity ticks =
@@ -18,35 +16,28 @@ Inv-loop power gravity height₀ velocity₀ ticks₀ height velocity ticks =
 abbrev μ-loop : tie.MeasureT-loop
 μ-loop power gravity height₀ velocity₀ ticks₀ height velocity ticks = 65536 - ticks
 
--- src/jump.rt:23:9
-widened-requires : tie.Need-widened-requires Inv-loop μ-loop
-widened-requires c κs = search needs
+f32-to-f64-with-nan-requires : tie.Need-f32-to-f64-with-nan-requires Inv-loop μ-loop
+f32-to-f64-with-nan-requires c κs = search needs
 
--- src/jump.rt:25:5
 loop-holds : tie.Need-loop-holds Inv-loop μ-loop
 unfolding ofBits
-loop-holds c = (omega arith, rw (c .widened .ensures))
+loop-holds c = (omega arith, rw (c .f32-to-f64-with-nan .ensures))
 
--- src/jump.rt:27:13
 returns : tie.Need-returns Inv-loop μ-loop
 unfolding ofBits
 returns c = sym (c .before .before .loop .inv .1 ∙ endless _ _ _ (omega arith) (c .before .loop-test .taken))
 
--- src/jump.rt:31:9
 add-ticks : tie.Need-add-ticks Inv-loop μ-loop
 add-ticks c = omega arith
 
--- src/jump.rt:25:5
 loop-less : tie.Need-loop-less Inv-loop μ-loop
 loop-less c = omega arith
 
--- src/jump.rt:25:5
 loop-again : tie.Need-loop-again Inv-loop μ-loop
 unfolding ofBits
 loop-again c =
     (omega arith, c .before .before .loop .inv .1 ∙ ap (apexOf _) (ticked _ _ 65536 (c .before .before .loop .ticks) (omega arith) (c .before .loop-test .taken)) ∙ rw drag-bits)
 
--- src/jump.rt:19:1
 returns-2 : tie.Need-returns-2 Inv-loop μ-loop
 unfolding ofBits
 returns-2 c = sym (c .before .loop .inv .1 ∙ at-rest _ _ _ (c .loop-test .left))
@@ -57,7 +48,7 @@ jump-apex-spec =
     (tie.spec
     Inv-loop
     μ-loop
-    widened-requires
+    f32-to-f64-with-nan-requires
     loop-holds
     returns
     add-ticks

@@ -1,83 +1,91 @@
-use borrow.Author.Tests.{not-true, not-false}
-use mathlib.Core.Path.{sym, _∙_}
-use Rattle.policy.specs.Doors.{doorCase}
+-- `policy::policy::WalkPolicy::door_passage` meets its contract: the tests on the way to each return pick one row of the table. Assumes nothing.
+use mathlib.Core.Path.{_≡_, sym, _∙_}
+use mathlib.Core.Bool.{true, false}
 use borrow.Author.Needs.{needs}
+use borrow.Author.Tests.{not-true, not-false}
+use Rattle.policy.specs.Flags.{has, DOOR, IRON-DOOR, OPEN}
+use Rattle.policy.specs.Doors.{doorCase}
 use Rattle.policy.proofs.policy.WalkPolicy.door_passage.Statement.{statement}
 use Rattle.policy.proofs.policy.WalkPolicy.door_passage.Tie as tie
-use Rattle.policy.proofs.policy.WalkPolicy.door_passage.Reads as reads
-use Rattle.policy.proofs.policy.WalkPolicy.door_passage.Lts as lts
-use Rattle.policy.proofs.flags.Flags.has.Reads as has-reads
 
--- src/policy.rt:52:13
+-- what each test showed, where it did
+
+no-door : (c : tie.Then1) → has DOOR (c .before .before .args .flags .bits) ≡ false
+no-door c = sym (c .before .has .ensures) ∙ not-true _ (c .if1 .taken)
+
+door : (c : tie.Else1) → has DOOR (c .before .before .args .flags .bits) ≡ true
+door c = sym (c .before .has .ensures) ∙ not-false _ (c .if1 .left)
+
+no-breaker : (c : tie.Then2) → c .before .before .before .before .args .self .«door_breaker» ≡ false
+no-breaker c = not-true _ (c .if2 .taken)
+
+breaker : (c : tie.Else2) → c .before .before .before .before .args .self .«door_breaker» ≡ true
+breaker c = not-false _ (c .if2 .left)
+
+no-pass : (c : tie.Then5) → c .before .before .before .before .before .before .args .self .«can_pass_doors» ≡ false
+no-pass c = not-true _ (c .if5 .taken)
+
+pass : (c : tie.Else5) → c .before .before .before .before .before .before .args .self .«can_pass_doors» ≡ true
+pass c = not-false _ (c .if5 .left)
+
+ajar : (c : tie.Then6) → has OPEN (c .before .before .before .before .before .before .before .before .args .flags .bits) ≡ true
+ajar c = sym (c .before .has2 .ensures) ∙ c .if6 .taken
+
+closed : (c : tie.Else6) → has OPEN (c .before .before .before .before .before .before .before .before .args .flags .bits) ≡ false
+closed c = sym (c .before .has2 .ensures) ∙ c .if6 .left
+
+iron : (c : tie.Then7) → has IRON-DOOR (c .before .before .before .before .before .before .before .before .before .before .args .flags .bits) ≡ true
+iron c = sym (c .before .has3 .ensures) ∙ c .if7 .taken
+
+no-iron : (c : tie.Else7) → has IRON-DOOR (c .before .before .before .before .before .before .before .before .before .before .args .flags .bits) ≡ false
+no-iron c = sym (c .before .has3 .ensures) ∙ c .if7 .left
+
 has-requires : tie.Need-has-requires
 has-requires c κs = search needs
 
--- src/policy.rt:53:13
 returns : tie.Need-returns
 unfolding doorCase
-returns c = rw (sym (c .before .has .ensures) ∙ not-true _ (c .if1 .taken))
+returns c = rw (no-door c)
 
--- src/policy.rt:57:17
 returns-2 : tie.Need-returns-2
 unfolding doorCase
-returns-2 c = let p = c .before .before .before .before .before .args .self in rw (sym (c .before .before .before .before .has .ensures) ∙ not-false _ (c .before .before .before .if1 .left), not-true (p .«door_breaker») (c .before .if2 .taken), c .if3 .taken)
+returns-2 c = rw (door (c .before .before .before), no-breaker (c .before), c .if3 .taken)
 
--- src/policy.rt:60:17
 returns-3 : tie.Need-returns-3
 unfolding doorCase
-returns-3 c = let p = c .before .before .before .before .before .before .args .self in rw (sym (c .before .before .before .before .before .has .ensures) ∙ not-false _ (c .before .before .before .before .if1 .left), not-true (p .«door_breaker») (c .before .before .if2 .taken), c .before .if3 .left, c .if4 .taken)
+returns-3 c = rw (door (c .before .before .before .before), no-breaker (c .before .before), c .before .if3 .left, c .if4 .taken)
 
--- src/policy.rt:62:13
 returns-4 : tie.Need-returns-4
 unfolding doorCase
-returns-4 c = let p = c .before .before .before .before .before .before .args .self in rw (sym (c .before .before .before .before .before .has .ensures) ∙ not-false _ (c .before .before .before .before .if1 .left), not-true (p .«door_breaker») (c .before .before .if2 .taken), c .before .if3 .left, c .if4 .left)
+returns-4 c = rw (door (c .before .before .before .before), no-breaker (c .before .before), c .before .if3 .left, c .if4 .left)
 
--- src/policy.rt:65:13
 returns-5 : tie.Need-returns-5
 unfolding doorCase
-returns-5 c = let p = c .before .before .before .before .before .before .args .self in rw (sym (c .before .before .before .before .before .has .ensures) ∙ not-false _ (c .before .before .before .before .if1 .left), not-false (p .«door_breaker») (c .before .before .if2 .left), not-true (p .«can_pass_doors») (c .if5 .taken))
+returns-5 c = rw (door (c .before .before .before .before), breaker (c .before .before), no-pass c)
 
--- src/policy.rt:67:12
 has-requires-2 : tie.Need-has-requires-2
 has-requires-2 c κs = search needs
 
--- src/policy.rt:68:13
 returns-6 : tie.Need-returns-6
 unfolding doorCase
-returns-6 c = let p = c .before .before .before .before .before .before .before .before .args .self in rw (sym (c .before .before .before .before .before .before .before .has .ensures) ∙ not-false _ (c .before .before .before .before .before .before .if1 .left), not-false (p .«door_breaker») (c .before .before .before .before .if2 .left), not-false (p .«can_pass_doors») (c .before .before .if5 .left), sym (c .before .has2 .ensures) ∙ c .if6 .taken)
+returns-6 c = rw (door (c .before .before .before .before .before .before), breaker (c .before .before .before .before), pass (c .before .before), ajar c)
 
--- src/policy.rt:70:12
 has-requires-3 : tie.Need-has-requires-3
 has-requires-3 c κs = search needs
 
--- src/policy.rt:72:17
 returns-7 : tie.Need-returns-7
 unfolding doorCase
-returns-7 c = let p = c .before .before .before .before .before .before .before .before .before .before .before .args .self in rw (sym (c .before .before .before .before .before .before .before .before .before .before .has .ensures) ∙ not-false _ (c .before .before .before .before .before .before .before .before .before .if1 .left), not-false (p .«door_breaker») (c .before .before .before .before .before .before .before .if2 .left), not-false (p .«can_pass_doors») (c .before .before .before .before .before .if5 .left), sym (c .before .before .before .before .has2 .ensures) ∙ c .before .before .before .if6 .left, sym (c .before .before .has3 .ensures) ∙ c .before .if7 .taken, c .if8 .taken)
+returns-7 c = rw (door (c .before .before .before .before .before .before .before .before .before), breaker (c .before .before .before .before .before .before .before), pass (c .before .before .before .before .before), closed (c .before .before .before), iron (c .before), c .if8 .taken)
 
--- src/policy.rt:74:13
 returns-8 : tie.Need-returns-8
 unfolding doorCase
-returns-8 c = let p = c .before .before .before .before .before .before .before .before .before .before .before .args .self in rw (sym (c .before .before .before .before .before .before .before .before .before .before .has .ensures) ∙ not-false _ (c .before .before .before .before .before .before .before .before .before .if1 .left), not-false (p .«door_breaker») (c .before .before .before .before .before .before .before .if2 .left), not-false (p .«can_pass_doors») (c .before .before .before .before .before .if5 .left), sym (c .before .before .before .before .has2 .ensures) ∙ c .before .before .before .if6 .left, sym (c .before .before .has3 .ensures) ∙ c .before .if7 .taken, c .if8 .left)
+returns-8 c = rw (door (c .before .before .before .before .before .before .before .before .before), breaker (c .before .before .before .before .before .before .before), pass (c .before .before .before .before .before), closed (c .before .before .before), iron (c .before), c .if8 .left)
 
--- src/policy.rt:49:5
 returns-9 : tie.Need-returns-9
 unfolding doorCase
-returns-9 c = let p = c .before .before .before .before .before .before .before .before .before .before .args .self in rw (sym (c .before .before .before .before .before .before .before .before .before .has .ensures) ∙ not-false _ (c .before .before .before .before .before .before .before .before .if1 .left), not-false (p .«door_breaker») (c .before .before .before .before .before .before .if2 .left), not-false (p .«can_pass_doors») (c .before .before .before .before .if5 .left), sym (c .before .before .before .has2 .ensures) ∙ c .before .before .if6 .left, sym (c .before .has3 .ensures) ∙ c .if7 .left)
+returns-9 c = rw (door (c .before .before .before .before .before .before .before .before), breaker (c .before .before .before .before .before .before), pass (c .before .before .before .before), closed (c .before .before), no-iron c)
 
 pub door-passage-spec : {M : Type 1} → statement M
 door-passage-spec =
     tie.close
-    (tie.spec
-    has-requires
-    returns
-    returns-2
-    returns-3
-    returns-4
-    returns-5
-    has-requires-2
-    returns-6
-    has-requires-3
-    returns-7
-    returns-8
-    returns-9)
+    (tie.spec has-requires returns returns-2 returns-3 returns-4 returns-5 has-requires-2 returns-6 has-requires-3 returns-7 returns-8 returns-9)

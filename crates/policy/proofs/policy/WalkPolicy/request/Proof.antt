@@ -1,16 +1,13 @@
+-- `policy::policy::WalkPolicy::request` meets its contract. Assumes nothing.
 use lib.Ieee.{ofInt, ofBits}
 use Rattle.policy.specs.Request.{asked}
 use Rattle.policy.proofs.policy.WalkPolicy.request.Statement.{statement}
 use Rattle.policy.proofs.policy.WalkPolicy.request.Tie as tie
-use Rattle.policy.proofs.policy.WalkPolicy.request.Reads as reads
-use Rattle.policy.proofs.policy.WalkPolicy.request.Lts as lts
 
--- src/policy.rt:141:5
 returns : tie.Need-returns
 unfolding asked ofInt ofBits
 returns c = rw (c .if1 .taken)
 
--- src/policy.rt:141:5
 returns-2 : tie.Need-returns-2
 unfolding asked ofInt ofBits
 returns-2 c = rw (c .if1 .left)
