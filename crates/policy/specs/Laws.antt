@@ -46,7 +46,7 @@ module _ (g : Float) (j : Jump) where
   endless n e h = rw (e, h)
 
   -- a tick is left
-  goes : (n m : ℕ) → n ≡ suc m → rises g j ≡ true → after n g j ≡ after m g (tick g j)
+  pub goes : (n m : ℕ) → n ≡ suc m → rises g j ≡ true → after n g j ≡ after m g (tick g j)
   unfolding after
   goes n m e h = rw (e, h)
 

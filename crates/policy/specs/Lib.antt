@@ -5,3 +5,6 @@ pub mod Permission
 pub mod Jump
 pub mod Request
 pub mod Laws
+pub mod Unique
+pub mod Infinite
+pub mod Examples
