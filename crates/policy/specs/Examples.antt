@@ -5,7 +5,6 @@ use Prim.Native.Nat.{ℕ}
 use lib.Dec.{T, eqb}
 use lib.Ieee.{Float, binary32, binary64, ofBits, toBits, nan, fin, add, sub, mul, neg, lt, round}
 use Rattle.policy.specs.declared.policy.WalkPolicy.{WalkPolicy}
-use Rattle.policy.specs.Flags.{has}
 use Rattle.policy.specs.Answers.{shape, through, wall}
 use Rattle.policy.specs.Doors.{doorPassage, doorCase}
 use Rattle.policy.specs.Permission.{forbidden, permission}
@@ -40,5 +39,5 @@ pub marked : T (
     ∷ (0xbed7_0a3d, 0x3fb4_7ae1_47ae_147b, 0)
     ∷ (0x7f80_0000, 0x7ff0_0000_0000_0000, 0x7ff0_0000_0000_0000)
     ∷ []))
-unfolding has doorCase forbidden permission apexOf after drag ofBits toBits add sub mul neg lt round
+unfolding doorCase forbidden permission apexOf after drag ofBits toBits add sub mul neg lt round
 marked = tt

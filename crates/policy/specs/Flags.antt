@@ -22,5 +22,5 @@ abbrev pub OPEN : ℕ
 OPEN = 32
 
 -- whether a flag byte has a flag: the bit of that weight is 1
-unfoldable pub has : ℕ → ℕ → Bool
+abbrev pub has : ℕ → ℕ → Bool
 has flag bits = eqb (bits / flag % 2) 1

@@ -1,7 +1,6 @@
 // What is known of a block state, a bit for each fact (01: "The six flag bits are named once").
 ghost use mathlib.Core.Path.{_≡_};
-ghost use Prim.Native.Nat.{_<_};
-ghost use Rattle.policy.specs.Flags.{has};
+ghost use Rattle.policy.specs.Flags.{has, WATER, DAMAGING, GRASS, DOOR, IRON-DOOR, OPEN};
 
 pub struct Flags {
     pub bits: u8,
@@ -20,11 +19,39 @@ impl Flags {
     // A door half whose own state is open.
     pub const OPEN: u8 = 32;
 
-    // Whether a flag is set: one of the six, so a power of two.
-    pub(crate) fn has(self, flag: u8) -> bool
-        requires { ⌜ 0 < flag ⌝ }
-        ensures { λ r. ⌜ r ≡ has flag (self .bits) ⌝ }
+    pub fn is_water(self) -> bool
+        ensures { λ r. ⌜ r ≡ has WATER (self .bits) ⌝ }
     {
-        self.bits / flag % 2 == 1
+        self.bits / Flags::WATER % 2 == 1
+    }
+
+    pub fn is_damaging(self) -> bool
+        ensures { λ r. ⌜ r ≡ has DAMAGING (self .bits) ⌝ }
+    {
+        self.bits / Flags::DAMAGING % 2 == 1
+    }
+
+    pub fn is_grass(self) -> bool
+        ensures { λ r. ⌜ r ≡ has GRASS (self .bits) ⌝ }
+    {
+        self.bits / Flags::GRASS % 2 == 1
+    }
+
+    pub fn is_door(self) -> bool
+        ensures { λ r. ⌜ r ≡ has DOOR (self .bits) ⌝ }
+    {
+        self.bits / Flags::DOOR % 2 == 1
+    }
+
+    pub fn is_iron_door(self) -> bool
+        ensures { λ r. ⌜ r ≡ has IRON-DOOR (self .bits) ⌝ }
+    {
+        self.bits / Flags::IRON_DOOR % 2 == 1
+    }
+
+    pub fn is_open(self) -> bool
+        ensures { λ r. ⌜ r ≡ has OPEN (self .bits) ⌝ }
+    {
+        self.bits / Flags::OPEN % 2 == 1
     }
 }

@@ -53,7 +53,7 @@ impl WalkPolicy {
     pub fn door_passage(self, flags: Flags) -> Passage
         ensures { λ r. ⌜ passageNumber r ≡ doorPassage self (flags .bits) ⌝ }
     {
-        if !flags.has(Flags::DOOR) {
+        if !flags.is_door() {
             return Passage::Shape;
         }
         if !self.door_breaker {
@@ -68,10 +68,10 @@ impl WalkPolicy {
         if !self.can_pass_doors {
             return Passage::Wall;
         }
-        if flags.has(Flags::OPEN) {
+        if flags.is_open() {
             return Passage::Shape;
         }
-        if flags.has(Flags::IRON_DOOR) {
+        if flags.is_iron_door() {
             if self.can_open_iron_doors {
                 return Passage::Through;
             }
@@ -84,8 +84,8 @@ impl WalkPolicy {
     fn forbids(self, in_water: bool, flags: Flags) -> bool
         ensures { λ r. ⌜ r ≡ forbidden self «in_water» (flags .bits) ⌝ }
     {
-        let water = self.avoid_water & !in_water & flags.has(Flags::WATER);
-        let damage = self.avoid_damage_blocks & flags.has(Flags::DAMAGING);
+        let water = self.avoid_water & !in_water & flags.is_water();
+        let damage = self.avoid_damage_blocks & flags.is_damaging();
         water | damage
     }
 

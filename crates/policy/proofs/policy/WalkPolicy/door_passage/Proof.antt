@@ -11,10 +11,10 @@ use Rattle.policy.proofs.policy.WalkPolicy.door_passage.Tie as tie
 -- what each test showed, where it did
 
 no-door : (c : tie.Then1) → has DOOR (c .before .before .args .flags .bits) ≡ false
-no-door c = sym (c .before .has .ensures) ∙ not-true _ (c .if1 .taken)
+no-door c = sym (c .before .is-door .ensures) ∙ not-true _ (c .if1 .taken)
 
 door : (c : tie.Else1) → has DOOR (c .before .before .args .flags .bits) ≡ true
-door c = sym (c .before .has .ensures) ∙ not-false _ (c .if1 .left)
+door c = sym (c .before .is-door .ensures) ∙ not-false _ (c .if1 .left)
 
 no-breaker : (c : tie.Then2) → c .before .before .before .before .args .self .«door_breaker» ≡ false
 no-breaker c = not-true _ (c .if2 .taken)
@@ -29,19 +29,19 @@ pass : (c : tie.Else5) → c .before .before .before .before .before .before .ar
 pass c = not-false _ (c .if5 .left)
 
 ajar : (c : tie.Then6) → has OPEN (c .before .before .before .before .before .before .before .before .args .flags .bits) ≡ true
-ajar c = sym (c .before .has2 .ensures) ∙ c .if6 .taken
+ajar c = sym (c .before .is-open .ensures) ∙ c .if6 .taken
 
 closed : (c : tie.Else6) → has OPEN (c .before .before .before .before .before .before .before .before .args .flags .bits) ≡ false
-closed c = sym (c .before .has2 .ensures) ∙ c .if6 .left
+closed c = sym (c .before .is-open .ensures) ∙ c .if6 .left
 
 iron : (c : tie.Then7) → has IRON-DOOR (c .before .before .before .before .before .before .before .before .before .before .args .flags .bits) ≡ true
-iron c = sym (c .before .has3 .ensures) ∙ c .if7 .taken
+iron c = sym (c .before .is-iron-door .ensures) ∙ c .if7 .taken
 
 no-iron : (c : tie.Else7) → has IRON-DOOR (c .before .before .before .before .before .before .before .before .before .before .args .flags .bits) ≡ false
-no-iron c = sym (c .before .has3 .ensures) ∙ c .if7 .left
+no-iron c = sym (c .before .is-iron-door .ensures) ∙ c .if7 .left
 
-has-requires : tie.Need-has-requires
-has-requires c κs = search needs
+is-door-requires : tie.Need-is-door-requires
+is-door-requires c κs = search needs
 
 returns : tie.Need-returns
 unfolding doorCase
@@ -63,15 +63,15 @@ returns-5 : tie.Need-returns-5
 unfolding doorCase
 returns-5 c = rw (door (c .before .before .before .before), breaker (c .before .before), no-pass c)
 
-has-requires-2 : tie.Need-has-requires-2
-has-requires-2 c κs = search needs
+is-open-requires : tie.Need-is-open-requires
+is-open-requires c κs = search needs
 
 returns-6 : tie.Need-returns-6
 unfolding doorCase
 returns-6 c = rw (door (c .before .before .before .before .before .before), breaker (c .before .before .before .before), pass (c .before .before), ajar c)
 
-has-requires-3 : tie.Need-has-requires-3
-has-requires-3 c κs = search needs
+is-iron-door-requires : tie.Need-is-iron-door-requires
+is-iron-door-requires c κs = search needs
 
 returns-7 : tie.Need-returns-7
 unfolding doorCase
@@ -88,4 +88,4 @@ returns-9 c = rw (door (c .before .before .before .before .before .before .befor
 pub door-passage-spec : {M : Type 1} → statement M
 door-passage-spec =
     tie.close
-    (tie.spec has-requires returns returns-2 returns-3 returns-4 returns-5 has-requires-2 returns-6 has-requires-3 returns-7 returns-8 returns-9)
+    (tie.spec is-door-requires returns returns-2 returns-3 returns-4 returns-5 is-open-requires returns-6 is-iron-door-requires returns-7 returns-8 returns-9)

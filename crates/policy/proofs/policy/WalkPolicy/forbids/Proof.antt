@@ -4,15 +4,15 @@ use borrow.Author.Needs.{needs}
 use Rattle.policy.proofs.policy.WalkPolicy.forbids.Statement.{statement}
 use Rattle.policy.proofs.policy.WalkPolicy.forbids.Tie as tie
 
-has-requires : tie.Need-has-requires
-has-requires c κs = search needs
+is-water-requires : tie.Need-is-water-requires
+is-water-requires c κs = search needs
 
-has-requires-2 : tie.Need-has-requires-2
-has-requires-2 c κs = search needs
+is-damaging-requires : tie.Need-is-damaging-requires
+is-damaging-requires c κs = search needs
 
 returns : tie.Need-returns
 unfolding forbidden
 returns c = cc
 
 pub forbids-spec : {M : Type 1} → statement M
-forbids-spec = tie.close (tie.spec has-requires has-requires-2 returns)
+forbids-spec = tie.close (tie.spec is-water-requires is-damaging-requires returns)
