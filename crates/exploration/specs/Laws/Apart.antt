@@ -1,4 +1,4 @@
--- Points that are pairwise not the same, and how many of them a list that covers them must have. Assumes nothing.
+-- Points that are pairwise not the same, and how many of them a list that covers them must have.
 use mathlib.Core.Path.{_≡_, refl, ap}
 use mathlib.Core.Bool.{Bool, true, false, _||_}
 use mathlib.Core.List.{List, [], _∷_, _++_}

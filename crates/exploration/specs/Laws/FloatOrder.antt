@@ -22,13 +22,6 @@ abbrev under : Bool → ℕ → ℕ
 under false a = 0
 under true a = a
 
--- two tests that pass together are one
-both-ways : (x y : Bool) → (x ≡ true → y ≡ true) → (y ≡ true → x ≡ true) → x ≡ y
-both-ways true true f g = refl
-both-ways true false f g = sym (f refl)
-both-ways false true f g = g refl
-both-ways false false f g = refl
-
 -- two whole numbers, by their comparisons
 data Numbers (a b : ℕ) : Type 0 where
   less : a < b → ltb a b ≡ true → ltb b a ≡ false → eqb a b ≡ false → eqb b a ≡ false → Numbers a b

@@ -48,10 +48,6 @@ next-is g true theirs = own refl
 next-is g false true = pass refl refl
 next-is g false false = nobody refl refl
 
-other-other : (g : Guide) → other (other g) ≡ g
-other-other one = refl
-other-other two = refl
-
 abbrev isOne : Guide → Bool
 isOne one = true
 isOne two = false

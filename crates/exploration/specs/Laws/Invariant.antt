@@ -1,4 +1,4 @@
--- What holds of the retained nodes throughout a run. Assumes nothing.
+-- What holds of the retained nodes throughout a run.
 use mathlib.Core.Path.{_≡_, refl, sym, ap, _∙_}
 use mathlib.Core.Bool.{true, false, not}
 use mathlib.Core.Option.{Option, none, some}

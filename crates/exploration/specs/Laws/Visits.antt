@@ -1,4 +1,4 @@
--- One graph step of an expansion, by its four cases. Assumes nothing.
+-- One graph step of an expansion, by its four cases.
 use mathlib.Core.Path.{_≡_, refl}
 use mathlib.Core.Bool.{Bool, true, false}
 use mathlib.Core.Option.{Option, none, some}
