@@ -2,7 +2,6 @@
 use mathlib.Core.Bool.{Bool, true, false, _||_}
 use mathlib.Core.List.{List, [], _∷_}
 use Prim.Native.Nat.{ℕ, zero, suc, _+_}
-
 -- the element at a place, counted from 0
 pub use lib.ListN.{getElem? as nth}
 

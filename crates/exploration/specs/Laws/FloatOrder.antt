@@ -116,8 +116,21 @@ chain x x' y y' z z' p q r h i j = le-of-mul-le-mul-right {k = q} (goal (scale i
     scale e k = mul-le-mul-right k e
 
     goal : (x * q + y' * p) * r ≤ (y * p + x' * q) * r → (y * r + z' * q) * p ≤ (z * q + y' * r) * p → (x * r + z' * p) * q ≤ (z * p + x' * r) * q
-    goal a b = omega (arith, add-mul (x * q) (y' * p) r, add-mul (y * p) (x' * q) r, add-mul (y * r) (z' * q) p, add-mul (z * q) (y' * r) p, add-mul (x * r) (z' * p) q, add-mul (z * p) (x' * r) q,
-        mul-right-comm x q r, mul-right-comm y' p r, mul-right-comm y p r, mul-right-comm x' q r, mul-right-comm z' q p, mul-right-comm z q p)
+    goal a b = omega (
+      arith,
+      add-mul (x * q) (y' * p) r,
+      add-mul (y * p) (x' * q) r,
+      add-mul (y * r) (z' * q) p,
+      add-mul (z * q) (y' * r) p,
+      add-mul (x * r) (z' * p) q,
+      add-mul (z * p) (x' * r) q,
+      mul-right-comm x q r,
+      mul-right-comm y' p r,
+      mul-right-comm y p r,
+      mul-right-comm x' q r,
+      mul-right-comm z' q p,
+      mul-right-comm z q p,
+    )
 
 -- ≤ on finite floats, by their parts over their denominators
 module _ (s : Bool) (m : ℕ) (e : ℤ) (t : Bool) (n : ℕ) (d : ℤ) where
