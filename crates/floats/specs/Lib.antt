@@ -2,3 +2,4 @@ pub mod Floats
 pub mod Patterns
 pub mod Laws
 pub mod Order
+pub mod Sums
