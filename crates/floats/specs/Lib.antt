@@ -4,3 +4,4 @@ pub mod Laws
 pub mod Order
 pub mod Zeros
 pub mod Identical
+pub mod Sums

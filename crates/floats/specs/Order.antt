@@ -171,7 +171,7 @@ high-end (inf true) h = false-true h
 high-end (inf false) h = refl
 high-end (fin s m e) h = false-true h
 
-top-end : (x : Float) → isNan x ≡ false → le x (inf false) ≡ true
+pub top-end : (x : Float) → isNan x ≡ false → le x (inf false) ≡ true
 unfolding le lt eq isNan
 top-end nan h = false-true (sym h)
 top-end (inf true) h = refl

@@ -1,17 +1,21 @@
 -- 01, The graph, "Supported segment". Definitions only.
-use mathlib.Core.Bool.{Bool, true, false, not, _&&_, _||_, cond}
+use mathlib.Core.Bool.{Bool, true, false, _&&_, _||_, cond}
 use mathlib.Core.Option.{Option, none, some}
 use mathlib.Core.List.{List, [], _∷_, map}
 use lib.IntN.{ℤ, pos, _-ℤ_}
 use lib.Ieee.{Float, binary64, lt, le, eq, add, sub, mul, div, ofBits}
 use Rattle.floats.specs.Floats.{E, nought, smaller, larger}
 use Rattle.cells.specs.Cells.{floorCell, ceilCell}
-use Rattle.cells.specs.Ranges.{along}
+use Rattle.cells.specs.Ranges.{range, across}
+use Rattle.cells.specs.declared.ranges.Range.{Range}
 use Rattle.world.specs.declared.Point.{Point}
 use Rattle.world.specs.declared.Aabb.{Aabb}
 use Rattle.world.specs.Boxes.{one}
 use Rattle.world.specs.Space.{Space, Block}
-use Rattle.support.specs.Cover.{Interval, covers}
+use Rattle.support.specs.declared.Interval.{Interval}
+use Rattle.support.specs.declared.Span.{Span}
+use Rattle.support.specs.declared.Span.the-variants.{Over, Nowhere}
+use Rattle.support.specs.Cover.{covers}
 
 -- 0.5
 abbrev pub halfOne : Float
@@ -34,13 +38,23 @@ pub record Shape : Type 0 where
 unfoldable pub shapesOf : Block → List Shape
 shapesOf b = map (λ (x : Aabb). record { support = b .support; box = x }) (b .boxes)
 
--- "cells run from floor(low y) - 2 to floor(high y), in x and z from its floor(min) to ceil(max) - 1": in y, x, z order
+-- the shapes of a row of cells along z, of a layer's rows along x, and of layers along y
+unfoldable pub rowShapes : Space → ℤ → ℤ → Range → List Shape
+rowShapes sp x y zs = across (λ z. shapesOf (sp x y z)) zs
+
+unfoldable pub layerShapes : Space → ℤ → Range → Range → List Shape
+layerShapes sp y xs zs = across (λ x. rowShapes sp x y zs) xs
+
+unfoldable pub allShapes : Space → Range → Range → Range → List Shape
+allShapes sp ys xs zs = across (λ y. layerShapes sp y xs zs) ys
+
+-- "cells run from floor(low y) - 2 to floor(high y), in x and z from its floor(min) to ceil(max) - 1"
 unfoldable pub shapesUnder : Space → Aabb → List Shape
 shapesUnder sp f =
-    along (λ y. along (λ x. along (λ z. shapesOf (sp x y z))
-    (floorCell (f .min .z)) (ceilCell (f .max .z) -ℤ pos 1))
-    (floorCell (f .min .x)) (ceilCell (f .max .x) -ℤ pos 1))
-    (floorCell (f .min .y) -ℤ pos 2) (floorCell (f .max .y))
+    allShapes sp
+    (range (floorCell (f .min .y) -ℤ pos 2) (floorCell (f .max .y)))
+    (range (floorCell (f .min .x)) (ceilCell (f .max .x) -ℤ pos 1))
+    (range (floorCell (f .min .z)) (ceilCell (f .max .z) -ℤ pos 1))
 
 -- "A shape counts if its top is within E of the span and it overlaps the footprint strictly in x and z."
 unfoldable pub counts : Aabb → Aabb → Bool
@@ -69,6 +83,11 @@ interval b from to =
     andThen (narrowed (from .z) (sub binary64 (to .z) (from .z)) (b .min .z) (b .max .z) i) (λ j.
     cond (le (j .begin) (j .end)) (some j) none))
 
+-- what the code's answer says: an interval, or none
+abbrev pub told : Span → Option Interval
+told (Over i) = some i
+told Nowhere = none
+
 -- the shapes that count, their intervals, and whether each of them has bit 2
 unfoldable pub counting : Aabb → List Shape → List Shape
 counting f [] = []
@@ -87,8 +106,11 @@ unfoldable pub allSupport : List Shape → Bool
 allSupport [] = true
 allSupport (s ∷ ss) = s .support && allSupport ss
 
+-- the shapes under a footprint carry a body from one foot to the other
+unfoldable pub carried : Aabb → Point → Point → List Shape → Bool
+carried f from to ss = allSupport (counting f ss) && covers (intervals from to (counting f ss))
+
 unfoldable pub supported : Space → Float → Point → Point → Bool
 supported sp width from to =
     let f = footprint width from to in
-    let ss = counting f (shapesUnder sp f) in
-    allSupport ss && covers (intervals from to ss)
+    carried f from to (shapesUnder sp f)
