@@ -1,0 +1,83 @@
+-- Laws that the code's loops and branches go by.
+use Prim.Native.Nat.{ℕ, zero, suc, _+_, _-_, _*_, _≤_, _<_}
+use native.Mathlib.Omega.{arith}
+use mathlib.Core.Path.{_≡_, refl, sym, ap, _∙_}
+use mathlib.Core.Bool.{Bool, true, false, not, cond}
+use mathlib.Core.List.{List, [], _∷_, map}
+use lib.ListN.{length, drop, drop-of-length-le}
+use lib.Ieee.{Float}
+use Rattle.world.specs.declared.Point.{Point}
+use Rattle.world.specs.declared.Aabb.{Aabb}
+use Rattle.world.specs.declared.Found.{Found}
+use Rattle.world.specs.declared.Found.the-variants.{Here, End}
+use Rattle.world.specs.declared.Cell.{Cell}
+use Rattle.world.specs.declared.Cell.the-variants.{Unknown, Known}
+use Rattle.world.specs.Boxes.{moved}
+use Rattle.world.specs.Space.{run, boxHere, blockOf}
+use Rattle.world.specs.Laws.{no-box}
+use Rattle.heights.specs.declared.Band.{Band}
+use Rattle.heights.specs.declared.Height.{Height}
+use Rattle.heights.specs.Heights.{reaches, topsOf, topsIn}
+use Rattle.heights.specs.Next.{better, pass}
+
+module _ (band : Band) (x z : Float) (after : Height) where
+  -- ---- a run of boxes, moved by a point
+
+  abbrev pub runPass : Point → Height → List ℕ → ℕ → ℕ → Height
+  runPass by best s left at = pass after best (topsOf band x z (map (λ (b : Aabb). moved b by) (run left s at)))
+
+  -- what one box makes of the best so far
+  abbrev pub taken : Height → Aabb → Height
+  taken best b = cond (reaches band x z b) (better after best (b .max .y)) best
+
+  pass-cons : (best : Height) (b : Aabb) (bs : List Aabb) → pass after best (topsOf band x z (b ∷ bs)) ≡ pass after (taken best b) (topsOf band x z bs)
+  unfolding topsOf pass
+  pass-cons best b bs = pick (reaches band x z b)
+    where
+      pick : (t : Bool) → pass after best (cond t (b .max .y ∷ topsOf band x z bs) (topsOf band x z bs)) ≡ pass after (cond t (better after best (b .max .y)) best) (topsOf band x z bs)
+      pick true = refl
+      pick false = refl
+
+  module _ (by : Point) (best : Height) (s : List ℕ) (at : ℕ) where
+    -- the table ends here
+    pub run-end : (left : ℕ) → 0 < left → boxHere s at ≡ End → runPass by best s left at ≡ best
+    unfolding run topsOf pass
+    run-end zero h e = absurd (omega arith)
+    run-end (suc n) h e = rw e
+
+    -- one box more
+    pub run-on : (left : ℕ) (b : Aabb) → 0 < left → boxHere s at ≡ Here b → runPass by best s left at ≡ runPass by (taken best (moved b by)) s (left - 1) (at + 48)
+    unfolding run
+    run-on zero b h e = absurd (omega arith)
+    run-on (suc n) b h e = let k : suc n - 1 ≡ n = omega arith in rw (e, k) (pass-cons best (moved b by) _)
+
+    -- no box is left
+    pub run-none : (left : ℕ) → left ≤ 0 → runPass by best s left at ≡ best
+    unfolding run topsOf pass
+    run-none zero h = refl
+    run-none (suc n) h = absurd (omega arith)
+
+  -- past its end a table has no boxes
+  pub past : (by : Point) (best : Height) (s : List ℕ) (n left : ℕ) → length s < n → runPass by best (drop n s) left 0 ≡ best
+  unfolding run topsOf pass
+  past by best s n left h = rw (drop-of-length-le s {i = n} (omega arith)) (empty left)
+    where
+      empty : (k : ℕ) → runPass by best [] k 0 ≡ best
+      empty zero = refl
+      empty (suc k) = rw (no-box [] 0 (omega arith))
+
+  -- ---- a cell, by the tests on it
+
+  module _ (boxes : List ℕ) (p : Point) (best : Height) where
+    pub unknown-none : pass after best (topsIn band x z (blockOf boxes Unknown p)) ≡ best
+    unfolding topsIn blockOf pass
+    unknown-none = refl
+
+    pub no-support : (o s : Bool) (first many : ℕ) → s ≡ false → pass after best (topsIn band x z (blockOf boxes (Known o s first many) p)) ≡ best
+    unfolding topsIn blockOf pass
+    no-support o s first many e = rw e
+
+    pub supports : (o s : Bool) (first many : ℕ) → s ≡ true →
+        pass after best (topsIn band x z (blockOf boxes (Known o s first many) p)) ≡ runPass p best (drop (48 * first) boxes) many 0
+    unfolding topsIn blockOf
+    supports o s first many e = rw e
