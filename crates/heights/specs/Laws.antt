@@ -2,10 +2,13 @@
 use Prim.Native.Nat.{ℕ, zero, suc, _+_, _-_, _*_, _≤_, _<_}
 use native.Mathlib.Omega.{arith}
 use mathlib.Core.Path.{_≡_, refl, sym, ap, _∙_}
-use mathlib.Core.Bool.{Bool, true, false, not, cond}
+use mathlib.Core.Bool.{Bool, true, false, not, _&&_, cond}
 use mathlib.Core.List.{List, [], _∷_, map}
 use lib.ListN.{length, drop, drop-of-length-le}
-use lib.Ieee.{Float}
+use lib.Ieee.{Float, binary64, le, add, sub, isNan}
+use Rattle.floats.specs.Floats.{E}
+use Rattle.floats.specs.Order.{le-left}
+use Rattle.cells.specs.Ranges.{range, across, along}
 use Rattle.world.specs.declared.Point.{Point}
 use Rattle.world.specs.declared.Aabb.{Aabb}
 use Rattle.world.specs.declared.Found.{Found}
@@ -13,12 +16,12 @@ use Rattle.world.specs.declared.Found.the-variants.{Here, End}
 use Rattle.world.specs.declared.Cell.{Cell}
 use Rattle.world.specs.declared.Cell.the-variants.{Unknown, Known}
 use Rattle.world.specs.Boxes.{moved}
-use Rattle.world.specs.Space.{run, boxHere, blockOf}
+use Rattle.world.specs.Space.{Space, Block, run, boxHere, blockOf}
 use Rattle.world.specs.Laws.{no-box}
 use Rattle.heights.specs.declared.Band.{Band}
 use Rattle.heights.specs.declared.Height.{Height}
-use Rattle.heights.specs.Heights.{reaches, topsOf, topsIn}
-use Rattle.heights.specs.Next.{better, pass}
+use Rattle.heights.specs.Heights.{reaches, topsOf, topsIn, tops}
+use Rattle.heights.specs.Next.{better, pass, Numbers, numbers-gather}
 
 module _ (band : Band) (x z : Float) (after : Height) where
   -- ---- a run of boxes, moved by a point
@@ -31,7 +34,7 @@ module _ (band : Band) (x z : Float) (after : Height) where
   taken best b = cond (reaches band x z b) (better after best (b .max .y)) best
 
   pass-cons : (best : Height) (b : Aabb) (bs : List Aabb) → pass after best (topsOf band x z (b ∷ bs)) ≡ pass after (taken best b) (topsOf band x z bs)
-  unfolding topsOf pass
+  unfolding topsOf
   pass-cons best b bs = pick (reaches band x z b)
     where
       pick : (t : Bool) → pass after best (cond t (b .max .y ∷ topsOf band x z bs) (topsOf band x z bs)) ≡ pass after (cond t (better after best (b .max .y)) best) (topsOf band x z bs)
@@ -41,7 +44,7 @@ module _ (band : Band) (x z : Float) (after : Height) where
   module _ (by : Point) (best : Height) (s : List ℕ) (at : ℕ) where
     -- the table ends here
     pub run-end : (left : ℕ) → 0 < left → boxHere s at ≡ End → runPass by best s left at ≡ best
-    unfolding run topsOf pass
+    unfolding run topsOf
     run-end zero h e = absurd (omega arith)
     run-end (suc n) h e = rw e
 
@@ -53,13 +56,13 @@ module _ (band : Band) (x z : Float) (after : Height) where
 
     -- no box is left
     pub run-none : (left : ℕ) → left ≤ 0 → runPass by best s left at ≡ best
-    unfolding run topsOf pass
+    unfolding run topsOf
     run-none zero h = refl
     run-none (suc n) h = absurd (omega arith)
 
   -- past its end a table has no boxes
   pub past : (by : Point) (best : Height) (s : List ℕ) (n left : ℕ) → length s < n → runPass by best (drop n s) left 0 ≡ best
-  unfolding run topsOf pass
+  unfolding run topsOf
   past by best s n left h = rw (drop-of-length-le s {i = n} (omega arith)) (empty left)
     where
       empty : (k : ℕ) → runPass by best [] k 0 ≡ best
@@ -70,14 +73,48 @@ module _ (band : Band) (x z : Float) (after : Height) where
 
   module _ (boxes : List ℕ) (p : Point) (best : Height) where
     pub unknown-none : pass after best (topsIn band x z (blockOf boxes Unknown p)) ≡ best
-    unfolding topsIn blockOf pass
+    unfolding topsIn blockOf
     unknown-none = refl
 
     pub no-support : (o s : Bool) (first many : ℕ) → s ≡ false → pass after best (topsIn band x z (blockOf boxes (Known o s first many) p)) ≡ best
-    unfolding topsIn blockOf pass
+    unfolding topsIn blockOf
     no-support o s first many e = rw e
 
     pub supports : (o s : Bool) (first many : ℕ) → s ≡ true →
         pass after best (topsIn band x z (blockOf boxes (Known o s first many) p)) ≡ runPass p best (drop (48 * first) boxes) many 0
     unfolding topsIn blockOf
     supports o s first many e = rw e
+
+-- ---- a top that is in the band is no NaN
+
+last-holds : (a b : Bool) → (a && b) ≡ true → b ≡ true
+last-holds true b e = e
+last-holds false true e = refl
+last-holds false false e = e
+
+module _ (band : Band) (x z : Float) where
+  top-number : (b : Aabb) → reaches band x z b ≡ true → isNan (b .max .y) ≡ false
+  unfolding reaches
+  top-number b e = le-left (b .max .y) (add binary64 (band .high) E)
+      (last-holds (le (b .min .x) x && le x (b .max .x) && le (b .min .z) z && le z (b .max .z) && le (sub binary64 (band .low) E) (b .max .y)) (le (b .max .y) (add binary64 (band .high) E)) e)
+
+  numbers-tops : (bs : List Aabb) → Numbers (topsOf band x z bs)
+  unfolding topsOf
+  numbers-tops [] = tt
+  numbers-tops (b ∷ bs) = pick (reaches band x z b) (top-number b) (numbers-tops bs)
+    where
+      pick : (t : Bool) → (t ≡ true → isNan (b .max .y) ≡ false) → Numbers (topsOf band x z bs) → Numbers (cond t (b .max .y ∷ topsOf band x z bs) (topsOf band x z bs))
+      pick true f r = (f refl, r)
+      pick false f r = r
+
+  numbers-in : (b : Block) → Numbers (topsIn band x z b)
+  unfolding topsIn
+  numbers-in b = pick (b .support)
+    where
+      pick : (t : Bool) → Numbers (cond t (topsOf band x z (b .boxes)) [])
+      pick true = numbers-tops (b .boxes)
+      pick false = tt
+
+  pub numbers : (sp : Space) → Numbers (tops sp band x z)
+  unfolding tops along across
+  numbers sp = numbers-gather _ (λ k. numbers-in _) 0 _

@@ -2,10 +2,11 @@
 use Prim.Native.Nat.{ℕ, zero, suc}
 use mathlib.Core.Path.{_≡_, refl, sym, ap, _∙_, subst}
 use mathlib.Core.Bool.{Bool, true, false, not, _&&_, _||_, cond}
-use mathlib.Core.List.{List, [], _∷_, _++_}
+use mathlib.Core.List.{List, [], _∷_, _++_, foldl}
 use lib.Ieee.{Float, lt, le, isNan}
 use native.Mathlib.Omega.{arith}
 use Rattle.floats.specs.Order.{le-refl, le-trans, le-left, le-right, lt-le, lt-trans, lt-left, lt-right, not-lt, not-le, le-not-lt, lt-le-trans, le-lt-trans}
+use Rattle.cells.specs.Ranges.{gather}
 use Rattle.heights.specs.declared.Height.{Height}
 use Rattle.heights.specs.declared.Height.the-variants.{At, None}
 use Rattle.heights.specs.Heights.{insert, sorted, within, thinned, thinnedAfter, keptAfter, firstOf}
@@ -25,14 +26,8 @@ lower (At u) (At t) = cond (lt t u) (At t) (At u)
 unfoldable pub better : Height → Height → Float → Height
 better after best t = cond (beyond after t) (lower best (At t)) best
 
-unfoldable pub pass : Height → Height → List Float → Height
-pass after best [] = best
-pass after best (t ∷ ts) = pass after (better after best t) ts
-
-pub pass-append : (after best : Height) (ts us : List Float) → pass after best (ts ++ us) ≡ pass after (pass after best ts) us
-unfolding pass
-pass-append after best [] us = refl
-pass-append after best (t ∷ ts) us = pass-append after (better after best t) ts us
+abbrev pub pass : Height → Height → List Float → Height
+pass after best ts = foldl (better after) best ts
 
 -- ---- numbers only
 
@@ -40,9 +35,14 @@ abbrev pub Numbers : List Float → Type 0
 Numbers [] = Unit {0}
 Numbers (t ∷ ts) = (isNan t ≡ false) × Numbers ts
 
-pub numbers-append : (ts us : List Float) → Numbers ts → Numbers us → Numbers (ts ++ us)
+numbers-append : (ts us : List Float) → Numbers ts → Numbers us → Numbers (ts ++ us)
 numbers-append [] us p q = q
 numbers-append (t ∷ ts) us p q = (p .0, numbers-append ts us (p .1) q)
+
+pub numbers-gather : (f : ℕ → List Float) → ((k : ℕ) → Numbers (f k)) → (k n : ℕ) → Numbers (gather f k n)
+unfolding gather
+numbers-gather f h k zero = tt
+numbers-gather f h k (suc n) = numbers-append (f k) (gather f (suc k) n) (h k) (numbers-gather f h (suc k) n)
 
 -- t is at most each
 abbrev Least : Float → List Float → Type 0
@@ -180,7 +180,7 @@ number-lower (At u) t p n = pick (lt t u)
     pick false = p
 
 pass-first : (after best : Height) (ts : List Float) → Number best → Numbers ts → pass after best ts ≡ lower best (firstBeyond after (sorted ts))
-unfolding pass sorted better
+unfolding sorted better
 pass-first after best [] p n = sym (none-lower best)
 pass-first after best (t ∷ ts) p n =
     go (beyond after t) (first-insert after t (sorted ts) (n .0) (upward-sorted ts (n .1)))

@@ -1,4 +1,5 @@
 // The heights of a column (01, The graph, "Graph step"): the box tops that a step may go to, the next smallest one a call.
+use cells::ranges::Range;
 use world::Aabb;
 use world::Cell;
 use world::Found;
@@ -6,16 +7,14 @@ use world::Point;
 use world::Window;
 ghost use mathlib.Core.Path.{_≡_};
 ghost use mathlib.Core.List.{map};
-ghost use Prim.Native.Nat.{_*_, _≤_, _^_};
-ghost use lib.IntN.{pos, _-ℤ_};
+ghost use Prim.Native.Nat.{_*_};
 ghost use lib.ListN.{drop};
-ghost use lib.Signed.{mag};
-ghost use Rattle.cells.specs.Cells.{floorCell};
-ghost use Rattle.cells.specs.Ranges.{count, along};
+ghost use Rattle.cells.specs.Ranges.{across};
+ghost use Rattle.cells.specs.RangeLaws.{Near};
 ghost use Rattle.world.specs.declared.Aabb.{Aabb};
 ghost use Rattle.world.specs.Boxes.{moved};
 ghost use Rattle.world.specs.Space.{run, space};
-ghost use Rattle.heights.specs.Heights.{bandFrom, reaches, topsOf, topsIn, tops, sorted, nextAfter};
+ghost use Rattle.heights.specs.Heights.{bandFrom, reaches, topsOf, topsIn, nextAfter};
 ghost use Rattle.heights.specs.Laws.{taken};
 ghost use Rattle.heights.specs.Next.{beyond, lower, better, pass};
 
@@ -175,4 +174,58 @@ fn cell_next(
             }
         }
     }
+}
+
+// The best of the cells of a column in some layers.
+fn column_next(
+    w: Window,
+    cells: &[u8],
+    perms: &[u8],
+    shapes: &[u8],
+    boxes: &[u8],
+    band: Band,
+    x: f64,
+    z: f64,
+    cx: i64,
+    layers: Range,
+    cz: i64,
+    after: Height,
+) -> Height
+    requires { ⌜ Near layers ⌝ }
+    ensures { λ r. ⌜ r ≡ pass after Height.None (across (λ y. topsIn band x z (space w (now (cells .entry)) (now (perms .entry)) (now (shapes .entry)) (now (boxes .entry)) cx y cz)) layers) ⌝ }
+{
+    let low = layers.first;
+    let n = layers.count;
+    let mut best = Height::None;
+    let mut k: usize = 0;
+    while k < n {
+        let y = low + (k as i64);
+        best = cell_next(
+            w, cells, perms, shapes, boxes, band, x, z, cx, y, cz, after, best,
+        );
+        k += 1;
+    }
+    best
+}
+
+// The next of the heights of the column with the centre (x, z), after the last kept one.
+pub fn next_height(
+    w: Window,
+    cells: &[u8],
+    perms: &[u8],
+    shapes: &[u8],
+    boxes: &[u8],
+    band: Band,
+    x: f64,
+    z: f64,
+    after: Height,
+) -> Height
+    ensures { λ r. ⌜ r ≡ nextAfter (space w (now (cells .entry)) (now (perms .entry)) (now (shapes .entry)) (now (boxes .entry))) band x z after ⌝ }
+{
+    let cx = cells::floor_cell(x);
+    let cz = cells::floor_cell(z);
+    let layers = cells::ranges::floors(band.low, band.high, 2);
+    column_next(
+        w, cells, perms, shapes, boxes, band, x, z, cx, layers, cz, after,
+    )
 }

@@ -68,8 +68,8 @@ graph sp r body = record {
   same = samePoint;
   alike = alike;
   start = feetOf (r .start);
-  first = standing;
+  startLabel = standing;
   goal = feetOf (r .goal);
   steps = λ p. map stepOf (stepsFrom sp r body (pointOf p));
-  finish = λ p. labelIf (connector sp r body (pointOf p));
+  connector = λ p. labelIf (connector sp r body (pointOf p));
 }

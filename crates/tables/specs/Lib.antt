@@ -1,0 +1,3 @@
+pub mod BadWorld
+pub mod Laws
+pub mod Good

@@ -1,0 +1,26 @@
+-- `world::boxes::corner_of` meets its contract. Assumes nothing.
+use mir.Syntax.{w64}
+use mir.Facts.{toZ-ofZ}
+use Rattle.world.specs.Boxes.{corner}
+use borrow.Author.Needs.{needs}
+use Rattle.world.proofs.boxes.corner_of.Statement.{statement}
+use Rattle.world.proofs.boxes.corner_of.Tie as tie
+
+float-cell-requires : tie.Need-float-cell-requires
+float-cell-requires c κs = search needs
+
+float-cell-requires-2 : tie.Need-float-cell-requires-2
+float-cell-requires-2 c κs = search needs
+
+float-cell-requires-3 : tie.Need-float-cell-requires-3
+float-cell-requires-3 c κs = search needs
+
+returns : tie.Need-returns
+unfolding corner
+returns c =
+    let s = c .before .before .before in
+    cc (toZ-ofZ {w = w64} (s .fits .x), toZ-ofZ {w = w64} (s .fits .y), toZ-ofZ {w = w64} (s .fits .z))
+
+pub corner-of-spec : {M : Type 1} → statement M
+corner-of-spec =
+    tie.close (tie.spec float-cell-requires float-cell-requires-2 float-cell-requires-3 returns)
