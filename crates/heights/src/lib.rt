@@ -1,5 +1,5 @@
 // The heights of a column (01, The graph, "Graph step"): the box tops that a step may go to, the next smallest one a call.
-use cells::ranges::Range;
+use cells::Range;
 use world::Aabb;
 use world::Cell;
 use world::Found;
@@ -67,13 +67,7 @@ fn lower_of(best: Height, top: f64) -> Height
     ensures { λ r. ⌜ r ≡ lower best (Height.At top) ⌝ }
 {
     match best {
-        Height::At(least) => {
-            if top < least {
-                Height::At(top)
-            } else {
-                best
-            }
-        }
+        Height::At(least) => { if top < least { Height::At(top) } else { best } }
         Height::None => Height::At(top),
     }
 }
@@ -101,7 +95,16 @@ fn take_box(band: Band, x: f64, z: f64, after: Height, best: Height, b: Aabb) ->
 }
 
 // The best of so many box records of a part of the table, moved by a point.
-fn run_next(part: &[u8], boxes: u32, by: Point, band: Band, x: f64, z: f64, after: Height, best: Height) -> Height
+fn run_next(
+    part: &[u8],
+    boxes: u32,
+    by: Point,
+    band: Band,
+    x: f64,
+    z: f64,
+    after: Height,
+    best: Height,
+) -> Height
     ensures { λ r. ⌜ r ≡ pass after best (topsOf band x z (map (λ (b : Aabb). moved b by) (run boxes (now (part .entry)) 0))) ⌝ }
 {
     let mut left = boxes;
@@ -201,7 +204,19 @@ fn column_next(
     while k < n {
         let y = low + (k as i64);
         best = cell_next(
-            w, cells, perms, shapes, boxes, band, x, z, cx, y, cz, after, best,
+            w,
+            cells,
+            perms,
+            shapes,
+            boxes,
+            band,
+            x,
+            z,
+            cx,
+            y,
+            cz,
+            after,
+            best,
         );
         k += 1;
     }
@@ -224,8 +239,19 @@ pub fn next_height(
 {
     let cx = cells::floor_cell(x);
     let cz = cells::floor_cell(z);
-    let layers = cells::ranges::floors(band.low, band.high, 2);
+    let layers = cells::floors(band.low, band.high, 2);
     column_next(
-        w, cells, perms, shapes, boxes, band, x, z, cx, layers, cz, after,
+        w,
+        cells,
+        perms,
+        shapes,
+        boxes,
+        band,
+        x,
+        z,
+        cx,
+        layers,
+        cz,
+        after,
     )
 }
