@@ -7,6 +7,7 @@ ghost use Rattle.cells.specs.Cells.{floorCell, ceilCell, Small, wholeBy,
 
 // The ends of an i32.
 const LOWEST: i64 = -2147483648;
+
 const HIGHEST: i64 = 2147483647;
 
 // The whole part of a small number.

@@ -113,7 +113,10 @@ fn argument(kind: u64, word: u64) -> f64 {
         2 => with_exponent(word, 1022 - (word >> 52) % 60),
         3 => {
             let whole = floats::bits_of(cells::float_cell(cells::floor_cell(sized(word))));
-            floats::float_of(std::num::wrapping_sub_u64(std::num::wrapping_add_u64(whole, word % 3), 1))
+            floats::float_of(std::num::wrapping_sub_u64(
+                std::num::wrapping_add_u64(whole, word % 3),
+                1,
+            ))
         }
         _ => cells::float_cell(cells::floor_cell(sized(word))) + 0.5,
     }
