@@ -1,1 +1,23 @@
-//! A plain reading of document 01 (to be written).
+//! A plain reading of document 01, written apart from the original: what each
+//! sentence says, one function a paragraph, without a thought for speed.
+//!
+//! It comes with variants, each of which misreads one sentence on purpose, so
+//! that a scene can be shown to tell the sentence from its misreading.
+
+mod boxes;
+mod graph;
+mod policy;
+mod route;
+mod search;
+mod variant;
+
+mod world;
+
+pub use graph::{E, Graph};
+pub use policy::{
+    DAMAGING, DOOR, GRASS, IRON_DOOR, OPEN, Passage, Policy, WATER, fill_permissions,
+    find_path_request, jump_apex, passage, permission,
+};
+pub use route::{is_route, reachable_points};
+pub use search::{Rooms, bad_world, search, search_in, too_large, valid_request};
+pub use variant::{Variant, VARIANTS};
