@@ -1,6 +1,62 @@
-//! Single-edit variants of the reading, run over scenes (to be written).
+//! Single-edit variants of the reading, run over scenes. README.md says what
+//! each command does.
 
-/// Runs the variants with the given arguments; false if one survives.
-pub fn run(_arguments: &[String]) -> bool {
-    unimplemented!("the variants are not written yet")
+mod agree;
+mod chance;
+mod compare;
+mod draft;
+mod hunt;
+mod shrink;
+mod table;
+
+use std::path::PathBuf;
+
+use reading::{VARIANTS, Variant};
+
+const USAGE: &str = "\
+oracle mutants
+oracle mutants agree SEED COUNT
+oracle mutants hunt SEED COUNT ENOUGH [NAME ..]
+";
+
+/// Runs a command; false if a variant survives, or the reading and the
+/// original part.
+pub fn run(arguments: &[String]) -> bool {
+    let words: Vec<&str> = arguments.iter().map(String::as_str).collect();
+    match words[..] {
+        [] => table::table(&scenes(), 0, 20_000),
+        ["agree", seed, count] => agree::agree(number(seed), number(count)),
+        ["hunt", seed, count, enough, ref names @ ..] => {
+            let first = number(seed);
+            let seeds = first..first + number(count);
+            let enough = number(enough) as usize;
+            hunt::hunt(&chosen(names), seeds, enough, &draft::draft, &scenes());
+            true
+        }
+        _ => {
+            eprint!("{USAGE}");
+            false
+        }
+    }
+}
+
+/// The directed scenes.
+fn scenes() -> PathBuf {
+    PathBuf::from(concat!(env!("CARGO_MANIFEST_DIR"), "/../../scenes"))
+}
+
+fn number(word: &str) -> u64 {
+    word.parse().unwrap_or_else(|_| panic!("{word} is no number"))
+}
+
+/// The variants of these names, or those without a directed scene.
+fn chosen(names: &[&str]) -> Vec<Variant> {
+    if names.is_empty() {
+        return table::survivors(&scenes());
+    }
+    let named = |name: &&str| VARIANTS.iter().copied().find(|variant| variant.name() == *name);
+    names
+        .iter()
+        .map(|name| named(name).unwrap_or_else(|| panic!("{name} is no variant")))
+        .collect()
 }
