@@ -8,6 +8,7 @@ use scene::{Record, Scene, to_text, write_bytes};
 
 use crate::compare::{parting, same};
 use crate::draft::scene_of;
+use crate::recipes::Recipe;
 use crate::shrink::{shrink, weight};
 
 /// Whether the scene tells the variant from the reading.
@@ -69,7 +70,7 @@ pub fn hunt(
     variants: &[Variant],
     seeds: std::ops::Range<u64>,
     enough: usize,
-    make: &dyn Fn(u64) -> Vec<Record>,
+    make: Recipe,
     folder: &Path,
 ) {
     let mut open: Vec<Quarry> = variants.iter().copied().map(Quarry::new).collect();

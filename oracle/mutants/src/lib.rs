@@ -6,6 +6,7 @@ mod chance;
 mod compare;
 mod draft;
 mod hunt;
+mod recipes;
 mod shrink;
 mod table;
 
@@ -16,7 +17,7 @@ use reading::{VARIANTS, Variant};
 const USAGE: &str = "\
 oracle mutants
 oracle mutants agree SEED COUNT
-oracle mutants hunt SEED COUNT ENOUGH [NAME ..]
+oracle mutants hunt RECIPE SEED COUNT ENOUGH [NAME ..]
 ";
 
 /// Runs a command; false if a variant survives, or the reading and the
@@ -26,11 +27,11 @@ pub fn run(arguments: &[String]) -> bool {
     match words[..] {
         [] => table::table(&scenes(), 0, 20_000),
         ["agree", seed, count] => agree::agree(number(seed), number(count)),
-        ["hunt", seed, count, enough, ref names @ ..] => {
+        ["hunt", name, seed, count, enough, ref names @ ..] => {
+            let make = recipes::recipe(name).unwrap_or_else(|| panic!("{name} is no recipe"));
             let first = number(seed);
             let seeds = first..first + number(count);
-            let enough = number(enough) as usize;
-            hunt::hunt(&chosen(names), seeds, enough, &draft::draft, &scenes());
+            hunt::hunt(&chosen(names), seeds, number(enough) as usize, make, &scenes());
             true
         }
         _ => {

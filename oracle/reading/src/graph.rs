@@ -279,13 +279,12 @@ impl Graph<'_> {
             intervals.sort_by(|a, b| a.0.total_cmp(&b.0).then(a.1.total_cmp(&b.1)));
         }
         let mut covered = 0.0_f64;
-        for (place, (begin, end)) in intervals.into_iter().enumerate() {
+        for (begin, end) in intervals {
             let joined = match self.edit {
                 JointWithoutE => begin <= covered,
                 JointAtEOut => begin < covered + E,
                 JointWithinTwoE => begin <= covered + 2.0 * E,
                 JointByDifference => begin - covered <= E,
-                FirstJointWithoutE if place == 0 => begin <= covered,
                 _ => begin <= covered + E,
             };
             if !joined {
@@ -295,13 +294,7 @@ impl Graph<'_> {
                 CoveredToLastEnd => end,
                 _ => covered.max(end),
             };
-            let enough = match self.edit {
-                CoverToOne => covered >= 1.0,
-                CoverAtOneMinusEOut => covered > 1.0 - E,
-                CoverOneMinusCoveredE => 1.0 - covered <= E,
-                _ => covered >= 1.0 - E,
-            };
-            if enough {
+            if covered >= 1.0 - E {
                 return true;
             }
         }

@@ -7,7 +7,9 @@
 //! x or z (the cells that are looked at never only touch there); a re-push
 //! whose estimate is equal (a cost lower by E lowers every estimate below
 //! 4.5e8, and range 64 keeps them there); a node other than the start at the
-//! goal (whatever discovers it has a connector); halving by 2 or by 0.5.
+//! goal (whatever discovers it has a connector); halving by 2 or by 0.5; the E
+//! of the first joint and "1 - E suffices" (whoever starts stands, and whatever
+//! is stepped to is standable, so some interval begins at 0 and one ends at 1).
 
 macro_rules! variants {
     ($($part:literal { $($sentence:literal { $($name:ident: $edit:literal,)* })* })*) => {
@@ -190,14 +192,8 @@ variants! {
             JointAtEOut: "a joint of exactly E is a gap",
             JointWithinTwoE: "joints within 2 E",
             JointByDifference: "begin - covered is compared with E",
-            FirstJointWithoutE: "the first interval begins at 0",
             CoveredToLastEnd: "covered up to the last interval's end, not the largest",
             CoverInCellOrder: "intervals are joined in cell order",
-        }
-        "1 - E suffices" {
-            CoverToOne: "1 is needed",
-            CoverAtOneMinusEOut: "exactly 1 - E does not suffice",
-            CoverOneMinusCoveredE: "1 - covered is compared with E",
         }
     }
     "Edge" {

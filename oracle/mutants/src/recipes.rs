@@ -1,0 +1,258 @@
+//! Random scenes for one subject each, where scenes of every sort show too
+//! little: tops and climbs at a border, floors of plates with gaps, tops that
+//! stand in cells far above or below, and mirrored floors.
+
+use reading::E;
+use scene::Record;
+
+use crate::chance::Chance;
+
+/// Makes a scene from a seed.
+pub type Recipe = fn(u64) -> Vec<Record>;
+
+/// The recipe of a name.
+pub fn recipe(name: &str) -> Option<Recipe> {
+    match name {
+        "draft" => Some(crate::draft::draft),
+        "borders" => Some(borders),
+        "plates" => Some(plates),
+        "twins" => Some(twins),
+        "mirror" => Some(mirror),
+        _ => None,
+    }
+}
+
+fn ulps(chance: &mut Chance, number: f64) -> f64 {
+    match chance.below(6) {
+        0 => number.next_up(),
+        1 => number.next_down(),
+        2 => number.next_down().next_down(),
+        _ => number,
+    }
+}
+
+/// The number, or E above or below it.
+fn about(chance: &mut Chance, number: f64) -> f64 {
+    let moved = match chance.below(4) {
+        0 => number,
+        1 => number + E,
+        _ => number - E,
+    };
+    ulps(chance, moved)
+}
+
+/// Air and stone, and air everywhere.
+fn air(records: &mut Vec<Record>, sizes: [u32; 3]) {
+    for state in 0..2 {
+        records.push(Record::State { state, permission: 7 });
+    }
+    let max = sizes.map(|n| n as i32 - 1);
+    records.push(Record::Fill { min: [0; 3], max, state: 0, shape: 0 });
+}
+
+fn stone(at: [i32; 3], shape: u32) -> Record {
+    Record::Fill { min: at, max: at, state: 1, shape }
+}
+
+/// Floors in cells at height 0 whose tops, and the climbs between them, lie at
+/// a border.
+pub fn borders(seed: u64) -> Vec<Record> {
+    let mut chance = Chance::new(seed);
+    let sizes = [chance.between(2, 3) as u32, 4, chance.between(1, 3) as u32];
+    let base = match chance.below(4) {
+        0 => 0.0,
+        1 => 0.3,
+        _ => chance.part(),
+    };
+    let rise = match chance.below(3) {
+        0 => 0.5,
+        1 => chance.part(),
+        _ => 1.0 + chance.part(),
+    };
+    let mut tops = vec![base, base + rise];
+    for _ in 0..3 {
+        let near = chance.pick(&tops);
+        tops.push(about(&mut chance, near));
+    }
+    let mut climb = || {
+        let (a, b) = (chance.pick(&tops), chance.pick(&tops));
+        let rise = (a - b).abs();
+        match chance.below(4) {
+            0 => 0.0,
+            1 => 3.0,
+            2 => (rise - E).max(0.0),
+            _ => about(&mut chance, rise).max(0.0),
+        }
+    };
+    let (step, jump, drop, range) = (climb(), climb(), climb(), climb());
+    let body_step = if chance.once_in(4) { climb_of(&mut chance) } else { step };
+    let max_range = if chance.once_in(3) { range } else { 16.0 };
+    let ends = [0, 1].map(|_| {
+        let x = f64::from(chance.below(sizes[0] as usize) as i32) + 0.5;
+        let z = f64::from(chance.below(sizes[2] as usize) as i32) + 0.5;
+        [x, chance.pick(&tops), z]
+    });
+    let mut records = vec![
+        Record::Request { start: ends[0], goal: ends[1], max_range, budget: 64 },
+        Record::Body { step, jump, drop, width: 0.5, height: 1.0, body_step },
+        Record::Window { origin: [0; 3], sizes },
+    ];
+    for shape in 1..=4 {
+        for _ in 0..chance.pick(&[1, 1, 2, 3]) {
+            let top = chance.pick(&tops);
+            let bottom = if chance.once_in(2) { top } else { 0.0 };
+            let numbers = [0.0, bottom, 0.0, 1.0, top, 1.0];
+            records.push(Record::Shape { shape, numbers });
+        }
+    }
+    air(&mut records, sizes);
+    for x in 0..sizes[0] as i32 {
+        for z in 0..sizes[2] as i32 {
+            records.push(stone([x, 0, z], chance.between(1, 4) as u32));
+        }
+    }
+    records
+}
+
+fn climb_of(chance: &mut Chance) -> f64 {
+    chance.pick(&[0.0, 0.25, 0.5, 1.0, 3.0])
+}
+
+/// A floor at height 1 made of plates with gaps about E wide, in x or in both.
+pub fn plates(seed: u64) -> Vec<Record> {
+    let mut chance = Chance::new(seed);
+    let sizes = [3, 3, chance.between(1, 2) as u32];
+    let from = chance.pick(&[0.0, 0.5, 0.25, 0.3, 0.1]);
+    let to = match chance.below(3) {
+        0 => from + 1.0,
+        1 => 1.0 + chance.part(),
+        _ => 1.5,
+    };
+    let delta: f64 = to - from;
+    // The line's part t is at from + t delta.
+    let at = |t: f64| from + t * delta;
+    let first = 0.2 + 0.6 * chance.part();
+    let first = if chance.once_in(3) { 0.5 } else { first };
+    let gap = E * chance.pick(&[0.5, 0.9, 1.0, 1.0, 1.0, 1.0, 1.5, 1.9, 2.0, 2.5]);
+    let second = first + gap;
+    let (a, b) = (at(first), ulps(&mut chance, at(second)));
+    let mut records = vec![
+        Record::Request {
+            start: [from, 1.0, 0.5],
+            goal: [to, 1.0, 0.5],
+            max_range: 16.0,
+            budget: 9,
+        },
+        Record::Body { step: 0.5, jump: 0.0, drop: 1.0, width: 0.25, height: 1.0, body_step: 0.5 },
+        Record::Window { origin: [0; 3], sizes },
+    ];
+    let mut plate = |min: f64, max: f64| {
+        let numbers = [min.min(max), 0.0, 0.0, max.max(min), 1.0, 1.0];
+        records.push(Record::Shape { shape: 1, numbers });
+    };
+    plate(-0.5, a);
+    plate(b, 2.5);
+    if chance.once_in(3) {
+        let middle = at(first + gap * chance.part());
+        let wide = if chance.once_in(2) { 0.0 } else { 0.3 * E };
+        plate(middle, middle + wide);
+    }
+    if chance.once_in(4) {
+        plate(at(0.1), at(0.3));
+    }
+    air(&mut records, sizes);
+    records.push(stone([0; 3], 1));
+    records
+}
+
+/// A floor, and over or under it boxes of far cells whose tops lie within E of
+/// the floor's top.
+pub fn twins(seed: u64) -> Vec<Record> {
+    let mut chance = Chance::new(seed);
+    let sizes = [chance.between(1, 3) as u32, 9, 1];
+    let floor = chance.between(3, 5);
+    let level = f64::from(floor) + chance.pick(&[0.0, 0.5, 1.0, 1.0]);
+    let shift = E * chance.pick(&[-0.5, -0.5, -0.8, 0.5, -1.0, 1.0, -1.5]);
+    let far = floor + chance.pick(&[-4, -3, -3, -2, -1, 1, 1, 2, 3]);
+    let width = chance.pick(&[0.5, 0.5, 1.0, 1e-20]);
+    let column = |chance: &mut Chance| {
+        let cell = chance.below(sizes[0] as usize) as i32;
+        f64::from(cell) + chance.pick(&[0.5, 0.5, 0.5, 0.25, 0.0])
+    };
+    let climb = |chance: &mut Chance| {
+        let number = chance.pick(&[0.0, 0.0, 0.5, 1.0, 1.5, 2.0, 3.0]);
+        if chance.once_in(4) { about(chance, number).max(0.0) } else { number }
+    };
+    let up = |chance: &mut Chance| chance.pick(&[0.0, 0.0, 0.0, 1.0, -1.0]);
+    let start = [column(&mut chance), level + up(&mut chance), 0.5];
+    let goal = [column(&mut chance), level + up(&mut chance), 0.5];
+    let range = climb(&mut chance);
+    let max_range = if chance.once_in(2) { 16.0 } else { range };
+    let step = climb(&mut chance);
+    let mut records = vec![
+        Record::Request { start, goal, max_range, budget: 12 },
+        Record::Body {
+            step,
+            jump: climb(&mut chance),
+            drop: climb(&mut chance),
+            width,
+            height: 0.5,
+            body_step: step,
+        },
+        Record::Window { origin: [0; 3], sizes },
+    ];
+    let flat = |top: f64, min: f64, max: f64| [min, top, 0.0, max, top, 1.0];
+    let floor_top = level - f64::from(floor);
+    records.push(Record::Shape { shape: 1, numbers: flat(floor_top, 0.0, 1.0) });
+    let far_top = level + shift - f64::from(far);
+    let (min, max) = chance.pick(&[(0.0, 1.0), (0.0, 1.0), (0.0, 0.5), (0.5, 1.0)]);
+    let numbers = flat(far_top.clamp(-16.0, 16.0), min, max);
+    records.push(Record::Shape { shape: 2, numbers });
+    let numbers = flat(floor_top + chance.pick(&[-1.0, 1.0]), 0.0, 1.0);
+    records.push(Record::Shape { shape: 3, numbers });
+    air(&mut records, sizes);
+    let state = if chance.once_in(3) { 2 } else { 1 };
+    records.insert(records.len() - 1, Record::State { state: 2, permission: 5 });
+    for x in 0..sizes[0] as i32 {
+        let shape = if chance.once_in(4) { 3 } else { 1 };
+        records.push(stone([x, floor, 0], shape));
+        if chance.once_in(2) {
+            let at = [x, far, 0];
+            records.push(Record::Fill { min: at, max: at, state, shape: 2 });
+        }
+    }
+    records
+}
+
+/// A floor that mirrors itself in the line from start to goal, but for a cell
+/// or two.
+pub fn mirror(seed: u64) -> Vec<Record> {
+    let mut chance = Chance::new(seed);
+    let half = chance.between(1, 2);
+    let sizes = [chance.between(3, 7) as u32, 5, 2 * half as u32 + 1];
+    let middle = f64::from(half) + 0.5;
+    let start = [chance.pick(&[0.5, 0.5, 1.5, 0.25, 1.0]), 1.0, middle];
+    let goal = [f64::from(sizes[0]) - 0.5, 1.0, middle];
+    let jump = chance.pick(&[0.0, 1.0, 1.25]);
+    let mut records = vec![
+        Record::Request { start, goal, max_range: 16.0, budget: 64 },
+        Record::Body { step: 0.5, jump, drop: 3.0, width: 0.5, height: 1.0, body_step: 0.5 },
+        Record::Window { origin: [0; 3], sizes },
+    ];
+    for (shape, top) in [(1, 1.0), (2, 0.5), (3, 1.5)] {
+        records.push(Record::Shape { shape, numbers: [0.0, 0.0, 0.0, 1.0, top, 1.0] });
+    }
+    air(&mut records, sizes);
+    let max = [sizes[0] as i32 - 1, 0, 2 * half];
+    records.push(Record::Fill { min: [0; 3], max, state: 1, shape: 1 });
+    for _ in 0..chance.between(2, 7) {
+        let (x, z) = (chance.below(sizes[0] as usize) as i32, chance.between(0, half));
+        let y = chance.between(0, 1);
+        let shape = chance.pick(&[0, 1, 2, 3]);
+        records.push(stone([x, y, half + z], shape));
+        if !chance.once_in(5) {
+            records.push(stone([x, y, half - z], shape));
+        }
+    }
+    records
+}
