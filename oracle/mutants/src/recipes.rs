@@ -18,6 +18,7 @@ pub fn recipe(name: &str) -> Option<Recipe> {
         "plates" => Some(plates),
         "twins" => Some(twins),
         "mirror" => Some(mirror),
+        "toll" => Some(toll),
         _ => None,
     }
 }
@@ -254,5 +255,32 @@ pub fn mirror(seed: u64) -> Vec<Record> {
             records.push(stone([x, y, half - z], shape));
         }
     }
+    records
+}
+
+/// Two ways to one column, the first found longer than the second by a slab's
+/// rise: their costs differ by about E, on both sides of 4 (a power of two:
+/// sums round coarser above it than below).
+pub fn toll(seed: u64) -> Vec<Record> {
+    let mut chance = Chance::new(seed);
+    let start = [-1.5 + E * chance.part(), 1.0, 0.5];
+    let rise = E.sqrt() * (1.0 + 1e-7 * (chance.part() - 0.5));
+    let mut records = vec![
+        Record::Request { start, goal: [1.5, 4.0, 0.5], max_range: 16.0, budget: 16 },
+        Record::Body { step: 0.5, jump: 0.0, drop: 1.0, width: 0.5, height: 1.0, body_step: 0.5 },
+        Record::Window { origin: [-2, 0, -1], sizes: [4, 5, 2] },
+    ];
+    for (shape, top) in [(1, 1.0), (2, rise)] {
+        records.push(Record::Shape { shape, numbers: [0.0, 0.0, 0.0, 1.0, top, 1.0] });
+    }
+    records.push(Record::State { state: 0, permission: 7 });
+    let mut fill = |min, max, shape| {
+        records.push(Record::Fill { min, max, state: 0, shape });
+    };
+    fill([-2, 0, -1], [1, 4, 0], 0);
+    fill([-2, 0, 0], [1, 0, 0], 1);
+    fill([0, 0, -1], [1, 0, -1], 1);
+    fill([1, 1, 0], [1, 1, 0], 2);
+    fill([1, 3, 0], [1, 3, 0], 1);
     records
 }
