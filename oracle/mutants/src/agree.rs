@@ -1,18 +1,20 @@
 //! The unedited reading against the original, on random scenes.
 
 use reading::{Variant, search};
-use scene::{Outcome, to_text, write_bytes};
+use scene::{Outcome, Record, to_text, write_bytes};
 
 use crate::compare::{parting, same};
-use crate::draft::{draft, scene_of};
+use crate::draft::scene_of;
+use crate::recipes::Recipe;
+use crate::shrink::shrink;
 
 /// Compares `count` scenes from `seed` on; prints the first that part.
-pub fn agree(seed: u64, count: u64) -> bool {
+pub fn agree(make: Recipe, seed: u64, count: u64) -> bool {
     let mut outcomes = [0_u64; 4];
     let mut bad = 0;
     let mut nodes = 0;
     for number in seed..seed + count {
-        let records = draft(number);
+        let records = make(number);
         let Some(scene) = scene_of(&records) else {
             bad += 1;
             continue;
@@ -20,9 +22,8 @@ pub fn agree(seed: u64, count: u64) -> bool {
         let ours = search(&scene, Variant::ReadAsWritten);
         let theirs = original::judge(&scene);
         if !same(&ours, &theirs) {
-            let [left, right] = parting(&ours, &theirs);
-            println!("seed {number}: the reading says {left}\nthe original says {right}");
-            print!("{}", to_text(&write_bytes(&records)));
+            println!("seed {number}: the reading and the original part");
+            show(records);
             return false;
         }
         match ours {
@@ -43,4 +44,20 @@ pub fn agree(seed: u64, count: u64) -> bool {
          {exceeded} budgetexceeded, {refused} refused, {bad} no scenes; {nodes} node records"
     );
     true
+}
+
+/// Prints a small scene on which the reading and the original part.
+fn show(records: Vec<Record>) {
+    let both = |records: &[Record]| {
+        let scene = scene_of(records)?;
+        Some((search(&scene, Variant::ReadAsWritten), original::judge(&scene)))
+    };
+    let small = shrink(records, &|records| {
+        both(records).is_some_and(|(ours, theirs)| !same(&ours, &theirs))
+    });
+    if let Some((ours, theirs)) = both(&small) {
+        let [left, right] = parting(&ours, &theirs);
+        println!("the reading: {left}\nthe original: {right}");
+    }
+    print!("{}", to_text(&write_bytes(&small)));
 }

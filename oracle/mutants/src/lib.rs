@@ -16,7 +16,7 @@ use reading::{VARIANTS, Variant};
 
 const USAGE: &str = "\
 oracle mutants
-oracle mutants agree SEED COUNT
+oracle mutants agree RECIPE SEED COUNT
 oracle mutants hunt RECIPE SEED COUNT ENOUGH [NAME ..]
 ";
 
@@ -26,12 +26,11 @@ pub fn run(arguments: &[String]) -> bool {
     let words: Vec<&str> = arguments.iter().map(String::as_str).collect();
     match words[..] {
         [] => table::table(&scenes(), 0, 20_000),
-        ["agree", seed, count] => agree::agree(number(seed), number(count)),
+        ["agree", name, seed, count] => agree::agree(recipe(name), number(seed), number(count)),
         ["hunt", name, seed, count, enough, ref names @ ..] => {
-            let make = recipes::recipe(name).unwrap_or_else(|| panic!("{name} is no recipe"));
             let first = number(seed);
             let seeds = first..first + number(count);
-            hunt::hunt(&chosen(names), seeds, number(enough) as usize, make, &scenes());
+            hunt::hunt(&chosen(names), seeds, number(enough) as usize, recipe(name), &scenes());
             true
         }
         _ => {
@@ -39,6 +38,10 @@ pub fn run(arguments: &[String]) -> bool {
             false
         }
     }
+}
+
+fn recipe(name: &str) -> recipes::Recipe {
+    recipes::recipe(name).unwrap_or_else(|| panic!("{name} is no recipe"))
 }
 
 /// The directed scenes.

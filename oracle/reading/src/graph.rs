@@ -392,8 +392,8 @@ impl Graph<'_> {
         let passes = (self.is(TargetRangeUnread) || self.in_range(to))
             && (self.is(RaisedRangeUnread) || self.in_range(raised))
             && (self.is(TargetStandableUnread) || self.standable(to))
-            && (self.is(LiftUnread) || self.clear(self.sweep(from, raised)))
-            && (self.is(CrossingUnread) || self.clear(self.crossing(from, raised, across)))
+            && (self.is(LiftUnread) || self.clear(self.lift_area(from, raised, lift)))
+            && (self.is(CrossingUnread) || self.clear(self.crossing_area(from, raised, across)))
             && (self.is(SettleUnread) || self.clear(self.sweep(across, to)))
             && (self.is(SegmentUnread) || self.supported(from, to));
         passes.then_some(Waypoint { feet: to, lift, movement })
@@ -415,7 +415,15 @@ impl Graph<'_> {
         }
     }
 
-    fn crossing(&self, from: Point, raised: Point, across: Point) -> Area {
+    /// The body at `from`, grown upwards by the lift itself.
+    fn lift_area(&self, from: Point, raised: Point, lift: f64) -> Area {
+        match self.edit {
+            LiftByDifference | SweepBetweenBodies => self.sweep(from, raised),
+            _ => self.body_at(from).expand_towards([0.0, lift, 0.0]),
+        }
+    }
+
+    fn crossing_area(&self, from: Point, raised: Point, across: Point) -> Area {
         match self.edit {
             CrossingAtFeet => self.sweep(from, [across[X], from[Y], across[Z]]),
             _ => self.sweep(raised, across),

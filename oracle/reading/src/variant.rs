@@ -241,6 +241,7 @@ variants! {
         }
         "the lift, crossing and settle areas clear" {
             LiftUnread: "the lift is not looked at",
+            LiftByDifference: "grown by raised y - y instead of by the lift",
             CrossingUnread: "the crossing is not looked at",
             CrossingAtFeet: "the crossing is at the height of the feet",
             SettleUnread: "the settling is not looked at",
