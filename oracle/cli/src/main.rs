@@ -1,6 +1,16 @@
 //! The oracle: what walkprint must answer. oracle/README.md describes each
 //! command.
 
+mod bench;
+mod digest;
+mod geometry;
+mod policy;
+mod reader;
+mod selftest;
+mod stats;
+mod store;
+mod trace;
+
 use std::io::{Read, Write};
 use std::process::ExitCode;
 
@@ -9,6 +19,15 @@ oracle print < SCENE
 oracle nodes < SCENE
 oracle scene FILE
 oracle text < SCENE
+oracle make SEED KIND
+oracle stats KIND N
+oracle policy
+oracle policy bytes
+oracle geometry < SCENE
+oracle bench SCENE N
+oracle mutants ...
+oracle store FOLDER
+oracle selftest FOLDER
 ";
 
 fn main() -> ExitCode {
@@ -31,6 +50,14 @@ fn run(arguments: &[String]) -> Result<bool, String> {
         ["nodes"] => nodes(),
         ["scene", file] => put(&scene_file(file)?),
         ["text"] => put(scene::to_text(&input()?).as_bytes()),
+        ["make", seed, kind] => make(seed, kind),
+        ["stats", kind, count] => stats(kind, count),
+        ["policy"] => put(policy::text().as_bytes()),
+        ["policy", "bytes"] => put(&policy::bytes()),
+        ["geometry"] => geometry(),
+        ["bench", file, runs] => bench(file, runs),
+        ["store", folder] => put(store::store(folder)?.as_bytes()),
+        ["selftest", folder] => selftest::selftest(folder),
         ["mutants", ..] => Ok(mutants::run(&arguments[1..])),
         _ => Err(USAGE.to_string()),
     }
@@ -55,6 +82,65 @@ fn put(bytes: &[u8]) -> Result<bool, String> {
 fn scene_file(file: &str) -> Result<Vec<u8>, String> {
     let text = std::fs::read_to_string(file).map_err(|error| format!("{file}: {error}"))?;
     scene::from_text(&text).map_err(|error| format!("{file}: {error}"))
+}
+
+/// The scene of a seed and a kind.
+fn make(seed: &str, kind: &str) -> Result<bool, String> {
+    put(&scene::make(number(seed)?, kind).ok_or_else(kinds_known)?)
+}
+
+/// The shares of a kind, or of each and of all mixed.
+fn stats(kind: &str, count: &str) -> Result<bool, String> {
+    let count = number(count)?;
+    let kinds = match kind {
+        "all" => [&scene::KINDS[..], &["mixed"]].concat(),
+        kind => vec![kind],
+    };
+    for kind in kinds {
+        put(stats::stats(kind, count)
+            .ok_or_else(kinds_known)?
+            .as_bytes())?;
+    }
+    Ok(true)
+}
+
+fn kinds_known() -> String {
+    format!("kinds: mixed {}", scene::KINDS.join(" "))
+}
+
+fn number(word: &str) -> Result<u64, String> {
+    word.parse()
+        .map_err(|_| format!("{word} is no whole number"))
+}
+
+/// The original's checks on chosen points of a scene.
+fn geometry() -> Result<bool, String> {
+    let bytes = input()?;
+    let scene = scene::read(&bytes).map_err(|bad| format!("record {} is bad", bad.record))?;
+    if !original::valid_request(&scene) || scene::too_large(&scene.request, &scene.body) {
+        return Err("the request is invalid or too large".to_string());
+    }
+    let mut out = String::new();
+    for question in geometry::questions(&scene) {
+        out.push_str(&question.line());
+        out.push('\n');
+    }
+    put(out.as_bytes())
+}
+
+/// The time of the original on a large world by its name, or on a scene, in
+/// text form if its name ends so.
+fn bench(file: &str, runs: &str) -> Result<bool, String> {
+    if let Some(scene) = scene::large(file) {
+        return put(bench::line(file, &scene, number(runs)?).as_bytes());
+    }
+    let bytes = if file.ends_with(".txt") {
+        scene_file(file)?
+    } else {
+        std::fs::read(file).map_err(|error| format!("{file}: {error}"))?
+    };
+    let scene = scene::read(&bytes).map_err(|bad| format!("record {} is bad", bad.record))?;
+    put(bench::line(file, &scene, number(runs)?).as_bytes())
 }
 
 /// The retained nodes in 01's records, in hex, one a line.

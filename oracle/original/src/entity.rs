@@ -155,7 +155,7 @@ pub mod navigation {
     use super::systems::physics::BlockSource;
 
     /// One call of the search.
-    pub(crate) struct Call {
+    pub(crate) struct Note {
         pub request: WalkPathRequest,
         /// The permission bytes of the states from 0 on.
         pub permissions: Vec<u8>,
@@ -164,7 +164,7 @@ pub mod navigation {
 
     thread_local! {
         /// How many states to note, and the last call.
-        pub(crate) static NOTE: RefCell<(u32, Option<Call>)> = RefCell::default();
+        pub(crate) static NOTE: RefCell<(u32, Option<Note>)> = RefCell::default();
     }
 
     pub(crate) fn find_walk_path(
@@ -183,12 +183,12 @@ pub mod navigation {
         let states = NOTE.with_borrow(|(states, _)| *states);
         let permissions = (0..states).map(byte).collect();
         let outcome = searched::find_walk_path(blocks, body, request, scratch, output, permitted);
-        let call = Call {
+        let note = Note {
             request,
             permissions,
             outcome,
         };
-        NOTE.set((states, Some(call)));
+        NOTE.set((states, Some(note)));
         outcome
     }
 }

@@ -9,5 +9,5 @@ mod policy;
 mod registry;
 mod search;
 
-pub use policy::{Apex, Found, Policy, door_passage, find_path, jump_apex, permission_bytes};
+pub use policy::{Apex, Call, Found, Policy, door_passage, find_path, jump_apex, permission_bytes};
 pub use search::{Checks, Navigator, find_walk_path, judge, valid_request, verdict};

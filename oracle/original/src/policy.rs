@@ -1,10 +1,10 @@
 //! The original's policy: passages, permission bytes, jumps, `find_path`.
 
-use scene::{Answer, Request, Tables};
+use scene::{Answer, Body, Request, Tables};
 
 use crate::entity::mob::ai::path::{self, PathBlockTable, WalkPolicy};
-use crate::entity::navigation::{Call, NOTE};
-use crate::entity::searched::{NavigationScratch, WalkNavigation};
+use crate::entity::navigation::NOTE;
+use crate::entity::searched::{NavigationScratch, WalkNavigation, WalkPathRequest};
 use crate::search::{World, answer, outcome, vector};
 
 /// A walk policy; bit k of its number is the k-th field from `avoid_water`
@@ -72,6 +72,18 @@ pub fn jump_apex(power: f32, gravity: f64) -> Apex {
     Apex::Height(path::apex(power, gravity))
 }
 
+/// What the original's `find_path` is called with. The length of the tables'
+/// permission bytes says which states are known; the bytes are not read.
+pub struct Call<'a> {
+    pub tables: &'a Tables,
+    pub flags: &'a [u8],
+    pub body: Body,
+    pub policy: Policy,
+    pub in_water: bool,
+    pub start: [f64; 3],
+    pub goal: [f64; 3],
+}
+
 /// What the original's `find_path` did.
 pub struct Found {
     /// Whether it answered yes.
@@ -83,52 +95,43 @@ pub struct Found {
     pub answer: Answer,
 }
 
-/// The original's `find_path` on tables whose permission bytes are not read.
-pub fn find_path(
-    tables: &Tables,
-    flags: &[u8],
-    body: &scene::Body,
-    policy: &Policy,
-    in_water: bool,
-    start: [f64; 3],
-    goal: [f64; 3],
-) -> Found {
-    let world = World::new(tables);
+/// The original's `find_path`.
+pub fn find_path(call: &Call) -> Found {
+    let world = World::new(call.tables);
     world.enter();
-    NOTE.set((flags.len() as u32, None));
-    let body = crate::search::body(body);
+    NOTE.set((call.flags.len() as u32, None));
     let mut scratch = NavigationScratch::default();
     let mut output = WalkNavigation::default();
     let found = path::find_path(
         &world,
-        &PathBlockTable::of_flags(flags),
-        &body,
-        policy.original(),
-        in_water,
-        vector(start),
-        vector(goal),
+        &PathBlockTable::of_flags(call.flags),
+        &crate::search::body(&call.body),
+        call.policy.original(),
+        call.in_water,
+        vector(call.start),
+        vector(call.goal),
         &mut scratch,
         &mut output,
     );
-    let (_, call) = NOTE.take();
-    let Call {
-        request,
-        permissions,
-        outcome: ended,
-    } = call.expect("find_path calls the search");
+    let (_, note) = NOTE.take();
+    let note = note.expect("find_path calls the search");
     Found {
         found,
-        request: Request {
-            start: request.start.to_array(),
-            goal: request.goal.to_array(),
-            max_range: request.max_range,
-            node_budget: request.node_budget as u64,
-            step_height: request.step_height,
-            jump_height: request.jump_height,
-            max_drop: request.max_drop,
-        },
-        permissions,
-        answer: answer(outcome(ended), &scratch, &output),
+        request: asked(note.request),
+        permissions: note.permissions,
+        answer: answer(outcome(note.outcome), &scratch, &output),
+    }
+}
+
+fn asked(request: WalkPathRequest) -> Request {
+    Request {
+        start: request.start.to_array(),
+        goal: request.goal.to_array(),
+        max_range: request.max_range,
+        node_budget: request.node_budget as u64,
+        step_height: request.step_height,
+        jump_height: request.jump_height,
+        max_drop: request.max_drop,
     }
 }
 
@@ -144,11 +147,19 @@ pub fn permission_bytes(policy: &Policy, in_water: bool, flags: &[u8]) -> Vec<u8
         shapes: Vec::new(),
         boxes: Vec::new(),
     };
-    let body = scene::Body {
+    let body = Body {
         width: 1.0,
         height: 1.0,
         step_height: 0.0,
     };
-    let found = find_path(&nowhere, flags, &body, policy, in_water, [0.0; 3], [0.0; 3]);
-    found.permissions
+    let call = Call {
+        tables: &nowhere,
+        flags,
+        body,
+        policy: *policy,
+        in_water,
+        start: [0.0; 3],
+        goal: [0.0; 3],
+    };
+    find_path(&call).permissions
 }

@@ -52,6 +52,11 @@ pub(crate) fn vector([x, y, z]: [f64; 3]) -> DVec3 {
     DVec3::new(x, y, z)
 }
 
+fn numbers(area: Aabb) -> [f64; 6] {
+    let ([a, b, c], [d, e, f]) = (area.min.to_array(), area.max.to_array());
+    [a, b, c, d, e, f]
+}
+
 pub(crate) fn body(body: &scene::Body) -> PhysicsBody {
     PhysicsBody {
         width: body.width,
@@ -242,6 +247,30 @@ impl Checks {
 
     pub fn edge(&mut self, from: [f64; 3], to: [f64; 3]) -> Option<Waypoint> {
         ask!(self, checks => checks.edge(vector(from), vector(to)))
+    }
+
+    /// The body's box at a point.
+    pub fn body_box(&self, feet: [f64; 3]) -> [f64; 6] {
+        numbers(Aabb::from_feet(
+            vector(feet),
+            self.body.width,
+            self.body.height,
+        ))
+    }
+
+    /// The lift, crossing and settle areas of an edge with this lift, by the
+    /// original's boxes.
+    pub fn areas(&self, from: [f64; 3], lift: f64, to: [f64; 3]) -> [[f64; 6]; 3] {
+        let (from, to) = (vector(from), vector(to));
+        let at = |feet| Aabb::from_feet(feet, self.body.width, self.body.height);
+        let raised = from + DVec3::Y * lift;
+        let across = DVec3::new(to.x, raised.y, to.z);
+        [
+            at(from).expand_towards(DVec3::Y * lift),
+            at(raised).expand_towards(across - raised),
+            at(across).expand_towards(to - across),
+        ]
+        .map(numbers)
     }
 
     /// The graph steps of a point, in order. The original has no function for

@@ -3,14 +3,22 @@
 //!
 //! Written from document 01 alone; nothing here knows the original.
 
+mod large;
+mod make;
 mod print;
+mod random;
 mod read;
+mod record;
 mod text;
 mod world;
 
+pub use large::{LARGE, large};
+pub use make::{KINDS, make};
 pub use print::{name, print, print_refusal, print_verdict};
+pub use random::Random;
 pub use read::{BadScene, Ends, Partial, RECORD, Steps, read, read_partial};
-pub use text::{Record, from_text, to_text, write_bytes};
+pub use record::{Record, write_bytes};
+pub use text::{from_text, to_text};
 pub use world::{RawTables, bad_world};
 
 /// What is asked of a search.

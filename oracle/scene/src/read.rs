@@ -101,26 +101,26 @@ pub fn read_partial(bytes: &[u8]) -> (Partial, Option<BadScene>) {
 
 /// A whole record.
 #[derive(Clone, Copy)]
-struct Fields<'a>(&'a [u8]);
+pub(crate) struct Fields<'a>(pub(crate) &'a [u8]);
 
 impl Fields<'_> {
-    fn u32(self, at: usize) -> u32 {
+    pub(crate) fn u32(self, at: usize) -> u32 {
         u32::from_le_bytes(self.0[at..at + 4].try_into().unwrap())
     }
 
-    fn i32(self, at: usize) -> i32 {
+    pub(crate) fn i32(self, at: usize) -> i32 {
         self.u32(at) as i32
     }
 
-    fn f64(self, at: usize) -> f64 {
+    pub(crate) fn f64(self, at: usize) -> f64 {
         f64::from_bits(u64::from_le_bytes(self.0[at..at + 8].try_into().unwrap()))
     }
 
-    fn f64s<const N: usize>(self, at: usize) -> [f64; N] {
+    pub(crate) fn f64s<const N: usize>(self, at: usize) -> [f64; N] {
         std::array::from_fn(|i| self.f64(at + 8 * i))
     }
 
-    fn n(self) -> u32 {
+    pub(crate) fn n(self) -> u32 {
         self.u32(4)
     }
 

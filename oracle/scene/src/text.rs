@@ -2,235 +2,89 @@
 //! the form.
 
 use std::collections::HashMap;
-use std::fmt::Write;
 
 use crate::read::RECORD;
+use crate::record::Record;
 
-/// One record of a scene, good or not.
-#[derive(Debug, Clone, PartialEq)]
-pub enum Record {
-    Request {
-        start: [f64; 3],
-        goal: [f64; 3],
-        max_range: f64,
-        budget: u32,
-    },
-    Body {
-        step: f64,
-        jump: f64,
-        drop: f64,
-        width: f64,
-        height: f64,
-        body_step: f64,
-    },
-    Window {
-        origin: [i32; 3],
-        sizes: [u32; 3],
-    },
-    Shape {
-        shape: u32,
-        numbers: [f64; 6],
-    },
-    State {
-        state: u32,
-        permission: u8,
-    },
-    Fill {
-        min: [i32; 3],
-        max: [i32; 3],
-        state: u32,
-        shape: u32,
-    },
-    /// Any bytes.
-    Raw(Vec<u8>),
+/// A record's line in the text form.
+fn line(record: &Record) -> String {
+    match record {
+        Record::Request {
+            start,
+            goal,
+            max_range,
+            budget,
+        } => format!(
+            "request start {} goal {} range {} budget {budget}",
+            floats_text(start),
+            floats_text(goal),
+            float_text(*max_range)
+        ),
+        Record::Body {
+            step,
+            jump,
+            drop,
+            width,
+            height,
+            body_step,
+        } => [
+            ("body step", step),
+            (" jump", jump),
+            (" drop", drop),
+            (" width", width),
+            (" height", height),
+            (" bodystep", body_step),
+        ]
+        .map(|(name, number)| format!("{name} {}", float_text(*number)))
+        .concat(),
+        other => line_of_world(other),
+    }
 }
 
-impl Record {
-    /// The bytes of the record: 64, unless it is raw.
-    pub fn bytes(&self) -> Vec<u8> {
-        let floats = |numbers: &[f64]| -> Vec<u8> {
-            numbers
-                .iter()
-                .flat_map(|n| n.to_bits().to_le_bytes())
-                .collect()
-        };
-        let whole =
-            |numbers: &[u32]| -> Vec<u8> { numbers.iter().flat_map(|n| n.to_le_bytes()).collect() };
-        let (kind, n, payload): (u8, u32, Vec<u8>) = match self {
-            Record::Request {
-                start: [a, b, c],
-                goal: [d, e, f],
-                max_range,
-                budget,
-            } => (1, *budget, floats(&[*a, *b, *c, *d, *e, *f, *max_range])),
-            Record::Body {
-                step,
-                jump,
-                drop,
-                width,
-                height,
-                body_step,
-            } => (
-                2,
-                0,
-                floats(&[*step, *jump, *drop, *width, *height, *body_step]),
-            ),
-            Record::Window { origin, sizes } => {
-                let [x, y, z] = origin.map(|c| c as u32);
-                (3, 0, whole(&[x, y, z, sizes[0], sizes[1], sizes[2]]))
-            }
-            Record::Shape { shape, numbers } => (4, *shape, floats(numbers)),
-            Record::State { state, permission } => (5, *state, vec![*permission]),
-            Record::Fill {
-                min,
-                max,
-                state,
-                shape,
-            } => {
-                let [a, b, c] = min.map(|c| c as u32);
-                let [d, e, f] = max.map(|c| c as u32);
-                (6, 0, whole(&[a, b, c, d, e, f, *state, *shape]))
-            }
-            Record::Raw(bytes) => return bytes.clone(),
-        };
-        let mut out = vec![kind, 0, 0, 0];
-        out.extend(n.to_le_bytes());
-        out.extend(payload);
-        out.resize(RECORD, 0);
-        out
-    }
-
-    /// The record that has these bytes; raw where no other has.
-    pub fn from_bytes(bytes: &[u8]) -> Record {
-        let guess = if bytes.len() == RECORD {
-            guess(bytes)
-        } else {
-            None
-        };
-        match guess {
-            Some(record) if record.bytes() == bytes => record,
-            _ => Record::Raw(bytes.to_vec()),
+/// The line of a record of kind 3 to 6, or of a raw one.
+fn line_of_world(record: &Record) -> String {
+    match record {
+        Record::Window { origin, sizes } => {
+            format!("window origin {} sizes {}", spaced(origin), spaced(sizes))
         }
-    }
-
-    /// Its line in the text form.
-    fn line(&self) -> String {
-        let floats = |numbers: &[f64]| {
-            numbers
-                .iter()
-                .map(|&n| float_text(n))
-                .collect::<Vec<_>>()
-                .join(" ")
-        };
-        match self {
-            Record::Request {
-                start,
-                goal,
-                max_range,
-                budget,
-            } => format!(
-                "request start {} goal {} range {} budget {budget}",
-                floats(start),
-                floats(goal),
-                float_text(*max_range)
-            ),
-            Record::Body {
-                step,
-                jump,
-                drop,
-                width,
-                height,
-                body_step,
-            } => format!(
-                "body step {} jump {} drop {} width {} height {} bodystep {}",
-                float_text(*step),
-                float_text(*jump),
-                float_text(*drop),
-                float_text(*width),
-                float_text(*height),
-                float_text(*body_step)
-            ),
-            Record::Window {
-                origin: [x, y, z],
-                sizes: [a, b, c],
-            } => format!("window origin {x} {y} {z} sizes {a} {b} {c}"),
-            Record::Shape { shape, numbers } => format!(
-                "shape {shape} box {} to {}",
-                floats(&numbers[..3]),
-                floats(&numbers[3..])
-            ),
-            Record::State { state, permission } => format!("state {state} permission {permission}"),
-            Record::Fill {
-                min: [a, b, c],
-                max: [d, e, f],
-                state,
-                shape,
-            } => format!("fill {a} {b} {c} to {d} {e} {f} state {state} shape {shape}"),
-            Record::Raw(bytes) => {
-                let mut out = String::from("raw ");
-                for byte in bytes {
-                    let _ = write!(out, "{byte:02x}");
-                }
-                out
-            }
+        Record::Shape { shape, numbers } => format!(
+            "shape {shape} box {} to {}",
+            floats_text(&numbers[..3]),
+            floats_text(&numbers[3..])
+        ),
+        Record::State { state, permission } => format!("state {state} permission {permission}"),
+        Record::Fill {
+            min,
+            max,
+            state,
+            shape,
+        } => format!(
+            "fill {} to {} state {state} shape {shape}",
+            spaced(min),
+            spaced(max)
+        ),
+        other => {
+            let hex: Vec<String> = other.bytes().iter().map(|b| format!("{b:02x}")).collect();
+            format!("raw {}", hex.concat())
         }
     }
 }
 
-/// What a record of 64 bytes says by its kind, whatever else its bytes are.
-fn guess(bytes: &[u8]) -> Option<Record> {
-    let u32_at = |at: usize| u32::from_le_bytes(bytes[at..at + 4].try_into().unwrap());
-    let i32_at = |at: usize| u32_at(at) as i32;
-    let f64_at =
-        |at: usize| f64::from_bits(u64::from_le_bytes(bytes[at..at + 8].try_into().unwrap()));
-    let n = u32_at(4);
-    Some(match bytes[0] {
-        1 => Record::Request {
-            start: [8, 16, 24].map(f64_at),
-            goal: [32, 40, 48].map(f64_at),
-            max_range: f64_at(56),
-            budget: n,
-        },
-        2 => Record::Body {
-            step: f64_at(8),
-            jump: f64_at(16),
-            drop: f64_at(24),
-            width: f64_at(32),
-            height: f64_at(40),
-            body_step: f64_at(48),
-        },
-        3 => Record::Window {
-            origin: [8, 12, 16].map(i32_at),
-            sizes: [20, 24, 28].map(u32_at),
-        },
-        4 => Record::Shape {
-            shape: n,
-            numbers: [8, 16, 24, 32, 40, 48].map(f64_at),
-        },
-        5 => Record::State {
-            state: n,
-            permission: bytes[8],
-        },
-        6 => Record::Fill {
-            min: [8, 12, 16].map(i32_at),
-            max: [20, 24, 28].map(i32_at),
-            state: u32_at(32),
-            shape: u32_at(36),
-        },
-        _ => return None,
-    })
+fn spaced<T: ToString>(numbers: &[T]) -> String {
+    let words: Vec<String> = numbers.iter().map(T::to_string).collect();
+    words.join(" ")
 }
 
-/// The scene of these records.
-pub fn write_bytes(records: &[Record]) -> Vec<u8> {
-    records.iter().flat_map(Record::bytes).collect()
+fn floats_text(numbers: &[f64]) -> String {
+    let words: Vec<String> = numbers.iter().map(|&number| float_text(number)).collect();
+    words.join(" ")
 }
 
 /// The text of a scene's bytes, a line a record.
 pub fn to_text(bytes: &[u8]) -> String {
     let mut out = String::new();
     for record in bytes.chunks(RECORD) {
-        out.push_str(&Record::from_bytes(record).line());
+        out.push_str(&line(&Record::from_bytes(record)));
         out.push('\n');
     }
     out
@@ -273,96 +127,77 @@ struct Writer {
 impl Writer {
     fn line(&mut self, words: &mut Words) -> Result<(), String> {
         words.names = std::mem::take(&mut self.names);
-        let done = self.record(words).and_then(|()| words.end());
+        let done = self.statement(words).and_then(|()| words.end());
         self.names = std::mem::take(&mut words.names);
         done
     }
 
-    fn record(&mut self, words: &mut Words) -> Result<(), String> {
+    /// A record, or a change of the record above, or a name.
+    fn statement(&mut self, words: &mut Words) -> Result<(), String> {
         let record = match words.word()? {
-            "request" => Record::Request {
-                start: words.after("start")?.floats()?,
-                goal: words.after("goal")?.floats()?,
-                max_range: words.after("range")?.float()?,
-                budget: words.after("budget")?.whole()?,
-            },
-            "body" => Record::Body {
-                step: words.after("step")?.float()?,
-                jump: words.after("jump")?.float()?,
-                drop: words.after("drop")?.float()?,
-                width: words.after("width")?.float()?,
-                height: words.after("height")?.float()?,
-                body_step: words.after("bodystep")?.float()?,
-            },
-            "window" => {
-                let origin = words.after("origin")?.corner()?;
-                words.after("sizes")?;
-                let sizes = [words.whole()?, words.whole()?, words.whole()?];
-                self.window = Some((origin, sizes));
-                Record::Window { origin, sizes }
-            }
-            "shape" => {
-                let shape = words.whole()?;
-                let [a, b, c] = words.after("box")?.floats()?;
-                let [d, e, f] = words.after("to")?.floats()?;
-                Record::Shape {
-                    shape,
-                    numbers: [a, b, c, d, e, f],
-                }
-            }
+            "request" => words.request()?,
+            "body" => words.body()?,
+            "window" => self.window(words)?,
+            "shape" => words.shape()?,
             "state" => Record::State {
                 state: words.whole()?,
                 permission: words.after("permission")?.whole()?,
             },
-            "fill" => {
-                let (min, max) = if words.peek() == Some("all") {
-                    words.word()?;
-                    self.whole_window()?
-                } else {
-                    let min = words.corner()?;
-                    let max = if words.peek() == Some("to") {
-                        words.word()?;
-                        words.corner()?
-                    } else {
-                        min
-                    };
-                    (min, max)
-                };
-                Record::Fill {
-                    min,
-                    max,
-                    state: words.after("state")?.whole()?,
-                    shape: words.after("shape")?.whole()?,
-                }
-            }
+            "fill" => self.fill(words)?,
             "raw" => Record::Raw(hex(words.word()?)?),
-            "let" => {
-                let name = words.word()?.to_string();
-                let value = words.after("=")?.number()?;
-                words.names.insert(name, value);
-                return Ok(());
-            }
-            "patch" => {
-                let at: usize = words.whole()?;
-                let bytes = hex(words.word()?)?;
-                let last = self.records.last_mut().ok_or("no record to patch")?;
-                last.get_mut(at..at + bytes.len())
-                    .ok_or("the patch passes the record's end")?
-                    .copy_from_slice(&bytes);
-                return Ok(());
-            }
+            "let" => return words.name(),
+            "patch" => return self.patch(words),
             "cut" => {
                 let length: usize = words.whole()?;
-                self.records
-                    .last_mut()
-                    .ok_or("no record to cut")?
-                    .truncate(length);
+                self.last()?.truncate(length);
                 return Ok(());
             }
             other => return Err(format!("unknown word {other}")),
         };
         self.records.push(record.bytes());
         Ok(())
+    }
+
+    fn window(&mut self, words: &mut Words) -> Result<Record, String> {
+        let origin = words.after("origin")?.corner()?;
+        words.after("sizes")?;
+        let sizes = [words.whole()?, words.whole()?, words.whole()?];
+        self.window = Some((origin, sizes));
+        Ok(Record::Window { origin, sizes })
+    }
+
+    fn fill(&mut self, words: &mut Words) -> Result<Record, String> {
+        let (min, max) = if words.took("all") {
+            self.whole_window()?
+        } else {
+            let min = words.corner()?;
+            let max = if words.took("to") {
+                words.corner()?
+            } else {
+                min
+            };
+            (min, max)
+        };
+        Ok(Record::Fill {
+            min,
+            max,
+            state: words.after("state")?.whole()?,
+            shape: words.after("shape")?.whole()?,
+        })
+    }
+
+    fn patch(&mut self, words: &mut Words) -> Result<(), String> {
+        let at: usize = words.whole()?;
+        let bytes = hex(words.word()?)?;
+        self.last()?
+            .get_mut(at..at + bytes.len())
+            .ok_or("the patch passes the record's end")?
+            .copy_from_slice(&bytes);
+        Ok(())
+    }
+
+    fn last(&mut self) -> Result<&mut Vec<u8>, String> {
+        self.records.last_mut().ok_or("no record above".to_string())
     }
 
     /// The corners of the whole window.
@@ -392,6 +227,51 @@ impl<'a> Words<'a> {
             word if word == name => Ok(self),
             word => Err(format!("{word} where {name} was awaited")),
         }
+    }
+
+    /// Passes the word if it comes next.
+    fn took(&mut self, name: &str) -> bool {
+        let comes = self.peek() == Some(name);
+        self.next += usize::from(comes);
+        comes
+    }
+
+    fn request(&mut self) -> Result<Record, String> {
+        Ok(Record::Request {
+            start: self.after("start")?.floats()?,
+            goal: self.after("goal")?.floats()?,
+            max_range: self.after("range")?.float()?,
+            budget: self.after("budget")?.whole()?,
+        })
+    }
+
+    fn body(&mut self) -> Result<Record, String> {
+        Ok(Record::Body {
+            step: self.after("step")?.float()?,
+            jump: self.after("jump")?.float()?,
+            drop: self.after("drop")?.float()?,
+            width: self.after("width")?.float()?,
+            height: self.after("height")?.float()?,
+            body_step: self.after("bodystep")?.float()?,
+        })
+    }
+
+    fn shape(&mut self) -> Result<Record, String> {
+        let shape = self.whole()?;
+        let [a, b, c] = self.after("box")?.floats()?;
+        let [d, e, f] = self.after("to")?.floats()?;
+        Ok(Record::Shape {
+            shape,
+            numbers: [a, b, c, d, e, f],
+        })
+    }
+
+    /// A name for a whole number.
+    fn name(&mut self) -> Result<(), String> {
+        let name = self.word()?.to_string();
+        let value = self.after("=")?.number()?;
+        self.names.insert(name, value);
+        Ok(())
     }
 
     fn end(&mut self) -> Result<(), String> {
@@ -476,7 +356,7 @@ fn float_text(number: f64) -> String {
 }
 
 fn hex(word: &str) -> Result<Vec<u8>, String> {
-    if !word.is_ascii() || word.len() % 2 != 0 {
+    if !word.is_ascii() || !word.len().is_multiple_of(2) {
         return Err(format!("{word} is no row of hex bytes"));
     }
     (0..word.len() / 2)
