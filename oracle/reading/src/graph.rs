@@ -366,7 +366,11 @@ impl Graph<'_> {
         }
         if falls {
             // "Drop, lift 0, if at most max_drop + E, else none."
-            return as_drop.then_some((DROP, 0.0));
+            let lift = match self.edit {
+                DropLiftedByFall => -dy,
+                _ => 0.0,
+            };
+            return as_drop.then_some((DROP, lift));
         }
         // "Otherwise Walk, lift the larger of dy and 0."
         let lift = match self.edit {
@@ -465,9 +469,16 @@ impl Graph<'_> {
             HeightsLayerAbove => floor(high) + 1,
             _ => floor(high),
         };
+        let around = match self.edit {
+            HeightsOfCellsAround => 1,
+            _ => 0,
+        };
         let mut tops = Vec::new();
-        for cell_y in lowest..=highest {
-            let cell = self.cell(column_x, cell_y, column_z);
+        for (cell_x, cell_y, cell_z) in (lowest..=highest).flat_map(|y| {
+            let xs = column_x - around..=column_x + around;
+            xs.flat_map(move |x| (column_z - around..=column_z + around).map(move |z| (x, y, z)))
+        }) {
+            let cell = self.cell(cell_x, cell_y, cell_z);
             if !cell.support && !self.is(HeightsSupportUnread) {
                 continue;
             }

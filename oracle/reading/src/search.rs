@@ -68,7 +68,8 @@ pub fn search_in(scene: &Scene, rooms: &Rooms, edit: Variant) -> Verdict {
     {
         return without_search(Outcome::Unreachable);
     }
-    if request.node_budget == 0 {
+    let at_goal = same_point(request.start, request.goal, edit);
+    if request.node_budget == 0 && !(edit == StartAtGoalBeforeBudget && at_goal) {
         return without_search(match edit {
             BudgetZeroUnreachable => Outcome::Unreachable,
             _ => Outcome::BudgetExceeded,
@@ -103,17 +104,19 @@ pub fn bad_world(scene: &Scene) -> bool {
 pub fn valid_request(scene: &Scene, edit: Variant) -> bool {
     let (request, body) = (&scene.request, &scene.body);
     let above_zero = |n: f64, unread: Variant| n.is_finite() && (edit == unread || n > 0.0);
-    let at_least_zero = |n: f64, unread: Variant| n.is_finite() && (edit == unread || n >= 0.0);
+    let at_least_zero = |n: f64, sign_unread: Variant, finity_unread: Variant| {
+        (n.is_finite() || edit == finity_unread && n == f64::INFINITY)
+            && (edit == sign_unread || n >= 0.0)
+    };
     let ends = [request.start, request.goal].concat();
     if !ends.iter().all(|n| n.is_finite())
         || !above_zero(body.width, WidthSignUnread)
         || !above_zero(body.height, HeightSignUnread)
-        || !at_least_zero(request.max_range, RangeSignUnread)
-        || !at_least_zero(request.step_height, StepSignUnread)
-        || !at_least_zero(body.step_height, BodyStepSignUnread)
-        || !(at_least_zero(request.jump_height, JumpSignUnread)
-            || edit == JumpFinityUnread && request.jump_height == f64::INFINITY)
-        || !at_least_zero(request.max_drop, DropSignUnread)
+        || !(request.max_range.is_finite() && (edit == RangeSignUnread || request.max_range >= 0.0))
+        || !at_least_zero(request.step_height, StepSignUnread, StepFinityUnread)
+        || !at_least_zero(body.step_height, BodyStepSignUnread, BodyStepFinityUnread)
+        || !at_least_zero(request.jump_height, JumpSignUnread, JumpFinityUnread)
+        || !at_least_zero(request.max_drop, DropSignUnread, DropFinityUnread)
     {
         return false;
     }
@@ -123,13 +126,15 @@ pub fn valid_request(scene: &Scene, edit: Variant) -> bool {
         _ => request.max_range + body.width + body.height + 4.0,
     };
     let limit = 2147483647.0 - margin;
-    let small = |n: &f64| match edit {
+    let small = |n: f64| match edit {
         LimitIncluded => n.abs() <= limit,
+        SizeWithSign => n < limit,
         _ => n.abs() < limit,
     };
+    let near = |[x, y, z]: Point| small(x) && small(y) && (edit == SizeOfZUnread || small(z));
     limit > 0.0
-        && request.start.iter().all(small)
-        && (edit == GoalSizeUnread || request.goal.iter().all(small))
+        && (edit == StartSizeUnread || near(request.start))
+        && (edit == GoalSizeUnread || near(request.goal))
 }
 
 /// Number 4: "max_range > 64, width > 8, height > 16 or node_budget > 4,096".
@@ -248,8 +253,9 @@ impl<'a> Search<'a> {
             ConnectorAfterColumns => return None,
             _ => {}
         }
-        let connector = self.graph.connector(from)?;
+        let mut connector = self.graph.connector(from)?;
         match self.edit() {
+            ConnectorAlwaysWalk => connector.movement = 0,
             ClosedAfterConnector => self.nodes[node].closed = 0,
             ConnectorRetained => {
                 if self.full() {

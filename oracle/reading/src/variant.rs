@@ -7,7 +7,9 @@
 //! x or z (the cells that are looked at never only touch there); a re-push
 //! whose estimate is equal (a cost lower by E lowers every estimate below
 //! 4.5e8, and range 64 keeps them there); a node other than the start at the
-//! goal (whatever discovers it has a connector); halving by 2 or by 0.5; the E
+//! goal (whatever discovers it has a connector); halving by 2 or by 0.5;
+//! finiteness other than that of steps, jump and drop, and a limit of 0 or less
+//! (no coordinate is smaller than such a limit); the E
 //! of the first joint and "1 - E suffices" (whoever starts stands, and whatever
 //! is stepped to is standable, so some interval begins at 0 and one ends at 1).
 
@@ -71,6 +73,7 @@ variants! {
             UnknownSupports: "an unknown cell is a support",
             StateWithoutByteIsAir: "a state without a permission byte is air",
             MissingShapeIsEmpty: "a shape past the table is empty",
+            WindowEndWraps: "the window's end, origin + size, wraps at the largest i32",
         }
         "A known state without bit 4 has no boxes" {
             CollidesUnread: "bit 4 is not read",
@@ -84,6 +87,7 @@ variants! {
             GoalUnread: "the goal's standing is not judged first",
             BudgetZeroFirst: "budget 0 comes before the endpoints",
             BudgetZeroUnreachable: "budget 0 is Unreachable",
+            StartAtGoalBeforeBudget: "a start at the goal is found with budget 0 too",
         }
         "max_range > 64, width > 8, height > 16 or node_budget > 4,096" {
             RangeOf64TooLarge: "a range of 64 is too large",
@@ -92,6 +96,9 @@ variants! {
         }
         "all numbers finite" {
             JumpFinityUnread: "an infinite jump is valid",
+            DropFinityUnread: "an infinite drop is valid",
+            StepFinityUnread: "an infinite step of the request is valid",
+            BodyStepFinityUnread: "an infinite step of the body is valid",
         }
         "width and height above 0" {
             WidthSignUnread: "the width's sign is not read",
@@ -106,6 +113,9 @@ variants! {
         }
         "every start and goal coordinate smaller in size than 2147483647 - (max_range + width + height + 4), itself above 0" {
             GoalSizeUnread: "the goal's size is not read",
+            StartSizeUnread: "the start's size is not read",
+            SizeOfZUnread: "z's size is not read",
+            SizeWithSign: "a coordinate far below 0 is small",
             LimitIncluded: "a coordinate at the limit is valid",
             MarginWithoutFour: "the margin has no 4",
             MarginFromFour: "the margin is added from right to left",
@@ -226,6 +236,7 @@ variants! {
             DropWithoutE: "at most max_drop",
             DropAtEOut: "less than max_drop + E",
             DropEOnTheFall: "the fall less E is at most max_drop",
+            DropLiftedByFall: "the lift is the fall",
         }
         "Otherwise Walk, lift the larger of dy and 0" {
             WalkLiftZero: "the lift is 0",
@@ -305,6 +316,7 @@ variants! {
         }
         "of that column's cells with bit 2 from floor(low) - 2 to floor(high)" {
             HeightsSupportUnread: "bit 2 is not read",
+            HeightsOfCellsAround: "of the cells around the column's too",
             HeightsLayersFromMinusOne: "from floor(low) - 1",
             HeightsLayersFromMinusThree: "from floor(low) - 3",
             HeightsTopLayerMissing: "to floor(high) - 1",
@@ -338,6 +350,7 @@ variants! {
             ConnectorZUnread: "z is not read",
             ConnectorAlsoVertical: "y too",
             ConnectorRound: "the straight horizontal distance at most 1.5",
+            ConnectorAlwaysWalk: "the last point is always a Walk",
         }
     }
     "Same point" {

@@ -68,7 +68,8 @@ fn known<'a>(tables: &'a Tables, at: [i64; 3], edit: Variant) -> Option<(u8, &'a
     let [width, tall, depth] = tables.window.sizes.map(i64::from);
     let [x, y, z] = [at[0] - origin[0], at[1] - origin[1], at[2] - origin[2]];
     let inside = (0..width).contains(&x) && (0..tall).contains(&y) && (0..depth).contains(&z);
-    if !inside {
+    let wraps = || (0..3).any(|axis| origin[axis] + [width, tall, depth][axis] > i32::MAX.into());
+    if !inside || edit == Variant::WindowEndWraps && wraps() {
         return None;
     }
     // "x runs fastest, then z, then y."
