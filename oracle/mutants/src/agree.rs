@@ -1,48 +1,118 @@
-//! The unedited reading against the original, on random scenes.
+//! The unedited reading against the original: searches on random scenes, and
+//! the policy.
 
-use reading::{Variant, search};
+use original::Apex;
+use reading::{Passage, Variant, is_route, jump_apex, passage, permission, search};
 use scene::{Outcome, Record, to_text, write_bytes};
 
+use crate::chance::Chance;
 use crate::compare::{parting, same};
 use crate::draft::scene_of;
 use crate::recipes::Recipe;
 use crate::shrink::shrink;
 
-/// Compares `count` scenes from `seed` on; prints the first that part.
-pub fn agree(make: Recipe, seed: u64, count: u64) -> bool {
-    let mut outcomes = [0_u64; 4];
-    let mut bad = 0;
-    let mut nodes = 0;
+/// How the scenes ended.
+#[derive(Default)]
+struct Ends {
+    found: u64,
+    unreachable: u64,
+    exceeded: u64,
+    refused: u64,
+    bad: u64,
+    nodes: usize,
+}
+
+/// Compares `count` scenes from `seed` on: outcome or refusal, list, counts and
+/// node records, bit for bit; a found list must also be a route. Prints the
+/// first scene that parts.
+pub fn agree(name: &str, make: &Recipe, seed: u64, count: u64) -> bool {
+    let mut ends = Ends::default();
     for number in seed..seed + count {
         let records = make(number);
         let Some(scene) = scene_of(&records) else {
-            bad += 1;
+            ends.bad += 1;
             continue;
         };
         let ours = search(&scene, Variant::ReadAsWritten);
-        let theirs = original::judge(&scene);
-        if !same(&ours, &theirs) {
-            println!("seed {number}: the reading and the original part");
+        if !same(&ours, &original::judge(&scene)) {
+            println!("{name} {number}: the reading and the original part");
             show(records);
             return false;
         }
         match ours {
             Ok(answer) => {
-                nodes += answer.nodes.len();
-                outcomes[match answer.outcome {
-                    Outcome::Found => 0,
-                    Outcome::Unreachable => 1,
-                    Outcome::BudgetExceeded => 2,
-                }] += 1;
+                ends.nodes += answer.nodes.len();
+                match answer.outcome {
+                    Outcome::Found => ends.found += 1,
+                    Outcome::Unreachable => ends.unreachable += 1,
+                    Outcome::BudgetExceeded => ends.exceeded += 1,
+                }
+                let found = answer.outcome == Outcome::Found;
+                if found != is_route(&scene, &answer.list) {
+                    println!("{name} {number}: the list is no route, or a route without a find");
+                    print!("{}", to_text(&write_bytes(&records)));
+                    return false;
+                }
             }
-            Err(_) => outcomes[3] += 1,
+            Err(_) => ends.refused += 1,
         }
     }
-    let [found, unreachable, exceeded, refused] = outcomes;
+    let Ends { found, unreachable, exceeded, refused, bad, nodes } = ends;
     println!(
-        "{count} scenes from seed {seed} agree: {found} found, {unreachable} unreachable, \
-         {exceeded} budgetexceeded, {refused} refused, {bad} no scenes; {nodes} node records"
+        "{name}: {count} scenes from seed {seed} agree: {found} found, {unreachable} unreachable, \
+         {exceeded} exceeded, {refused} refused, {bad} bad; {nodes} nodes"
     );
+    true
+}
+
+/// Compares passages and permission bytes for every policy and flag byte, and
+/// jumps for random powers and gravities.
+pub fn agree_policy(seed: u64, jumps: u64) -> bool {
+    let flags: Vec<u8> = (0..=255).collect();
+    for number in 0..256 {
+        let theirs = original::Policy::numbered(number % 128, 1.25);
+        let ours = reading::Policy {
+            avoid_water: theirs.avoid_water,
+            avoid_damage_blocks: theirs.avoid_damage_blocks,
+            can_jump: theirs.can_jump,
+            jump_height: theirs.jump_height,
+            can_pass_doors: theirs.can_pass_doors,
+            can_open_doors: theirs.can_open_doors,
+            can_open_iron_doors: theirs.can_open_iron_doors,
+            door_breaker: theirs.door_breaker,
+        };
+        let in_water = number >= 128;
+        let bytes = original::permission_bytes(&theirs, in_water, &flags);
+        for (&flags, byte) in flags.iter().zip(bytes) {
+            let number = match passage(&ours, flags) {
+                Passage::Shape => 0,
+                Passage::Through => 1,
+                Passage::Wall => 2,
+            };
+            if number != original::door_passage(&theirs, flags)
+                || permission(&ours, in_water, flags) != byte
+            {
+                println!("policy {theirs:?}, flags {flags}: the reading and the original part");
+                return false;
+            }
+        }
+    }
+    let mut chance = Chance::new(seed);
+    for _ in 0..jumps {
+        let power = chance.pick(&[0.1, 1.0, 40.0, 1e9]) * (2.0 * chance.part() - 0.2);
+        let gravity = chance.pick(&[1e-3, 0.08, 1.0, 1e3]) * (chance.part() - 0.1);
+        let theirs = original::jump_apex(power as f32, gravity);
+        let agrees = match (jump_apex(power as f32, gravity), theirs) {
+            (Ok(ours), Apex::Height(theirs)) => ours.to_bits() == theirs.to_bits(),
+            (Err(refusal), Apex::Endless) => refusal.number == 6,
+            _ => false,
+        };
+        if !agrees {
+            println!("power {power}, gravity {gravity}: the reading and the original part");
+            return false;
+        }
+    }
+    println!("policy: 256 policies with 256 flag bytes each and {jumps} jumps from seed {seed} agree");
     true
 }
 

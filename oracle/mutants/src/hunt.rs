@@ -3,8 +3,8 @@
 
 use std::path::Path;
 
-use reading::{Variant, search};
-use scene::{Record, Scene, to_text, write_bytes};
+use reading::{VARIANTS, Variant, search};
+use scene::{RECORD, Record, Scene, to_text};
 
 use crate::compare::{parting, same};
 use crate::draft::scene_of;
@@ -52,7 +52,7 @@ impl Quarry {
 }
 
 /// The text of a scene, headed by the sentence that it is about.
-fn page(records: &[Record], variant: Variant) -> String {
+pub fn page(records: &[Record], variant: Variant) -> String {
     let [part, sentence, edit] = variant.about();
     let scene = scene_of(records).expect("a good scene");
     let right = search(&scene, Variant::ReadAsWritten);
@@ -60,8 +60,59 @@ fn page(records: &[Record], variant: Variant) -> String {
     let [is, would_be] = parting(&right, &wrong);
     format!(
         "# {part}: \"{sentence}\".\n# Misread: {edit}.\n# Right: {is}\n# Wrong: {would_be}\n{}",
-        to_text(&write_bytes(records))
+        plain_text(records)
     )
+}
+
+/// The text of the records, with short forms for fills.
+fn plain_text(records: &[Record]) -> String {
+    let mut out = String::new();
+    for record in records {
+        let mut line = to_text(&record.bytes());
+        if let Record::Fill { min, max, .. } = record {
+            let (from, to) = line.split_once(" to ").unwrap_or((&line, ""));
+            let content = to.find("state").map_or("", |at| &to[at..]);
+            if is_whole(min, max, records) {
+                line = format!("fill all {content}");
+            } else if min == max {
+                line = format!("{from} {content}");
+            }
+        }
+        out.push_str(&line);
+    }
+    out
+}
+
+/// Whether the corners are the window's.
+fn is_whole(min: &[i32; 3], max: &[i32; 3], records: &[Record]) -> bool {
+    records.iter().any(|record| match record {
+        Record::Window { origin, sizes } => (0..3).all(|axis| {
+            let last = i64::from(origin[axis]) + i64::from(sizes[axis]) - 1;
+            min[axis] == origin[axis] && i64::from(max[axis]) == last
+        }),
+        _ => false,
+    })
+}
+
+/// Makes the scenes that were written by a hunt smaller again, and writes them
+/// anew; those with words of their own stay.
+pub fn tidy(folder: &Path) {
+    for &variant in VARIANTS {
+        let file = folder.join(format!("{}.txt", variant.name()));
+        let Ok(text) = std::fs::read_to_string(&file) else { continue };
+        let comments = text.lines().filter(|line| line.contains('#')).count();
+        let [part, sentence, edit] = variant.about();
+        let head = format!("# {part}: \"{sentence}\".\n# Misread: {edit}.\n# Right");
+        if comments != 4 || !text.starts_with(&head) {
+            println!("{} has words of its own", variant.name());
+            continue;
+        }
+        let bytes = scene::from_text(&text).expect("a scene's text");
+        let records: Vec<Record> = bytes.chunks(RECORD).map(Record::from_bytes).collect();
+        let mut quarry = Quarry::new(variant);
+        quarry.offer(&records, &scene_of(&records).expect("a good scene"));
+        quarry.write(folder);
+    }
 }
 
 /// Offers random scenes until every variant was told apart `enough` times or
@@ -70,7 +121,7 @@ pub fn hunt(
     variants: &[Variant],
     seeds: std::ops::Range<u64>,
     enough: usize,
-    make: Recipe,
+    make: &Recipe,
     folder: &Path,
 ) {
     let mut open: Vec<Quarry> = variants.iter().copied().map(Quarry::new).collect();

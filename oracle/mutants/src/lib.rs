@@ -13,10 +13,14 @@ mod table;
 use std::path::PathBuf;
 
 use reading::{VARIANTS, Variant};
+use scene::KINDS;
+
+use crate::recipes::{RECIPES, Recipe};
 
 const USAGE: &str = "\
 oracle mutants
-oracle mutants agree RECIPE SEED COUNT
+oracle mutants agree SEED COUNT [RECIPE ..]
+oracle mutants tidy
 oracle mutants hunt RECIPE SEED COUNT ENOUGH [NAME ..]
 ";
 
@@ -26,11 +30,21 @@ pub fn run(arguments: &[String]) -> bool {
     let words: Vec<&str> = arguments.iter().map(String::as_str).collect();
     match words[..] {
         [] => table::table(&scenes(), 0, 20_000),
-        ["agree", name, seed, count] => agree::agree(recipe(name), number(seed), number(count)),
+        ["agree", seed, count, ref names @ ..] => {
+            let (seed, count) = (number(seed), number(count));
+            let all = || RECIPES.iter().chain(&KINDS).copied().collect();
+            let names: Vec<&str> = if names.is_empty() { all() } else { names.to_vec() };
+            names.iter().all(|name| agree::agree(name, &recipe(name), seed, count))
+                && agree::agree_policy(seed, count)
+        }
+        ["tidy"] => {
+            hunt::tidy(&scenes());
+            true
+        }
         ["hunt", name, seed, count, enough, ref names @ ..] => {
             let first = number(seed);
             let seeds = first..first + number(count);
-            hunt::hunt(&chosen(names), seeds, number(enough) as usize, recipe(name), &scenes());
+            hunt::hunt(&chosen(names), seeds, number(enough) as usize, &recipe(name), &scenes());
             true
         }
         _ => {
@@ -40,7 +54,7 @@ pub fn run(arguments: &[String]) -> bool {
     }
 }
 
-fn recipe(name: &str) -> recipes::Recipe {
+fn recipe(name: &str) -> Recipe {
     recipes::recipe(name).unwrap_or_else(|| panic!("{name} is no recipe"))
 }
 

@@ -3,24 +3,35 @@
 //! stand in cells far above or below, and mirrored floors.
 
 use reading::E;
-use scene::Record;
+use scene::{RECORD, Record};
 
 use crate::chance::Chance;
 
 /// Makes a scene from a seed.
-pub type Recipe = fn(u64) -> Vec<Record>;
+pub type Recipe = Box<dyn Fn(u64) -> Vec<Record>>;
+
+/// The names of the recipes here; the kinds of `oracle make` are recipes too.
+pub const RECIPES: [&str; 6] = ["draft", "edges", "plates", "twins", "mirror", "toll"];
 
 /// The recipe of a name.
 pub fn recipe(name: &str) -> Option<Recipe> {
-    match name {
-        "draft" => Some(crate::draft::draft),
-        "borders" => Some(borders),
-        "plates" => Some(plates),
-        "twins" => Some(twins),
-        "mirror" => Some(mirror),
-        "toll" => Some(toll),
-        _ => None,
-    }
+    let own: fn(u64) -> Vec<Record> = match name {
+        "draft" => crate::draft::draft,
+        "edges" => edges,
+        "plates" => plates,
+        "twins" => twins,
+        "mirror" => mirror,
+        "toll" => toll,
+        _ => {
+            let kind = name.to_string();
+            scene::make(0, name)?;
+            return Some(Box::new(move |seed| {
+                let bytes = scene::make(seed, &kind).expect("a kind of scene");
+                bytes.chunks(RECORD).map(Record::from_bytes).collect()
+            }));
+        }
+    };
+    Some(Box::new(own))
 }
 
 fn ulps(chance: &mut Chance, number: f64) -> f64 {
@@ -57,7 +68,7 @@ fn stone(at: [i32; 3], shape: u32) -> Record {
 
 /// Floors in cells at height 0 whose tops, and the climbs between them, lie at
 /// a border.
-pub fn borders(seed: u64) -> Vec<Record> {
+fn edges(seed: u64) -> Vec<Record> {
     let mut chance = Chance::new(seed);
     let sizes = [chance.between(2, 3) as u32, 4, chance.between(1, 3) as u32];
     let base = match chance.below(4) {
@@ -120,7 +131,7 @@ fn climb_of(chance: &mut Chance) -> f64 {
 }
 
 /// A floor at height 1 made of plates with gaps about E wide, in x or in both.
-pub fn plates(seed: u64) -> Vec<Record> {
+fn plates(seed: u64) -> Vec<Record> {
     let mut chance = Chance::new(seed);
     let sizes = [3, 3, chance.between(1, 2) as u32];
     let from = chance.pick(&[0.0, 0.5, 0.25, 0.3, 0.1]);
@@ -168,7 +179,7 @@ pub fn plates(seed: u64) -> Vec<Record> {
 
 /// A floor, and over or under it boxes of far cells whose tops lie within E of
 /// the floor's top.
-pub fn twins(seed: u64) -> Vec<Record> {
+fn twins(seed: u64) -> Vec<Record> {
     let mut chance = Chance::new(seed);
     let sizes = [chance.between(1, 3) as u32, 9, 1];
     let floor = chance.between(3, 5);
@@ -227,7 +238,7 @@ pub fn twins(seed: u64) -> Vec<Record> {
 
 /// A floor that mirrors itself in the line from start to goal, but for a cell
 /// or two.
-pub fn mirror(seed: u64) -> Vec<Record> {
+fn mirror(seed: u64) -> Vec<Record> {
     let mut chance = Chance::new(seed);
     let half = chance.between(1, 2);
     let sizes = [chance.between(3, 7) as u32, 5, 2 * half as u32 + 1];
@@ -261,7 +272,7 @@ pub fn mirror(seed: u64) -> Vec<Record> {
 /// Two ways to one column, the first found longer than the second by a slab's
 /// rise: their costs differ by about E, on both sides of 4 (a power of two:
 /// sums round coarser above it than below).
-pub fn toll(seed: u64) -> Vec<Record> {
+fn toll(seed: u64) -> Vec<Record> {
     let mut chance = Chance::new(seed);
     let start = [-1.5 + E * chance.part(), 1.0, 0.5];
     let rise = E.sqrt() * (1.0 + 1e-7 * (chance.part() - 0.5));

@@ -14,9 +14,24 @@ pub fn shrink(mut records: Vec<Record>, keeps: &dyn Fn(&[Record]) -> bool) -> Ve
     }
 }
 
-/// The length of the text, with cells and budget on top.
+/// The length of the text, with cells and budget on top, and with what reaches
+/// out of the window.
 pub fn weight(records: &[Record]) -> usize {
     let text: usize = to_text(&write_bytes(records)).len();
+    let window = records.iter().find_map(|record| match record {
+        Record::Window { origin, sizes } => Some((origin.map(i64::from), sizes.map(i64::from))),
+        _ => None,
+    });
+    let outside = |min: &[i32; 3], max: &[i32; 3]| -> usize {
+        let Some((origin, sizes)) = window else { return 0 };
+        (0..3)
+            .map(|axis| {
+                let before = origin[axis] - i64::from(min[axis]);
+                let behind = i64::from(max[axis]) - (origin[axis] + sizes[axis] - 1);
+                (before.max(0) + behind.max(0)).min(50) as usize
+            })
+            .sum()
+    };
     let extra: usize = records
         .iter()
         .map(|record| match record {
@@ -26,6 +41,7 @@ pub fn weight(records: &[Record]) -> usize {
             }
             Record::Request { budget, .. } => *budget as usize / 8,
             Record::Shape { shape, .. } => *shape as usize,
+            Record::Fill { min, max, .. } => outside(min, max),
             _ => 0,
         })
         .sum();
