@@ -57,7 +57,14 @@ pub fn agree(name: &str, make: &Recipe, seed: u64, count: u64) -> bool {
             Err(_) => ends.refused += 1,
         }
     }
-    let Ends { found, unreachable, exceeded, refused, bad, nodes } = ends;
+    let Ends {
+        found,
+        unreachable,
+        exceeded,
+        refused,
+        bad,
+        nodes,
+    } = ends;
     println!(
         "{name}: {count} scenes from seed {seed} agree: {found} found, {unreachable} unreachable, \
          {exceeded} exceeded, {refused} refused, {bad} bad; {nodes} nodes"
@@ -112,7 +119,9 @@ pub fn agree_policy(seed: u64, jumps: u64) -> bool {
             return false;
         }
     }
-    println!("policy: 256 policies with 256 flag bytes each and {jumps} jumps from seed {seed} agree");
+    println!(
+        "policy: 256 policies with 256 flag bytes each and {jumps} jumps from seed {seed} agree"
+    );
     true
 }
 
@@ -120,7 +129,10 @@ pub fn agree_policy(seed: u64, jumps: u64) -> bool {
 fn show(records: Vec<Record>) {
     let both = |records: &[Record]| {
         let scene = scene_of(records)?;
-        Some((search(&scene, Variant::ReadAsWritten), original::judge(&scene)))
+        Some((
+            search(&scene, Variant::ReadAsWritten),
+            original::judge(&scene),
+        ))
     };
     let small = shrink(records, &|records| {
         both(records).is_some_and(|(ours, theirs)| !same(&ours, &theirs))

@@ -12,6 +12,28 @@ pub fn same(a: &Verdict, b: &Verdict) -> bool {
     }
 }
 
+/// What parts them: the outcome, else the list, else the counts, else the node
+/// records.
+pub fn shown_by(a: &Verdict, b: &Verdict) -> &'static str {
+    let (Ok(a), Ok(b)) = (a, b) else {
+        return "outcome";
+    };
+    let lists = a.list.len() == b.list.len()
+        && a.list
+            .iter()
+            .zip(&b.list)
+            .all(|(x, y)| x.bytes() == y.bytes());
+    if a.outcome != b.outcome {
+        "outcome"
+    } else if !lists {
+        "list"
+    } else if (a.nodes.len(), a.closed) != (b.nodes.len(), b.closed) {
+        "counts"
+    } else {
+        "nodes"
+    }
+}
+
 /// The first line where the printed answers part, else the first node record.
 pub fn parting(a: &Verdict, b: &Verdict) -> [String; 2] {
     let (left, right) = (lines(a), lines(b));
@@ -27,7 +49,10 @@ pub fn parting(a: &Verdict, b: &Verdict) -> [String; 2] {
 
 fn lines(verdict: &Verdict) -> Vec<String> {
     let mut lines: Vec<String> = print_verdict(verdict).lines().map(str::to_string).collect();
-    for (place, node) in verdict.iter().flat_map(|answer| answer.nodes.iter().enumerate()) {
+    for (place, node) in verdict
+        .iter()
+        .flat_map(|answer| answer.nodes.iter().enumerate())
+    {
         let [x, y, z] = node.point.feet;
         lines.push(format!(
             "node {place} at {x} {y} {z}, movement {}, lift {:016x}, cost {:016x}, parent {}, closed {}",

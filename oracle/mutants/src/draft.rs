@@ -38,7 +38,11 @@ impl Draft {
             2 => [-1, -1, -1],
             _ => [0, 0, 0],
         };
-        let sizes = [chance.between(1, 6), chance.between(3, 7), chance.between(1, 5)];
+        let sizes = [
+            chance.between(1, 6),
+            chance.between(3, 7),
+            chance.between(1, 5),
+        ];
         let mut this = Self {
             chance,
             nudges,
@@ -56,7 +60,10 @@ impl Draft {
         if !self.chance.once_in(self.nudges) {
             return number;
         }
-        let e = self.chance.pick(&[0.5, 0.8, 1.0, 1.0, 1.0, 1.0, 1.2, 1.6, 2.0, 3.0]) * E;
+        let e = self
+            .chance
+            .pick(&[0.5, 0.8, 1.0, 1.0, 1.0, 1.0, 1.2, 1.6, 2.0, 3.0])
+            * E;
         let moved = match self.chance.below(10) {
             0 => number,
             1 => number + 0.1 * self.chance.part(),
@@ -73,7 +80,8 @@ impl Draft {
     fn furnish(&mut self) {
         let top = self.chance.pick(&[0.0, 0.5, 1.0, 1.0, 1.0]);
         let floor = self.nudge(top);
-        self.shapes.push((1, [0.0, -1.0_f64.min(floor), 0.0, 1.0, floor, 1.0]));
+        self.shapes
+            .push((1, [0.0, -1.0_f64.min(floor), 0.0, 1.0, floor, 1.0]));
         let kinds = self.chance.between(1, 4) as u32;
         for shape in 2..2 + kinds {
             for _ in 0..self.chance.between(1, 3) {
@@ -120,7 +128,12 @@ impl Draft {
     }
 
     fn fill(&mut self, min: [i32; 3], max: [i32; 3], state: u32, shape: u32) {
-        self.fills.push(Record::Fill { min, max, state, shape });
+        self.fills.push(Record::Fill {
+            min,
+            max,
+            state,
+            shape,
+        });
     }
 
     fn shape_box(&mut self, floor: f64) -> [f64; 6] {
@@ -172,7 +185,9 @@ impl Draft {
 
     /// A height that may carry from one top to another.
     fn climb(&mut self) -> f64 {
-        let usual = self.chance.pick(&[0.0, 0.5, 0.5, 0.5625, 1.0, 1.25, 2.0, 3.0]);
+        let usual = self
+            .chance
+            .pick(&[0.0, 0.5, 0.5, 0.5625, 1.0, 1.25, 2.0, 3.0]);
         let (a, b) = (self.shapes[0].1[4], self.chance.below(self.shapes.len()));
         let rise = (self.shapes[b].1[4] - a + f64::from(self.chance.between(0, 1))).abs();
         let number = if self.chance.once_in(2) { usual } else { rise };
@@ -182,8 +197,12 @@ impl Draft {
     fn records(&mut self) -> Vec<Record> {
         let range = self.chance.pick(&[1.0, 2.0, 3.0, 16.0, 16.0, 16.0]);
         let mut max_range = self.nudge(range);
-        let budget = self.chance.pick(&[64, 64, 64, 30, 12, 9, 6, 5, 4, 3, 2, 1, 0]);
-        let width = self.chance.pick(&[0.625, 0.625, 0.6, 0.25, 1.0, 0.5, 1.5, 1e-20]);
+        let budget = self
+            .chance
+            .pick(&[64, 64, 64, 30, 12, 9, 6, 5, 4, 3, 2, 1, 0]);
+        let width = self
+            .chance
+            .pick(&[0.625, 0.625, 0.6, 0.25, 1.0, 0.5, 1.5, 1e-20]);
         let height = self.chance.pick(&[1.75, 1.0, 1.8, 0.5, 0.9, 2.5, 1e-20]);
         let body = Record::Body {
             step: self.climb(),
@@ -194,7 +213,12 @@ impl Draft {
             body_step: self.climb(),
         };
         let any = [0.5, 1.0, 0.5];
-        let request = Record::Request { start: any, goal: any, max_range, budget };
+        let request = Record::Request {
+            start: any,
+            goal: any,
+            max_range,
+            budget,
+        };
         let tables = scene_of(&self.with(request, body.clone()));
         let start = self.standing(tables.as_ref());
         let goal = match self.chance.below(30) {
@@ -205,7 +229,15 @@ impl Draft {
             let axis = self.chance.below(3);
             max_range = self.nudge((goal[axis] - start[axis]).abs());
         }
-        self.with(Record::Request { start, goal, max_range, budget }, body)
+        self.with(
+            Record::Request {
+                start,
+                goal,
+                max_range,
+                budget,
+            },
+            body,
+        )
     }
 
     /// A point where the body stands, if a few tries find one.
@@ -213,7 +245,11 @@ impl Draft {
         for _ in 0..40 {
             let point = self.point();
             let stands = tables.is_some_and(|scene| {
-                Graph { scene, edit: Variant::ReadAsWritten }.standable(point)
+                Graph {
+                    scene,
+                    edit: Variant::ReadAsWritten,
+                }
+                .standable(point)
             });
             if stands || self.chance.once_in(200) {
                 return point;
@@ -224,12 +260,18 @@ impl Draft {
 
     fn with(&self, request: Record, body: Record) -> Vec<Record> {
         let mut records = vec![request, body];
-        records.push(Record::Window { origin: self.origin, sizes: self.sizes });
+        records.push(Record::Window {
+            origin: self.origin,
+            sizes: self.sizes,
+        });
         for &(shape, numbers) in &self.shapes {
             records.push(Record::Shape { shape, numbers });
         }
         for (state, &permission) in self.states.iter().enumerate() {
-            records.push(Record::State { state: state as u32, permission });
+            records.push(Record::State {
+                state: state as u32,
+                permission,
+            });
         }
         records.extend(self.fills.iter().cloned());
         records

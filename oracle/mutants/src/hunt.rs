@@ -13,7 +13,10 @@ use crate::shrink::{shrink, weight};
 
 /// Whether the scene tells the variant from the reading.
 pub fn tells(scene: &Scene, variant: Variant) -> bool {
-    !same(&search(scene, Variant::ReadAsWritten), &search(scene, variant))
+    !same(
+        &search(scene, Variant::ReadAsWritten),
+        &search(scene, variant),
+    )
 }
 
 /// The best scene so far for a variant.
@@ -25,7 +28,11 @@ pub struct Quarry {
 
 impl Quarry {
     pub fn new(variant: Variant) -> Self {
-        Self { variant, found: 0, best: None }
+        Self {
+            variant,
+            found: 0,
+            best: None,
+        }
     }
 
     /// Takes a scene in if it tells the variant apart and is the smallest.
@@ -37,7 +44,11 @@ impl Quarry {
         let small = shrink(records.to_vec(), &|records| {
             scene_of(records).is_some_and(|scene| tells(&scene, self.variant))
         });
-        if self.best.as_ref().is_none_or(|best| weight(&small) < weight(best)) {
+        if self
+            .best
+            .as_ref()
+            .is_none_or(|best| weight(&small) < weight(best))
+        {
             self.best = Some(small);
         }
     }
@@ -99,7 +110,9 @@ fn is_whole(min: &[i32; 3], max: &[i32; 3], records: &[Record]) -> bool {
 pub fn tidy(folder: &Path) {
     for &variant in VARIANTS {
         let file = folder.join(format!("{}.txt", variant.name()));
-        let Ok(text) = std::fs::read_to_string(&file) else { continue };
+        let Ok(text) = std::fs::read_to_string(&file) else {
+            continue;
+        };
         let comments = text.lines().filter(|line| line.contains('#')).count();
         let [part, sentence, edit] = variant.about();
         let head = format!("# {part}: \"{sentence}\".\n# Misread: {edit}.\n# Right");
@@ -127,7 +140,9 @@ pub fn hunt(
     let mut open: Vec<Quarry> = variants.iter().copied().map(Quarry::new).collect();
     for seed in seeds {
         let records = make(seed);
-        let Some(scene) = scene_of(&records) else { continue };
+        let Some(scene) = scene_of(&records) else {
+            continue;
+        };
         for quarry in &mut open {
             let before = quarry.found;
             quarry.offer(&records, &scene);
@@ -141,6 +156,10 @@ pub fn hunt(
         }
     }
     for quarry in open {
-        println!("{} was told apart {} times", quarry.variant.name(), quarry.found);
+        println!(
+            "{} was told apart {} times",
+            quarry.variant.name(),
+            quarry.found
+        );
     }
 }

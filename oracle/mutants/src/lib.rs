@@ -33,8 +33,14 @@ pub fn run(arguments: &[String]) -> bool {
         ["agree", seed, count, ref names @ ..] => {
             let (seed, count) = (number(seed), number(count));
             let all = || RECIPES.iter().chain(&KINDS).copied().collect();
-            let names: Vec<&str> = if names.is_empty() { all() } else { names.to_vec() };
-            names.iter().all(|name| agree::agree(name, &recipe(name), seed, count))
+            let names: Vec<&str> = if names.is_empty() {
+                all()
+            } else {
+                names.to_vec()
+            };
+            names
+                .iter()
+                .all(|name| agree::agree(name, &recipe(name), seed, count))
                 && agree::agree_policy(seed, count)
         }
         ["tidy"] => {
@@ -44,7 +50,13 @@ pub fn run(arguments: &[String]) -> bool {
         ["hunt", name, seed, count, enough, ref names @ ..] => {
             let first = number(seed);
             let seeds = first..first + number(count);
-            hunt::hunt(&chosen(names), seeds, number(enough) as usize, &recipe(name), &scenes());
+            hunt::hunt(
+                &chosen(names),
+                seeds,
+                number(enough) as usize,
+                &recipe(name),
+                &scenes(),
+            );
             true
         }
         _ => {
@@ -64,7 +76,8 @@ fn scenes() -> PathBuf {
 }
 
 fn number(word: &str) -> u64 {
-    word.parse().unwrap_or_else(|_| panic!("{word} is no number"))
+    word.parse()
+        .unwrap_or_else(|_| panic!("{word} is no number"))
 }
 
 /// The variants of these names, or those without a directed scene.
@@ -72,7 +85,12 @@ fn chosen(names: &[&str]) -> Vec<Variant> {
     if names.is_empty() {
         return table::survivors(&scenes());
     }
-    let named = |name: &&str| VARIANTS.iter().copied().find(|variant| variant.name() == *name);
+    let named = |name: &&str| {
+        VARIANTS
+            .iter()
+            .copied()
+            .find(|variant| variant.name() == *name)
+    };
     names
         .iter()
         .map(|name| named(name).unwrap_or_else(|| panic!("{name} is no variant")))

@@ -56,14 +56,27 @@ fn about(chance: &mut Chance, number: f64) -> f64 {
 /// Air and stone, and air everywhere.
 fn air(records: &mut Vec<Record>, sizes: [u32; 3]) {
     for state in 0..2 {
-        records.push(Record::State { state, permission: 7 });
+        records.push(Record::State {
+            state,
+            permission: 7,
+        });
     }
     let max = sizes.map(|n| n as i32 - 1);
-    records.push(Record::Fill { min: [0; 3], max, state: 0, shape: 0 });
+    records.push(Record::Fill {
+        min: [0; 3],
+        max,
+        state: 0,
+        shape: 0,
+    });
 }
 
 fn stone(at: [i32; 3], shape: u32) -> Record {
-    Record::Fill { min: at, max: at, state: 1, shape }
+    Record::Fill {
+        min: at,
+        max: at,
+        state: 1,
+        shape,
+    }
 }
 
 /// Floors in cells at height 0 whose tops, and the climbs between them, lie at
@@ -97,7 +110,11 @@ fn edges(seed: u64) -> Vec<Record> {
         }
     };
     let (step, jump, drop, range) = (climb(), climb(), climb(), climb());
-    let body_step = if chance.once_in(4) { climb_of(&mut chance) } else { step };
+    let body_step = if chance.once_in(4) {
+        climb_of(&mut chance)
+    } else {
+        step
+    };
     let max_range = if chance.once_in(3) { range } else { 16.0 };
     let ends = [0, 1].map(|_| {
         let x = f64::from(chance.below(sizes[0] as usize) as i32) + 0.5;
@@ -105,9 +122,24 @@ fn edges(seed: u64) -> Vec<Record> {
         [x, chance.pick(&tops), z]
     });
     let mut records = vec![
-        Record::Request { start: ends[0], goal: ends[1], max_range, budget: 64 },
-        Record::Body { step, jump, drop, width: 0.5, height: 1.0, body_step },
-        Record::Window { origin: [0; 3], sizes },
+        Record::Request {
+            start: ends[0],
+            goal: ends[1],
+            max_range,
+            budget: 64,
+        },
+        Record::Body {
+            step,
+            jump,
+            drop,
+            width: 0.5,
+            height: 1.0,
+            body_step,
+        },
+        Record::Window {
+            origin: [0; 3],
+            sizes,
+        },
     ];
     for shape in 1..=4 {
         for _ in 0..chance.pick(&[1, 1, 2, 3]) {
@@ -155,8 +187,18 @@ fn plates(seed: u64) -> Vec<Record> {
             max_range: 16.0,
             budget: 9,
         },
-        Record::Body { step: 0.5, jump: 0.0, drop: 1.0, width: 0.25, height: 1.0, body_step: 0.5 },
-        Record::Window { origin: [0; 3], sizes },
+        Record::Body {
+            step: 0.5,
+            jump: 0.0,
+            drop: 1.0,
+            width: 0.25,
+            height: 1.0,
+            body_step: 0.5,
+        },
+        Record::Window {
+            origin: [0; 3],
+            sizes,
+        },
     ];
     let mut plate = |min: f64, max: f64| {
         let numbers = [min.min(max), 0.0, 0.0, max.max(min), 1.0, 1.0];
@@ -193,7 +235,11 @@ fn twins(seed: u64) -> Vec<Record> {
     };
     let climb = |chance: &mut Chance| {
         let number = chance.pick(&[0.0, 0.0, 0.5, 1.0, 1.5, 2.0, 3.0]);
-        if chance.once_in(4) { about(chance, number).max(0.0) } else { number }
+        if chance.once_in(4) {
+            about(chance, number).max(0.0)
+        } else {
+            number
+        }
     };
     let up = |chance: &mut Chance| chance.pick(&[0.0, 0.0, 0.0, 1.0, -1.0]);
     let start = [column(&mut chance), level + up(&mut chance), 0.5];
@@ -202,7 +248,12 @@ fn twins(seed: u64) -> Vec<Record> {
     let max_range = if chance.once_in(2) { 16.0 } else { range };
     let step = climb(&mut chance);
     let mut records = vec![
-        Record::Request { start, goal, max_range, budget: 12 },
+        Record::Request {
+            start,
+            goal,
+            max_range,
+            budget: 12,
+        },
         Record::Body {
             step,
             jump: climb(&mut chance),
@@ -211,11 +262,17 @@ fn twins(seed: u64) -> Vec<Record> {
             height: 0.5,
             body_step: step,
         },
-        Record::Window { origin: [0; 3], sizes },
+        Record::Window {
+            origin: [0; 3],
+            sizes,
+        },
     ];
     let flat = |top: f64, min: f64, max: f64| [min, top, 0.0, max, top, 1.0];
     let floor_top = level - f64::from(floor);
-    records.push(Record::Shape { shape: 1, numbers: flat(floor_top, 0.0, 1.0) });
+    records.push(Record::Shape {
+        shape: 1,
+        numbers: flat(floor_top, 0.0, 1.0),
+    });
     let far_top = level + shift - f64::from(far);
     let (min, max) = chance.pick(&[(0.0, 1.0), (0.0, 1.0), (0.0, 0.5), (0.5, 1.0)]);
     let numbers = flat(far_top.clamp(-16.0, 16.0), min, max);
@@ -224,13 +281,24 @@ fn twins(seed: u64) -> Vec<Record> {
     records.push(Record::Shape { shape: 3, numbers });
     air(&mut records, sizes);
     let state = if chance.once_in(3) { 2 } else { 1 };
-    records.insert(records.len() - 1, Record::State { state: 2, permission: 5 });
+    records.insert(
+        records.len() - 1,
+        Record::State {
+            state: 2,
+            permission: 5,
+        },
+    );
     for x in 0..sizes[0] as i32 {
         let shape = if chance.once_in(4) { 3 } else { 1 };
         records.push(stone([x, floor, 0], shape));
         if chance.once_in(2) {
             let at = [x, far, 0];
-            records.push(Record::Fill { min: at, max: at, state, shape: 2 });
+            records.push(Record::Fill {
+                min: at,
+                max: at,
+                state,
+                shape: 2,
+            });
         }
     }
     records
@@ -247,18 +315,44 @@ fn mirror(seed: u64) -> Vec<Record> {
     let goal = [f64::from(sizes[0]) - 0.5, 1.0, middle];
     let jump = chance.pick(&[0.0, 1.0, 1.25]);
     let mut records = vec![
-        Record::Request { start, goal, max_range: 16.0, budget: 64 },
-        Record::Body { step: 0.5, jump, drop: 3.0, width: 0.5, height: 1.0, body_step: 0.5 },
-        Record::Window { origin: [0; 3], sizes },
+        Record::Request {
+            start,
+            goal,
+            max_range: 16.0,
+            budget: 64,
+        },
+        Record::Body {
+            step: 0.5,
+            jump,
+            drop: 3.0,
+            width: 0.5,
+            height: 1.0,
+            body_step: 0.5,
+        },
+        Record::Window {
+            origin: [0; 3],
+            sizes,
+        },
     ];
     for (shape, top) in [(1, 1.0), (2, 0.5), (3, 1.5)] {
-        records.push(Record::Shape { shape, numbers: [0.0, 0.0, 0.0, 1.0, top, 1.0] });
+        records.push(Record::Shape {
+            shape,
+            numbers: [0.0, 0.0, 0.0, 1.0, top, 1.0],
+        });
     }
     air(&mut records, sizes);
     let max = [sizes[0] as i32 - 1, 0, 2 * half];
-    records.push(Record::Fill { min: [0; 3], max, state: 1, shape: 1 });
+    records.push(Record::Fill {
+        min: [0; 3],
+        max,
+        state: 1,
+        shape: 1,
+    });
     for _ in 0..chance.between(2, 7) {
-        let (x, z) = (chance.below(sizes[0] as usize) as i32, chance.between(0, half));
+        let (x, z) = (
+            chance.below(sizes[0] as usize) as i32,
+            chance.between(0, half),
+        );
         let y = chance.between(0, 1);
         let shape = chance.pick(&[0, 1, 2, 3]);
         records.push(stone([x, y, half + z], shape));
@@ -277,16 +371,42 @@ fn toll(seed: u64) -> Vec<Record> {
     let start = [-1.5 + E * chance.part(), 1.0, 0.5];
     let rise = E.sqrt() * (1.0 + 1e-7 * (chance.part() - 0.5));
     let mut records = vec![
-        Record::Request { start, goal: [1.5, 4.0, 0.5], max_range: 16.0, budget: 16 },
-        Record::Body { step: 0.5, jump: 0.0, drop: 1.0, width: 0.5, height: 1.0, body_step: 0.5 },
-        Record::Window { origin: [-2, 0, -1], sizes: [4, 5, 2] },
+        Record::Request {
+            start,
+            goal: [1.5, 4.0, 0.5],
+            max_range: 16.0,
+            budget: 16,
+        },
+        Record::Body {
+            step: 0.5,
+            jump: 0.0,
+            drop: 1.0,
+            width: 0.5,
+            height: 1.0,
+            body_step: 0.5,
+        },
+        Record::Window {
+            origin: [-2, 0, -1],
+            sizes: [4, 5, 2],
+        },
     ];
     for (shape, top) in [(1, 1.0), (2, rise)] {
-        records.push(Record::Shape { shape, numbers: [0.0, 0.0, 0.0, 1.0, top, 1.0] });
+        records.push(Record::Shape {
+            shape,
+            numbers: [0.0, 0.0, 0.0, 1.0, top, 1.0],
+        });
     }
-    records.push(Record::State { state: 0, permission: 7 });
+    records.push(Record::State {
+        state: 0,
+        permission: 7,
+    });
     let mut fill = |min, max, shape| {
-        records.push(Record::Fill { min, max, state: 0, shape });
+        records.push(Record::Fill {
+            min,
+            max,
+            state: 0,
+            shape,
+        });
     };
     fill([-2, 0, -1], [1, 4, 0], 0);
     fill([-2, 0, 0], [1, 0, 0], 1);

@@ -23,7 +23,9 @@ pub fn weight(records: &[Record]) -> usize {
         _ => None,
     });
     let outside = |min: &[i32; 3], max: &[i32; 3]| -> usize {
-        let Some((origin, sizes)) = window else { return 0 };
+        let Some((origin, sizes)) = window else {
+            return 0;
+        };
         (0..3)
             .map(|axis| {
                 let before = origin[axis] - i64::from(min[axis]);
@@ -98,7 +100,12 @@ fn renumber_shapes(records: &[Record]) -> Vec<Record> {
         })
         .collect();
     names.dedup();
-    let new = |old: u32| names.iter().position(|&name| name == old).map_or(old, |n| n as u32 + 1);
+    let new = |old: u32| {
+        names
+            .iter()
+            .position(|&name| name == old)
+            .map_or(old, |n| n as u32 + 1)
+    };
     let mut changed = records.to_vec();
     for record in &mut changed {
         match record {
@@ -112,7 +119,10 @@ fn renumber_shapes(records: &[Record]) -> Vec<Record> {
 /// One step height for the request and the body.
 fn same_steps(records: &[Record]) -> Vec<Record> {
     let mut changed = records.to_vec();
-    if let Some(Record::Body { step, body_step, .. }) = changed.get_mut(1) {
+    if let Some(Record::Body {
+        step, body_step, ..
+    }) = changed.get_mut(1)
+    {
         *body_step = *step;
     }
     changed
@@ -183,7 +193,13 @@ fn plainer(record: &Record) -> Vec<Record> {
         Record::Fill { min, max, .. } => {
             for axis in 0..3 {
                 let (low, high) = (min[axis], max[axis]);
-                for (a, b) in [(low, low), (high, high), (low + 1, high), (low, high - 1), (0, high)] {
+                for (a, b) in [
+                    (low, low),
+                    (high, high),
+                    (low + 1, high),
+                    (low, high - 1),
+                    (0, high),
+                ] {
                     change(&mut |r| {
                         if let Record::Fill { min, max, .. } = r {
                             min[axis] = a;
@@ -226,12 +242,24 @@ fn plainer(record: &Record) -> Vec<Record> {
 /// The floats of a record.
 fn floats(record: &mut Record) -> Vec<&mut f64> {
     match record {
-        Record::Request { start, goal, max_range, .. } => {
+        Record::Request {
+            start,
+            goal,
+            max_range,
+            ..
+        } => {
             let mut all: Vec<&mut f64> = start.iter_mut().chain(goal).collect();
             all.push(max_range);
             all
         }
-        Record::Body { step, jump, drop, width, height, body_step } => {
+        Record::Body {
+            step,
+            jump,
+            drop,
+            width,
+            height,
+            body_step,
+        } => {
             vec![step, jump, drop, width, height, body_step]
         }
         Record::Shape { numbers, .. } => numbers.iter_mut().collect(),
@@ -243,7 +271,9 @@ fn floats(record: &mut Record) -> Vec<&mut f64> {
 fn rounder(number: f64) -> Vec<f64> {
     let mut out = vec![0.0, 1.0, 0.5, 2.0, 3.0, 16.0];
     out.push(number.round());
-    for scale in [2.0, 4.0, 8.0, 16.0, 10.0, 100.0, 1e3, 1e5, 1e7, 1e8, 1e9, 1e12] {
+    for scale in [
+        2.0, 4.0, 8.0, 16.0, 10.0, 100.0, 1e3, 1e5, 1e7, 1e8, 1e9, 1e12,
+    ] {
         out.push((number * scale).round() / scale);
     }
     out.push(number.trunc() + 0.5);

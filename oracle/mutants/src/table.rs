@@ -5,7 +5,7 @@ use std::path::Path;
 use reading::{VARIANTS, Variant, search};
 use scene::{Scene, Verdict};
 
-use crate::compare::{parting, same};
+use crate::compare::{parting, same, shown_by};
 use crate::draft::{draft, scene_of};
 
 /// A scene with its name and the reading's answer.
@@ -65,24 +65,34 @@ pub fn table(folder: &Path, seed: u64, count: u64) -> bool {
         let original = original::judge(&judged.scene);
         if !same(&judged.right, &original) {
             let [ours, theirs] = parting(&judged.right, &original);
-            println!("{}: the reading says {ours}, the original {theirs}", judged.name);
+            println!(
+                "{}: the reading says {ours}, the original {theirs}",
+                judged.name
+            );
             good = false;
         }
     }
-    println!("{} directed scenes, {} variants", scenes.len(), VARIANTS.len());
+    println!(
+        "{} directed scenes, {} variants",
+        scenes.len(),
+        VARIANTS.len()
+    );
     let random: Vec<Judged> = (seed..seed + count)
         .filter_map(|seed| Some(Judged::new(String::new(), scene_of(&draft(seed))?)))
         .collect();
     let mut survivors = 0;
     for &variant in VARIANTS {
-        let killers: Vec<&str> = scenes
+        let killers: Vec<&Judged> = scenes
             .iter()
             .filter(|judged| judged.tells(variant))
-            .map(|judged| judged.name.as_str())
             .collect();
-        let own = variant.name();
-        let by = match killers.iter().find(|name| **name == own).or(killers.first()) {
-            Some(name) => format!("scenes/{name}.txt"),
+        let name = variant.name();
+        let own = killers.iter().find(|judged| judged.name == name);
+        let verdict = match own.or(killers.first()) {
+            Some(judged) => {
+                let shown = shown_by(&judged.right, &search(&judged.scene, variant));
+                format!("scenes/{}.txt by {shown}", judged.name)
+            }
             None => {
                 survivors += 1;
                 "SURVIVES".to_string()
@@ -90,7 +100,7 @@ pub fn table(folder: &Path, seed: u64, count: u64) -> bool {
         };
         let chance = random.iter().filter(|judged| judged.tells(variant)).count();
         println!(
-            "{own}: {by}; {} directed, {chance} of {} random",
+            "{name}: {verdict}; {} directed, {chance} of {} random",
             killers.len(),
             random.len()
         );

@@ -5,12 +5,15 @@
 //! that a scene can be shown to tell the sentence from its misreading.
 
 mod boxes;
+mod edge;
 mod graph;
 mod policy;
+mod request;
 mod route;
 mod search;
+mod steps;
+mod support;
 mod variant;
-
 mod world;
 
 pub use graph::{E, Graph};
@@ -18,6 +21,6 @@ pub use policy::{
     DAMAGING, DOOR, GRASS, IRON_DOOR, OPEN, Passage, Policy, WATER, fill_permissions,
     find_path_request, jump_apex, passage, permission,
 };
+pub use request::{Rooms, bad_world, search, search_in, too_large, valid_request};
 pub use route::{is_route, reachable_points};
-pub use search::{Rooms, bad_world, search, search_in, too_large, valid_request};
-pub use variant::{Variant, VARIANTS};
+pub use variant::{VARIANTS, Variant};

@@ -77,7 +77,11 @@ pub fn find_path_request(policy: &Policy, body: &Body, start: [f64; 3], goal: [f
         max_range: 16.0,
         node_budget: 2048,
         step_height: body.step_height,
-        jump_height: if policy.can_jump { policy.jump_height } else { 0.0 },
+        jump_height: if policy.can_jump {
+            policy.jump_height
+        } else {
+            0.0
+        },
         max_drop: 3.0,
     }
 }
@@ -91,7 +95,10 @@ pub fn fill_permissions(
     permissions: &mut [u8],
 ) -> Result<(), Refusal> {
     if flags.len() != permissions.len() {
-        return Err(Refusal { number: 8, record: 0 });
+        return Err(Refusal {
+            number: 8,
+            record: 0,
+        });
     }
     for (byte, &flags) in permissions.iter_mut().zip(flags) {
         *byte = permission(policy, in_water, flags);
@@ -113,7 +120,10 @@ pub fn jump_apex(power: f32, gravity: f64) -> Result<f64, Refusal> {
         velocity = (velocity - gravity) * 0.98;
     }
     if velocity > 0.0 && gravity > 0.0 {
-        return Err(Refusal { number: 6, record: 0 });
+        return Err(Refusal {
+            number: 6,
+            record: 0,
+        });
     }
     Ok(height)
 }

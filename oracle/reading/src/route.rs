@@ -5,11 +5,14 @@ use scene::{Scene, Waypoint};
 use crate::Variant::ReadAsWritten;
 use crate::boxes::Point;
 use crate::graph::{Graph, same_point};
-use crate::search::valid_request;
+use crate::request::valid_request;
 
 /// The graph as 01 reads.
 fn graph(scene: &Scene) -> Graph<'_> {
-    Graph { scene, edit: ReadAsWritten }
+    Graph {
+        scene,
+        edit: ReadAsWritten,
+    }
 }
 
 fn same(a: Point, b: Point) -> bool {
@@ -18,9 +21,7 @@ fn same(a: Point, b: Point) -> bool {
 
 /// The same point, movement and lift; "lifts compare as numbers".
 fn agrees(claimed: &Waypoint, edge: &Waypoint) -> bool {
-    same(claimed.feet, edge.feet)
-        && claimed.movement == edge.movement
-        && claimed.lift == edge.lift
+    same(claimed.feet, edge.feet) && claimed.movement == edge.movement && claimed.lift == edge.lift
 }
 
 /// "Route: valid request; goal in range; both ends standable; points compared
@@ -31,7 +32,11 @@ fn agrees(claimed: &Waypoint, edge: &Waypoint) -> bool {
 pub fn is_route(scene: &Scene, list: &[Waypoint]) -> bool {
     let request = &scene.request;
     let graph = graph(scene);
-    let start = Waypoint { feet: request.start, lift: 0.0, movement: 0 };
+    let start = Waypoint {
+        feet: request.start,
+        lift: 0.0,
+        movement: 0,
+    };
     let (Some(first), Some(last)) = (list.first(), list.last()) else {
         return false;
     };

@@ -241,6 +241,7 @@ variants! {
         "Otherwise Walk, lift the larger of dy and 0" {
             WalkLiftZero: "the lift is 0",
             WalkLiftDy: "the lift is dy",
+            WalkLiftKeepsZeroSign: "the larger of -0.0 and 0 is -0.0",
         }
         "target and raised point in range" {
             TargetRangeUnread: "the target's range is not read",

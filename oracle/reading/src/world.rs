@@ -32,7 +32,7 @@ impl Cell<'_> {
 }
 
 /// The cell at `at`: known by the tables, or unknown.
-pub fn cell<'a>(tables: &'a Tables, at: [i64; 3], edit: Variant) -> Cell<'a> {
+pub fn cell(tables: &Tables, at: [i64; 3], edit: Variant) -> Cell<'_> {
     let position = at.map(|n| n as f64);
     let Some((permission, run)) = known(tables, at, edit) else {
         // "One full unit cube, neither occupiable nor a support."
@@ -63,7 +63,7 @@ pub fn cell<'a>(tables: &'a Tables, at: [i64; 3], edit: Variant) -> Cell<'a> {
 
 /// Permission byte and run of boxes. "A cell is unknown outside the window, or
 /// with no permission byte for its state, or no such shape."
-fn known<'a>(tables: &'a Tables, at: [i64; 3], edit: Variant) -> Option<(u8, &'a [[f64; 6]])> {
+fn known(tables: &Tables, at: [i64; 3], edit: Variant) -> Option<(u8, &[[f64; 6]])> {
     let origin = tables.window.origin.map(i64::from);
     let [width, tall, depth] = tables.window.sizes.map(i64::from);
     let [x, y, z] = [at[0] - origin[0], at[1] - origin[1], at[2] - origin[2]];
