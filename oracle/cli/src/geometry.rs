@@ -19,7 +19,19 @@ pub enum Question {
 }
 
 /// How many points of a scene are asked about.
-const POINTS: usize = 5;
+const POINTS: usize = 4;
+
+/// Where a point is probed from it: mostly there is no ground or a wall.
+const PROBES: [[f64; 3]; 8] = [
+    [1.0, 0.0, 0.0],
+    [0.0, 0.0, 1.0],
+    [-1.0, 0.0, 0.0],
+    [0.0, 0.0, -1.0],
+    [1.0, 1.0, 0.0],
+    [0.0, -1.0, 1.0],
+    [-1.0, 0.5, -1.0],
+    [0.0, -0.5, 0.0],
+];
 
 const E: f64 = 1.0e-7;
 
@@ -30,6 +42,10 @@ pub fn questions(scene: &Scene) -> Vec<Question> {
     let mut out = Vec::new();
     for &point in &points {
         about_point(&mut checks, scene, point, &mut out);
+        for shift in PROBES {
+            let probe = std::array::from_fn(|axis| point[axis] + shift[axis]);
+            about_pair(&mut checks, point, probe, &mut out);
+        }
     }
     for &from in &points {
         for &to in &points {
@@ -88,8 +104,9 @@ fn about_pair(checks: &mut Checks, from: [f64; 3], to: [f64; 3], out: &mut Vec<Q
         checks.supported_segment(from, to),
     ));
     let lift = edge.map_or((to[1] - from[1]).max(0.0), |point| point.lift);
-    for area in checks.areas(from, lift, to) {
-        out.push(Question::Clear(area, checks.clear_area(area)));
+    // The crossing, and the way down to the target.
+    for area in &checks.areas(from, lift, to)[1..] {
+        out.push(Question::Clear(*area, checks.clear_area(*area)));
     }
 }
 

@@ -10,8 +10,10 @@ mod selftest;
 mod stats;
 mod store;
 mod trace;
+mod walks;
 
-use std::io::{Read, Write};
+use std::io::{ErrorKind, Read, Write};
+use std::path::Path;
 use std::process::ExitCode;
 
 const USAGE: &str = "\
@@ -24,7 +26,9 @@ oracle stats KIND N
 oracle policy
 oracle policy bytes
 oracle geometry < SCENE
+oracle walkback SCENE < LIST
 oracle bench SCENE N
+oracle edges SCENE N
 oracle mutants ...
 oracle store FOLDER
 oracle selftest FOLDER
@@ -55,9 +59,15 @@ fn run(arguments: &[String]) -> Result<bool, String> {
         ["policy"] => put(policy::text().as_bytes()),
         ["policy", "bytes"] => put(&policy::bytes()),
         ["geometry"] => geometry(),
-        ["bench", file, runs] => bench(file, runs),
-        ["store", folder] => put(store::store(folder)?.as_bytes()),
-        ["selftest", folder] => selftest::selftest(folder),
+        ["bench", file, runs] => {
+            put(bench::line(file, &any_scene(file)?, number(runs)?).as_bytes())
+        }
+        ["edges", file, runs] => {
+            put(bench::edges_line(file, &any_scene(file)?, number(runs)?).as_bytes())
+        }
+        ["walkback", file] => walkback(file),
+        ["store", folder] => put(store::store(Path::new(folder))?.as_bytes()),
+        ["selftest", folder] => selftest::selftest(Path::new(folder)),
         ["mutants", ..] => Ok(mutants::run(&arguments[1..])),
         _ => Err(USAGE.to_string()),
     }
@@ -72,10 +82,12 @@ fn input() -> Result<Vec<u8>, String> {
 }
 
 fn put(bytes: &[u8]) -> Result<bool, String> {
-    std::io::stdout()
-        .write_all(bytes)
-        .map_err(|error| error.to_string())?;
-    Ok(true)
+    match std::io::stdout().write_all(bytes) {
+        // Whoever read it has enough.
+        Err(error) if error.kind() == ErrorKind::BrokenPipe => Ok(true),
+        Err(error) => Err(error.to_string()),
+        Ok(()) => Ok(true),
+    }
 }
 
 /// The bytes of a scene in text form.
@@ -128,19 +140,29 @@ fn geometry() -> Result<bool, String> {
     put(out.as_bytes())
 }
 
-/// The time of the original on a large world by its name, or on a scene, in
-/// text form if its name ends so.
-fn bench(file: &str, runs: &str) -> Result<bool, String> {
+/// A large world by its name, or a scene in a file, in text form if its name
+/// ends so.
+fn any_scene(file: &str) -> Result<scene::Scene, String> {
     if let Some(scene) = scene::large(file) {
-        return put(bench::line(file, &scene, number(runs)?).as_bytes());
+        return Ok(scene);
     }
     let bytes = if file.ends_with(".txt") {
         scene_file(file)?
     } else {
         std::fs::read(file).map_err(|error| format!("{file}: {error}"))?
     };
-    let scene = scene::read(&bytes).map_err(|bad| format!("record {} is bad", bad.record))?;
-    put(bench::line(file, &scene, number(runs)?).as_bytes())
+    scene::read(&bytes).map_err(|bad| format!("record {} is bad", bad.record))
+}
+
+/// Whether a list of 40-byte records is a route of a scene in a file.
+fn walkback(file: &str) -> Result<bool, String> {
+    let list = input()?;
+    let answer = match original::walk_back(&any_scene(file)?, &list) {
+        Ok(true) => "yes\n".to_string(),
+        Ok(false) => "no\n".to_string(),
+        Err(refusal) => scene::print_refusal(refusal),
+    };
+    put(answer.as_bytes())
 }
 
 /// The retained nodes in 01's records, in hex, one a line.

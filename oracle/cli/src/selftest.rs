@@ -5,14 +5,13 @@ use std::path::Path;
 use original::{Apex, Policy};
 use scene::{Answer, Outcome};
 
-use crate::{geometry, policy, scene_file, store, trace};
+use crate::{geometry, policy, scene_file, store, trace, walks};
 
 /// Runs every check on the scenes of a folder; prints a line each, and is
 /// false if one failed.
-pub fn selftest(folder: &str) -> Result<bool, String> {
-    let folder = Path::new(folder);
+pub fn selftest(folder: &Path) -> Result<bool, String> {
     let flat = std::fs::read_to_string(folder.join("flat.txt")).map_err(|e| e.to_string())?;
-    let checks: [(&str, bool); 9] = [
+    let checks: [(&str, bool); 11] = [
         ("the flat scene prints 01's lines", flat_lines(&flat)?),
         ("the flat scene's budgets and goals", flat_variants(&flat)?),
         (
@@ -22,6 +21,7 @@ pub fn selftest(folder: &str) -> Result<bool, String> {
         ("each made scene comes back from its text", made_texts()),
         ("the traced search agrees with the original", traced()),
         ("a reused scratch changes no answer", reused()),
+        ("found lists are routes, damaged ones mostly not", walks()),
         ("01's examples of the policy", policy_examples()),
         (
             "jumps that end do so within 65,536 ticks",
@@ -30,6 +30,10 @@ pub fn selftest(folder: &str) -> Result<bool, String> {
         (
             "the geometry's questions agree with the search",
             questions(),
+        ),
+        (
+            "the stored lists are as `store` makes them",
+            stored(folder)?,
         ),
     ];
     for (name, passed) in checks {
@@ -115,6 +119,35 @@ fn reused() -> bool {
             .answer()
             .same_bits(&original::find_walk_path(&scene))
     })
+}
+
+/// A found list is a route; fewer than a tenth of the damaged ones are.
+fn walks() -> bool {
+    let (mut lists, mut routes) = (0, 0);
+    let all_found = made().all(|bytes| match original::verdict(&bytes) {
+        Ok(answer) if answer.outcome == Outcome::Found && answer.list.len() < 6 => {
+            let scene = scene::read(&bytes).expect("it was searched");
+            let asked = walks::lists(&scene, &answer);
+            let yes = |list: &Vec<u8>| original::walk_back(&scene, list) == Ok(true);
+            lists += asked.len();
+            routes += asked[1..].iter().filter(|list| yes(list)).count();
+            yes(&asked[0])
+        }
+        _ => true,
+    });
+    all_found && routes > 0 && 10 * routes < lists
+}
+
+fn stored(folder: &Path) -> Result<bool, String> {
+    let mut same = true;
+    for (file, bytes) in store::lists(folder)? {
+        let there = std::fs::read(folder.join(file)).unwrap_or_default();
+        if there != bytes {
+            println!("{file} is not as it would be made now");
+            same = false;
+        }
+    }
+    Ok(same)
 }
 
 /// "Breaker who may pass: flags 8 Through (byte 3), 24 without iron Wall

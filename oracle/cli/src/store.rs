@@ -6,7 +6,7 @@ use std::path::Path;
 
 use scene::Verdict;
 
-use crate::{geometry, policy, reader, scene_file};
+use crate::{geometry, policy, reader, scene_file, walks};
 
 /// A scene and where it comes from.
 struct Source {
@@ -15,21 +15,26 @@ struct Source {
 }
 
 /// Writes every list into `folder`; says their sizes.
-pub fn store(folder: &str) -> Result<String, String> {
-    let folder = Path::new(folder);
-    let (replay, names) = replay(folder)?;
+pub fn store(folder: &Path) -> Result<String, String> {
     let mut out = String::new();
-    for (file, bytes) in [
-        ("replay.bin", replay),
-        ("replay.lst", names.into_bytes()),
-        ("geometry.bin", geometry_cases()),
-        ("reader.bin", reader::cases()),
-        ("jumps.bin", policy::jump_records()),
-    ] {
+    for (file, bytes) in lists(folder)? {
         std::fs::write(folder.join(file), &bytes).map_err(|error| format!("{file}: {error}"))?;
         let _ = writeln!(out, "{file} {} bytes", bytes.len());
     }
     Ok(out)
+}
+
+/// Each list's file and bytes.
+pub fn lists(folder: &Path) -> Result<Vec<(&'static str, Vec<u8>)>, String> {
+    let (replay, names) = replay(folder)?;
+    Ok(vec![
+        ("replay.bin", replay),
+        ("replay.lst", names.into_bytes()),
+        ("geometry.bin", geometry_cases()),
+        ("walkback.bin", walks::cases()),
+        ("reader.bin", reader::cases()),
+        ("jumps.bin", policy::jump_records()),
+    ])
 }
 
 /// The directed scenes of a folder, by name.
@@ -44,7 +49,7 @@ pub fn directed(folder: &Path) -> Result<Vec<String>, String> {
 }
 
 /// The most bytes of a stored case that was made from a seed.
-const CASE: usize = 2800;
+const CASE: usize = 2600;
 /// The seeds that are looked through for each kind.
 const SEEDS: u64 = 1000;
 
@@ -134,12 +139,26 @@ fn chosen(kind: &str) -> Vec<Source> {
     out
 }
 
-/// Of each kind the first small seed whose search retains at least five
+/// The kinds whose geometry differs.
+const GROUNDS: [&str; 10] = [
+    "levels",
+    "slabs",
+    "stairs",
+    "fences",
+    "doors",
+    "forbidden",
+    "ties",
+    "borders",
+    "far",
+    "bodies",
+];
+
+/// Of each of these kinds the first small seed whose search retains at least five
 /// nodes, with the questions of `geometry`.
 fn geometry_cases() -> Vec<u8> {
     let mut out = Vec::new();
     let mut count: u32 = 0;
-    for kind in scene::KINDS {
+    for kind in GROUNDS {
         let fits = |bytes: &Vec<u8>| {
             let nodes = original::verdict(bytes).map_or(0, |answer| answer.nodes.len());
             nodes >= 5 && bytes.len() <= 40 * scene::RECORD

@@ -74,6 +74,12 @@ pub mod searched {
     }
 
     impl NavigationScratch {
+        /// Forgets the blocks looked up so far, as a search does at its entry.
+        pub fn forget(&mut self) {
+            self.blocks.clear();
+            self.boxes.clear();
+        }
+
         /// The retained nodes in discovery order.
         pub fn records(&self) -> Vec<scene::NodeRecord> {
             let record = |node: &Node| scene::NodeRecord {

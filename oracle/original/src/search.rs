@@ -223,6 +223,11 @@ impl Checks {
         }
     }
 
+    /// Forgets the blocks looked up so far.
+    pub fn forget(&mut self) {
+        self.scratch.forget();
+    }
+
     pub fn in_range(&mut self, feet: [f64; 3]) -> bool {
         ask!(self, checks => checks.in_range(vector(feet)))
     }
