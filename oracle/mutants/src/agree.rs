@@ -2,8 +2,11 @@
 //! the policy.
 
 use original::Apex;
-use reading::{Passage, Variant, is_route, jump_apex, passage, permission, search};
-use scene::{Outcome, Record, to_text, write_bytes};
+use reading::{
+    Area, E, Graph, Passage, Variant, is_route, jump_apex, passage, permission, search,
+    valid_request,
+};
+use scene::{Answer, Outcome, Record, Scene, Waypoint, to_text, write_bytes};
 
 use crate::chance::Chance;
 use crate::compare::{parting, same};
@@ -23,8 +26,8 @@ struct Ends {
 }
 
 /// Compares `count` scenes from `seed` on: outcome or refusal, list, counts and
-/// node records, bit for bit; a found list must also be a route. Prints the
-/// first scene that parts.
+/// node records, bit for bit; a found list must also be a route; and the graph's
+/// questions at a few points. Prints the first scene that parts.
 pub fn agree(name: &str, make: &Recipe, seed: u64, count: u64) -> bool {
     let mut ends = Ends::default();
     for number in seed..seed + count {
@@ -48,8 +51,14 @@ pub fn agree(name: &str, make: &Recipe, seed: u64, count: u64) -> bool {
                     Outcome::BudgetExceeded => ends.exceeded += 1,
                 }
                 let found = answer.outcome == Outcome::Found;
-                if found != is_route(&scene, &answer.list) {
-                    println!("{name} {number}: the list is no route, or a route without a find");
+                let mut chance = Chance::new(number);
+                let parted = if found != is_route(&scene, &answer.list) {
+                    Some("the list is no route, or a route without a find".to_string())
+                } else {
+                    questions(&scene, &answer, &mut chance)
+                };
+                if let Some(parted) = parted {
+                    println!("{name} {number}: {parted}");
                     print!("{}", to_text(&write_bytes(&records)));
                     return false;
                 }
@@ -70,6 +79,51 @@ pub fn agree(name: &str, make: &Recipe, seed: u64, count: u64) -> bool {
          {exceeded} exceeded, {refused} refused, {bad} bad; {nodes} nodes"
     );
     true
+}
+
+/// Asks both about points at and off the scene's; the first question on which
+/// they part.
+fn questions(scene: &Scene, answer: &Answer, chance: &mut Chance) -> Option<String> {
+    if !valid_request(scene, Variant::ReadAsWritten) {
+        return None;
+    }
+    let graph = Graph {
+        scene,
+        edit: Variant::ReadAsWritten,
+    };
+    let mut original = original::Checks::new(scene);
+    let mut points = vec![scene.request.start, scene.request.goal];
+    points.extend(answer.nodes.iter().take(4).map(|node| node.point.feet));
+    let near = chance.pick(&points).map(|n| {
+        let moved = n + chance.pick(&[0.0, 0.0, 0.5, -0.5, 0.3, -0.3, 1.0, E, -E]);
+        chance.pick(&[moved, moved.next_up(), moved.next_down(), moved])
+    });
+    // A segment across the world would have too many cells.
+    let close = |point: &[f64; 3]| (0..3).all(|axis| (point[axis] - near[axis]).abs() <= 8.0);
+    points.retain(close);
+    points.push(near);
+    let far = chance.pick(&points);
+    let [ax, ay, az] = near;
+    let area = Area {
+        min: near,
+        max: [ax + 0.5, ay + chance.pick(&[1.0, 0.25, 0.0]), az + 0.5],
+    };
+    let [bx, by, bz] = area.max;
+    let bits = |points: &[Waypoint]| points.iter().map(Waypoint::bytes).collect::<Vec<_>>();
+    let edge = |edge: Option<Waypoint>| edge.map(|point| point.bytes());
+    let agree = [
+        graph.in_range(near) == original.in_range(near),
+        graph.clear(area) == original.clear_area([ax, ay, az, bx, by, bz]),
+        graph.standable(near) == original.standable(near),
+        graph.supported(near, far) == original.supported_segment(near, far),
+        graph.supported(far, near) == original.supported_segment(far, near),
+        edge(graph.edge(near, far)) == edge(original.edge(near, far)),
+        edge(graph.edge(far, near)) == edge(original.edge(far, near)),
+        bits(&graph.steps(near, &|_| false)) == bits(&original.steps(near)),
+        edge(graph.connector(near)) == edge(original.connector(near)),
+    ];
+    let parted = agree.iter().position(|agree| !agree)?;
+    Some(format!("question {parted} at {near:?} and {far:?}"))
 }
 
 /// Compares passages and permission bytes for every policy and flag byte, and

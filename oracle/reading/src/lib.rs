@@ -16,6 +16,7 @@ mod support;
 mod variant;
 mod world;
 
+pub use boxes::Area;
 pub use graph::{E, Graph};
 pub use policy::{
     DAMAGING, DOOR, GRASS, IRON_DOOR, OPEN, Passage, Policy, WATER, fill_permissions,
