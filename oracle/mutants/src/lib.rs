@@ -3,6 +3,7 @@
 
 mod agree;
 mod chance;
+mod claims;
 mod compare;
 mod draft;
 mod hunt;
@@ -20,6 +21,7 @@ use crate::recipes::{RECIPES, Recipe};
 const USAGE: &str = "\
 oracle mutants
 oracle mutants agree SEED COUNT [RECIPE ..]
+oracle mutants claims SEED COUNT [RECIPE ..]
 oracle mutants tidy
 oracle mutants hunt RECIPE SEED COUNT ENOUGH [NAME ..]
 ";
@@ -32,16 +34,13 @@ pub fn run(arguments: &[String]) -> bool {
         [] => table::table(&scenes(), 0, 20_000),
         ["agree", seed, count, ref names @ ..] => {
             let (seed, count) = (number(seed), number(count));
-            let all = || RECIPES.iter().chain(&KINDS).copied().collect();
-            let names: Vec<&str> = if names.is_empty() {
-                all()
-            } else {
-                names.to_vec()
-            };
-            names
-                .iter()
-                .all(|name| agree::agree(name, &recipe(name), seed, count))
-                && agree::agree_policy(seed, count)
+            let agrees = |name: &&str| agree::agree(name, &recipe(name), seed, count);
+            recipes_of(names).iter().all(agrees) && agree::agree_policy(seed, count)
+        }
+        ["claims", seed, count, ref names @ ..] => {
+            let (seed, count) = (number(seed), number(count));
+            let keeps = |name: &&str| claims::claims(name, &recipe(name), seed, count);
+            recipes_of(names).iter().all(keeps)
         }
         ["tidy"] => {
             hunt::tidy(&scenes());
@@ -68,6 +67,14 @@ pub fn run(arguments: &[String]) -> bool {
 
 fn recipe(name: &str) -> Recipe {
     recipes::recipe(name).unwrap_or_else(|| panic!("{name} is no recipe"))
+}
+
+/// The named recipes, or all of them and the kinds of `oracle make`.
+fn recipes_of<'a>(names: &[&'a str]) -> Vec<&'a str> {
+    if names.is_empty() {
+        return RECIPES.iter().chain(&KINDS).copied().collect();
+    }
+    names.to_vec()
 }
 
 /// The directed scenes.
