@@ -157,76 +157,18 @@ fn slide(records: &[Record]) -> Vec<Record> {
 
 /// Records that say less than this one.
 fn plainer(record: &Record) -> Vec<Record> {
-    let mut out = Vec::new();
-    let mut change = |edit: &mut dyn FnMut(&mut Record)| {
-        let mut changed = record.clone();
-        edit(&mut changed);
-        out.push(changed);
+    let mut out = match record {
+        Record::Window { origin, sizes } => smaller_windows(*origin, *sizes),
+        Record::Fill { .. } => smaller_fills(record),
+        Record::Request { .. } => smaller_requests(record),
+        Record::State { state, .. } => [7, 6, 5, 3]
+            .map(|permission| Record::State {
+                state: *state,
+                permission,
+            })
+            .to_vec(),
+        _ => Vec::new(),
     };
-    match record {
-        Record::Window { .. } => {
-            for axis in 0..3 {
-                change(&mut |r| {
-                    if let Record::Window { sizes, .. } = r {
-                        sizes[axis] = sizes[axis].saturating_sub(1);
-                    }
-                });
-                change(&mut |r| {
-                    if let Record::Window { sizes, origin } = r
-                        && sizes[axis] > 1
-                    {
-                        sizes[axis] -= 1;
-                        origin[axis] += 1;
-                    }
-                });
-            }
-        }
-        Record::State { .. } => {
-            for byte in [7, 6, 5, 3] {
-                change(&mut |r| {
-                    if let Record::State { permission, .. } = r {
-                        *permission = byte;
-                    }
-                });
-            }
-        }
-        Record::Fill { min, max, .. } => {
-            for axis in 0..3 {
-                let (low, high) = (min[axis], max[axis]);
-                for (a, b) in [
-                    (low, low),
-                    (high, high),
-                    (low + 1, high),
-                    (low, high - 1),
-                    (0, high),
-                ] {
-                    change(&mut |r| {
-                        if let Record::Fill { min, max, .. } = r {
-                            min[axis] = a;
-                            max[axis] = b;
-                        }
-                    });
-                }
-            }
-        }
-        Record::Request { budget, .. } => {
-            for less in [64, 16, 8, 4, 2, 1, 0, budget / 2, budget.saturating_sub(1)] {
-                change(&mut |r| {
-                    if let Record::Request { budget, .. } = r {
-                        *budget = less;
-                    }
-                });
-            }
-            for axis in 0..3 {
-                change(&mut |r| {
-                    if let Record::Request { start, goal, .. } = r {
-                        goal[axis] = start[axis];
-                    }
-                });
-            }
-        }
-        _ => {}
-    }
     let count = floats(&mut record.clone()).len();
     for place in 0..count {
         let old = *floats(&mut record.clone())[place];
@@ -235,6 +177,70 @@ fn plainer(record: &Record) -> Vec<Record> {
             *floats(&mut changed)[place] = new;
             out.push(changed);
         }
+    }
+    out
+}
+
+/// A layer less at either end of each axis.
+fn smaller_windows(origin: [i32; 3], sizes: [u32; 3]) -> Vec<Record> {
+    let mut out = Vec::new();
+    for axis in (0..3).filter(|&axis| sizes[axis] > 0) {
+        let mut less = sizes;
+        less[axis] -= 1;
+        out.push(Record::Window {
+            origin,
+            sizes: less,
+        });
+        let mut later = origin;
+        later[axis] = later[axis].saturating_add(1);
+        out.push(Record::Window {
+            origin: later,
+            sizes: less,
+        });
+    }
+    out
+}
+
+/// One layer, or a layer less, along each axis; or from 0 on.
+fn smaller_fills(record: &Record) -> Vec<Record> {
+    let mut out = Vec::new();
+    for axis in 0..3 {
+        for way in 0..5 {
+            let mut changed = record.clone();
+            if let Record::Fill { min, max, .. } = &mut changed {
+                match way {
+                    0 => max[axis] = min[axis],
+                    1 => min[axis] = max[axis],
+                    2 => min[axis] = min[axis].saturating_add(1),
+                    3 => max[axis] = max[axis].saturating_sub(1),
+                    _ => min[axis] = 0,
+                }
+            }
+            out.push(changed);
+        }
+    }
+    out
+}
+
+/// Smaller budgets, and a goal with a coordinate of the start's.
+fn smaller_requests(record: &Record) -> Vec<Record> {
+    let mut out = Vec::new();
+    let Record::Request { budget, .. } = record else {
+        return out;
+    };
+    for less in [64, 16, 8, 4, 2, 1, 0, budget / 2, budget.saturating_sub(1)] {
+        let mut changed = record.clone();
+        if let Record::Request { budget, .. } = &mut changed {
+            *budget = less;
+        }
+        out.push(changed);
+    }
+    for axis in 0..3 {
+        let mut changed = record.clone();
+        if let Record::Request { start, goal, .. } = &mut changed {
+            goal[axis] = start[axis];
+        }
+        out.push(changed);
     }
     out
 }

@@ -24,8 +24,6 @@ impl Graph<'_> {
 
     /// The movement and lift for a difference in y, if there is one.
     fn movement(&self, dy: f64) -> Option<(u64, f64)> {
-        let request = &self.scene.request;
-        let (step, jump, drop) = (self.step(), request.jump_height, request.max_drop);
         let rises = match self.edit {
             RiseWithoutE => dy > 0.0,
             RiseAtE => dy >= E,
@@ -36,6 +34,27 @@ impl Graph<'_> {
             FallAtE => dy <= -E,
             _ => dy < -E,
         };
+        if rises {
+            return self.climb(dy);
+        }
+        if falls {
+            return self.fall(-dy);
+        }
+        // "Otherwise Walk, lift the larger of dy and 0."
+        let lift = match self.edit {
+            WalkLiftZero => 0.0,
+            WalkLiftDy => dy,
+            WalkLiftKeepsZeroSign if dy == 0.0 => dy,
+            _ if dy > 0.0 => dy,
+            _ => 0.0,
+        };
+        Some((WALK, lift))
+    }
+
+    /// "Step with lift dy if dy ≤ step + E, else Jump with lift jump_height if
+    /// dy ≤ jump_height + E, else none."
+    fn climb(&self, dy: f64) -> Option<(u64, f64)> {
+        let (step, jump) = (self.step(), self.scene.request.jump_height);
         let as_step = match self.edit {
             StepWithoutE => dy <= step,
             StepAtEOut => dy < step + E,
@@ -48,45 +67,31 @@ impl Graph<'_> {
             JumpEOnTheRise => dy - E <= jump,
             _ => dy <= jump + E,
         };
-        let as_drop = match self.edit {
-            DropWithoutE => -dy <= drop,
-            DropAtEOut => -dy < drop + E,
-            DropEOnTheFall => -dy - E <= drop,
-            _ => -dy <= drop + E,
+        let (step_lift, jump_lift) = match self.edit {
+            StepLiftedByStep => (step, jump),
+            JumpLiftedByDy => (dy, dy),
+            _ => (dy, jump),
         };
-        if rises {
-            // "Step with lift dy if dy ≤ step + E, else Jump with lift
-            // jump_height if dy ≤ jump_height + E, else none."
-            let lift = match self.edit {
-                StepLiftedByStep => step,
-                _ => dy,
-            };
-            if as_step && !(self.is(JumpBeforeStep) && as_jump) {
-                return Some((STEP, lift));
-            }
-            let lift = match self.edit {
-                JumpLiftedByDy => dy,
-                _ => jump,
-            };
-            return as_jump.then_some((JUMP, lift));
+        if as_step && !(self.is(JumpBeforeStep) && as_jump) {
+            return Some((STEP, step_lift));
         }
-        if falls {
-            // "Drop, lift 0, if at most max_drop + E, else none."
-            let lift = match self.edit {
-                DropLiftedByFall => -dy,
-                _ => 0.0,
-            };
-            return as_drop.then_some((DROP, lift));
-        }
-        // "Otherwise Walk, lift the larger of dy and 0."
+        as_jump.then_some((JUMP, jump_lift))
+    }
+
+    /// "Drop, lift 0, if at most max_drop + E, else none."
+    fn fall(&self, depth: f64) -> Option<(u64, f64)> {
+        let most = self.scene.request.max_drop;
+        let as_drop = match self.edit {
+            DropWithoutE => depth <= most,
+            DropAtEOut => depth < most + E,
+            DropEOnTheFall => depth - E <= most,
+            _ => depth <= most + E,
+        };
         let lift = match self.edit {
-            WalkLiftZero => 0.0,
-            WalkLiftDy => dy,
-            WalkLiftKeepsZeroSign if dy == 0.0 => dy,
-            _ if dy > 0.0 => dy,
+            DropLiftedByFall => depth,
             _ => 0.0,
         };
-        Some((WALK, lift))
+        as_drop.then_some((DROP, lift))
     }
 
     /// "Edge": the target with its movement and lift, if the body gets there.

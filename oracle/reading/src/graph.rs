@@ -5,6 +5,8 @@
 //! Every variant is switched at the words that it misreads, by `self.is(..)`
 //! or in a `match` whose last arm is the reading.
 
+use std::ops::RangeInclusive;
+
 use scene::{Scene, Waypoint};
 
 use crate::Variant::{self, *};
@@ -84,6 +86,16 @@ impl Graph<'_> {
     /// one layer below, none has a box that intersects the area, and none
     /// whose voxel does lacks bit 1."
     pub fn clear(&self, area: Area) -> bool {
+        let [xs, ys, zs] = self.clear_cells(&area);
+        ys.into_iter().all(|y| {
+            xs.clone().all(|x| {
+                zs.clone()
+                    .all(|z| self.clear_of(&area, [x, y, z], &self.cell(x, y, z)))
+            })
+        })
+    }
+
+    fn clear_cells(&self, area: &Area) -> [RangeInclusive<i64>; 3] {
         let first = |axis: usize| match self.edit {
             ClearFromCeilX if axis == X => ceil(area.min[axis]),
             ClearFromCeilZ if axis == Z => ceil(area.min[axis]),
@@ -102,38 +114,35 @@ impl Graph<'_> {
             ClearLowerLayerOnlyUnderLayers if last(Y) < first(Y) => 0,
             _ => 1,
         };
+        [
+            first(X)..=last(X),
+            first(Y) - below..=last(Y),
+            first(Z)..=last(Z),
+        ]
+    }
+
+    /// The cell at `at` leaves the area clear.
+    fn clear_of(&self, area: &Area, at: [i64; 3], cell: &Cell) -> bool {
         let touching = match self.edit {
             BoxTouchingX => Some(X),
             BoxTouchingY => Some(Y),
             BoxTouchingZ => Some(Z),
             _ => None,
         };
-        for y in first(Y) - below..=last(Y) {
-            for x in first(X)..=last(X) {
-                for z in first(Z)..=last(Z) {
-                    let cell = self.cell(x, y, z);
-                    let hit = cell.boxes().any(|shape| shape.intersects(&area, touching));
-                    if hit && !(self.is(ClearBoxesOfOccupiableUnread) && cell.occupied) {
-                        return false;
-                    }
-                    let min = [x as f64, y as f64, z as f64];
-                    let voxel = Area {
-                        min,
-                        max: add(min, [1.0; 3]),
-                    };
-                    let inside = match self.edit {
-                        VoxelTouchingY => voxel.intersects(&area, Some(Y)),
-                        OccupiedOfEveryCell => true,
-                        OccupiedUnread => false,
-                        _ => voxel.intersects(&area, None),
-                    };
-                    if inside && !cell.occupied {
-                        return false;
-                    }
-                }
-            }
-        }
-        true
+        let hit = cell.boxes().any(|shape| shape.intersects(area, touching));
+        let min = at.map(|n| n as f64);
+        let voxel = Area {
+            min,
+            max: add(min, [1.0; 3]),
+        };
+        let inside = match self.edit {
+            VoxelTouchingY => voxel.intersects(area, Some(Y)),
+            OccupiedOfEveryCell => true,
+            OccupiedUnread => false,
+            _ => voxel.intersects(area, None),
+        };
+        let hit = hit && !(self.is(ClearBoxesOfOccupiableUnread) && cell.occupied);
+        !hit && (cell.occupied || !inside)
     }
 
     /// The body is clear at the point and supported there.
