@@ -77,6 +77,7 @@ impl Draft {
         }
     }
 
+    /// Shapes and states, then the cells.
     fn furnish(&mut self) {
         let top = self.chance.pick(&[0.0, 0.5, 1.0, 1.0, 1.0]);
         let floor = self.nudge(top);
@@ -93,6 +94,11 @@ impl Draft {
             let byte = self.chance.pick(&[7, 6, 5, 3, 2, 1, 0, 4]);
             self.states.push(byte);
         }
+        self.build(kinds);
+    }
+
+    /// Air, mostly a floor, and a few cells of any state and shape.
+    fn build(&mut self, kinds: u32) {
         let [x, y, z] = self.origin;
         let [width, tall, depth] = self.sizes.map(|n| n as i32);
         let last = [x + width - 1, y + tall - 1, z + depth - 1];
@@ -212,14 +218,14 @@ impl Draft {
             height: self.nudge(height),
             body_step: self.climb(),
         };
-        let any = [0.5, 1.0, 0.5];
-        let request = Record::Request {
-            start: any,
-            goal: any,
+        let request = |start: [f64; 3], goal: [f64; 3], max_range: f64| Record::Request {
+            start,
+            goal,
             max_range,
             budget,
         };
-        let tables = scene_of(&self.with(request, body.clone()));
+        let any = [0.5, 1.0, 0.5];
+        let tables = scene_of(&self.with(request(any, any, max_range), body.clone()));
         let start = self.standing(tables.as_ref());
         let goal = match self.chance.below(30) {
             0 => start,
@@ -229,15 +235,7 @@ impl Draft {
             let axis = self.chance.below(3);
             max_range = self.nudge((goal[axis] - start[axis]).abs());
         }
-        self.with(
-            Record::Request {
-                start,
-                goal,
-                max_range,
-                budget,
-            },
-            body,
-        )
+        self.with(request(start, goal, max_range), body)
     }
 
     /// A point where the body stands, if a few tries find one.

@@ -53,6 +53,33 @@ fn about(chance: &mut Chance, number: f64) -> f64 {
     ulps(chance, moved)
 }
 
+/// Request, body and window. The body: step, jump, drop, width, height, body
+/// step.
+fn opening(
+    ends: [[f64; 3]; 2],
+    (max_range, budget): (f64, u32),
+    body: [f64; 6],
+    (origin, sizes): ([i32; 3], [u32; 3]),
+) -> Vec<Record> {
+    let [start, goal] = ends;
+    let [step, jump, drop, width, height, body_step] = body;
+    let request = Record::Request {
+        start,
+        goal,
+        max_range,
+        budget,
+    };
+    let body = Record::Body {
+        step,
+        jump,
+        drop,
+        width,
+        height,
+        body_step,
+    };
+    vec![request, body, Record::Window { origin, sizes }]
+}
+
 /// Air and stone, and air everywhere.
 fn air(records: &mut Vec<Record>, sizes: [u32; 3]) {
     for state in 0..2 {
@@ -121,26 +148,8 @@ fn edges(seed: u64) -> Vec<Record> {
         let z = f64::from(chance.below(sizes[2] as usize) as i32) + 0.5;
         [x, chance.pick(&tops), z]
     });
-    let mut records = vec![
-        Record::Request {
-            start: ends[0],
-            goal: ends[1],
-            max_range,
-            budget: 64,
-        },
-        Record::Body {
-            step,
-            jump,
-            drop,
-            width: 0.5,
-            height: 1.0,
-            body_step,
-        },
-        Record::Window {
-            origin: [0; 3],
-            sizes,
-        },
-    ];
+    let body = [step, jump, drop, 0.5, 1.0, body_step];
+    let mut records = opening(ends, (max_range, 64), body, ([0; 3], sizes));
     for shape in 1..=4 {
         for _ in 0..chance.pick(&[1, 1, 2, 3]) {
             let top = chance.pick(&tops);
@@ -180,26 +189,9 @@ fn plates(seed: u64) -> Vec<Record> {
     let gap = E * chance.pick(&[0.5, 0.9, 1.0, 1.0, 1.0, 1.0, 1.5, 1.9, 2.0, 2.5]);
     let second = first + gap;
     let (a, b) = (at(first), ulps(&mut chance, at(second)));
-    let mut records = vec![
-        Record::Request {
-            start: [from, 1.0, 0.5],
-            goal: [to, 1.0, 0.5],
-            max_range: 16.0,
-            budget: 9,
-        },
-        Record::Body {
-            step: 0.5,
-            jump: 0.0,
-            drop: 1.0,
-            width: 0.25,
-            height: 1.0,
-            body_step: 0.5,
-        },
-        Record::Window {
-            origin: [0; 3],
-            sizes,
-        },
-    ];
+    let ends = [[from, 1.0, 0.5], [to, 1.0, 0.5]];
+    let body = [0.5, 0.0, 1.0, 0.25, 1.0, 0.5];
+    let mut records = opening(ends, (16.0, 9), body, ([0; 3], sizes));
     let mut plate = |min: f64, max: f64| {
         let numbers = [min.min(max), 0.0, 0.0, max.max(min), 1.0, 1.0];
         records.push(Record::Shape { shape: 1, numbers });
@@ -229,65 +221,55 @@ fn twins(seed: u64) -> Vec<Record> {
     let shift = E * chance.pick(&[-0.5, -0.5, -0.8, 0.5, -1.0, 1.0, -1.5]);
     let far = floor + chance.pick(&[-4, -3, -3, -2, -1, 1, 1, 2, 3]);
     let width = chance.pick(&[0.5, 0.5, 1.0, 1e-20]);
-    let column = |chance: &mut Chance| {
+    let ends = [0, 1].map(|_| {
         let cell = chance.below(sizes[0] as usize) as i32;
-        f64::from(cell) + chance.pick(&[0.5, 0.5, 0.5, 0.25, 0.0])
-    };
-    let climb = |chance: &mut Chance| {
-        let number = chance.pick(&[0.0, 0.0, 0.5, 1.0, 1.5, 2.0, 3.0]);
-        if chance.once_in(4) {
-            about(chance, number).max(0.0)
-        } else {
-            number
-        }
-    };
-    let up = |chance: &mut Chance| chance.pick(&[0.0, 0.0, 0.0, 1.0, -1.0]);
-    let start = [column(&mut chance), level + up(&mut chance), 0.5];
-    let goal = [column(&mut chance), level + up(&mut chance), 0.5];
-    let range = climb(&mut chance);
-    let max_range = if chance.once_in(2) { 16.0 } else { range };
-    let step = climb(&mut chance);
-    let mut records = vec![
-        Record::Request {
-            start,
-            goal,
-            max_range,
-            budget: 12,
-        },
-        Record::Body {
-            step,
-            jump: climb(&mut chance),
-            drop: climb(&mut chance),
-            width,
-            height: 0.5,
-            body_step: step,
-        },
-        Record::Window {
-            origin: [0; 3],
-            sizes,
-        },
-    ];
-    let flat = |top: f64, min: f64, max: f64| [min, top, 0.0, max, top, 1.0];
-    let floor_top = level - f64::from(floor);
-    records.push(Record::Shape {
-        shape: 1,
-        numbers: flat(floor_top, 0.0, 1.0),
+        let x = f64::from(cell) + chance.pick(&[0.5, 0.5, 0.5, 0.25, 0.0]);
+        [x, level + chance.pick(&[0.0, 0.0, 0.0, 1.0, -1.0]), 0.5]
     });
+    let range = reach(&mut chance);
+    let max_range = if chance.once_in(2) { 16.0 } else { range };
+    let step = reach(&mut chance);
+    let (jump, drop) = (reach(&mut chance), reach(&mut chance));
+    let body = [step, jump, drop, width, 0.5, step];
+    let mut records = opening(ends, (max_range, 12), body, ([0; 3], sizes));
+    let mut flat = |shape: u32, top: f64, min: f64, max: f64| {
+        let numbers = [min, top, 0.0, max, top, 1.0];
+        records.push(Record::Shape { shape, numbers });
+    };
+    let floor_top = level - f64::from(floor);
+    flat(1, floor_top, 0.0, 1.0);
     let far_top = level + shift - f64::from(far);
     let (min, max) = chance.pick(&[(0.0, 1.0), (0.0, 1.0), (0.0, 0.5), (0.5, 1.0)]);
-    let numbers = flat(far_top.clamp(-16.0, 16.0), min, max);
-    records.push(Record::Shape { shape: 2, numbers });
-    let numbers = flat(floor_top + chance.pick(&[-1.0, 1.0]), 0.0, 1.0);
-    records.push(Record::Shape { shape: 3, numbers });
-    air(&mut records, sizes);
+    flat(2, far_top.clamp(-16.0, 16.0), min, max);
+    flat(3, floor_top + chance.pick(&[-1.0, 1.0]), 0.0, 1.0);
+    far_cells(&mut chance, &mut records, sizes, [floor, far]);
+    records
+}
+
+/// A climb, a fall or a range.
+fn reach(chance: &mut Chance) -> f64 {
+    let number = chance.pick(&[0.0, 0.0, 0.5, 1.0, 1.5, 2.0, 3.0]);
+    if chance.once_in(4) {
+        about(chance, number).max(0.0)
+    } else {
+        number
+    }
+}
+
+/// The floor's cells, and here and there a far one, perhaps no support.
+fn far_cells(
+    chance: &mut Chance,
+    records: &mut Vec<Record>,
+    sizes: [u32; 3],
+    [floor, far]: [i32; 2],
+) {
+    air(records, sizes);
     let state = if chance.once_in(3) { 2 } else { 1 };
-    records.insert(
-        records.len() - 1,
-        Record::State {
-            state: 2,
-            permission: 5,
-        },
-    );
+    let forbidden = Record::State {
+        state: 2,
+        permission: 5,
+    };
+    records.insert(records.len() - 1, forbidden);
     for x in 0..sizes[0] as i32 {
         let shape = if chance.once_in(4) { 3 } else { 1 };
         records.push(stone([x, floor, 0], shape));
@@ -301,7 +283,6 @@ fn twins(seed: u64) -> Vec<Record> {
             });
         }
     }
-    records
 }
 
 /// A floor that mirrors itself in the line from start to goal, but for a cell
@@ -314,26 +295,8 @@ fn mirror(seed: u64) -> Vec<Record> {
     let start = [chance.pick(&[0.5, 0.5, 1.5, 0.25, 1.0]), 1.0, middle];
     let goal = [f64::from(sizes[0]) - 0.5, 1.0, middle];
     let jump = chance.pick(&[0.0, 1.0, 1.25]);
-    let mut records = vec![
-        Record::Request {
-            start,
-            goal,
-            max_range: 16.0,
-            budget: 64,
-        },
-        Record::Body {
-            step: 0.5,
-            jump,
-            drop: 3.0,
-            width: 0.5,
-            height: 1.0,
-            body_step: 0.5,
-        },
-        Record::Window {
-            origin: [0; 3],
-            sizes,
-        },
-    ];
+    let body = [0.5, jump, 3.0, 0.5, 1.0, 0.5];
+    let mut records = opening([start, goal], (16.0, 64), body, ([0; 3], sizes));
     for (shape, top) in [(1, 1.0), (2, 0.5), (3, 1.5)] {
         records.push(Record::Shape {
             shape,
@@ -370,26 +333,9 @@ fn toll(seed: u64) -> Vec<Record> {
     let mut chance = Chance::new(seed);
     let start = [-1.5 + E * chance.part(), 1.0, 0.5];
     let rise = E.sqrt() * (1.0 + 1e-7 * (chance.part() - 0.5));
-    let mut records = vec![
-        Record::Request {
-            start,
-            goal: [1.5, 4.0, 0.5],
-            max_range: 16.0,
-            budget: 16,
-        },
-        Record::Body {
-            step: 0.5,
-            jump: 0.0,
-            drop: 1.0,
-            width: 0.5,
-            height: 1.0,
-            body_step: 0.5,
-        },
-        Record::Window {
-            origin: [-2, 0, -1],
-            sizes: [4, 5, 2],
-        },
-    ];
+    let body = [0.5, 0.0, 1.0, 0.5, 1.0, 0.5];
+    let window = ([-2, 0, -1], [4, 5, 2]);
+    let mut records = opening([start, [1.5, 4.0, 0.5]], (16.0, 16), body, window);
     for (shape, top) in [(1, 1.0), (2, rise)] {
         records.push(Record::Shape {
             shape,
