@@ -2,7 +2,7 @@
 
 use std::path::Path;
 
-use reading::{VARIANTS, Variant, search};
+use reading::{ASKED, Graph, VARIANTS, Variant, search};
 use scene::{Scene, Verdict};
 
 use crate::compare::{parting, same, shown_by};
@@ -29,6 +29,12 @@ impl Judged {
 
     fn tells(&self, variant: Variant) -> bool {
         !same(&self.right, &search(&self.scene, variant))
+    }
+
+    /// Whether the segment from start to goal is supported, by this variant.
+    fn supported(&self, edit: Variant) -> bool {
+        let scene = &self.scene;
+        Graph { scene, edit }.supported(scene.request.start, scene.request.goal)
     }
 
     /// Whether the original answers as the reading; says so if not.
@@ -105,6 +111,19 @@ pub fn table(folder: &Path, seed: u64, count: u64) -> bool {
         println!("{line}");
         survivors += u32::from(survives);
         good &= headed;
+    }
+    for &variant in ASKED {
+        let name = variant.name();
+        let own = scenes.iter().find(|judged| judged.name == name);
+        let tells = own.is_some_and(|judged| {
+            judged.supported(variant) != judged.supported(Variant::ReadAsWritten)
+        });
+        if tells {
+            println!("{name}: scenes/{name}.txt by asking whether start to goal is supported");
+        } else {
+            println!("{name}: SURVIVES");
+            survivors += 1;
+        }
     }
     println!("{survivors} survive the directed scenes");
     good && survivors == 0

@@ -24,4 +24,4 @@ pub use policy::{
 };
 pub use request::{Rooms, bad_world, search, search_in, too_large, valid_request};
 pub use route::{is_route, reachable_points};
-pub use variant::{VARIANTS, Variant};
+pub use variant::{ASKED, VARIANTS, Variant};

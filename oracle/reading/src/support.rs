@@ -161,6 +161,7 @@ impl Graph<'_> {
                 JointAtEOut => begin < covered + E,
                 JointWithinTwoE => begin <= covered + 2.0 * E,
                 JointByDifference => begin - covered <= E,
+                AskedFirstJointWithoutE if covered == 0.0 => begin <= covered,
                 _ => begin <= covered + E,
             };
             if !joined {
@@ -170,7 +171,12 @@ impl Graph<'_> {
                 CoveredToLastEnd => end,
                 _ => covered.max(end),
             };
-            if covered >= 1.0 - E {
+            let enough = match self.edit {
+                AskedCoverToOne => covered >= 1.0,
+                AskedCoverAtEOut => covered > 1.0 - E,
+                _ => covered >= 1.0 - E,
+            };
+            if enough {
                 return true;
             }
         }
