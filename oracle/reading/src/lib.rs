@@ -1,5 +1,6 @@
-//! A plain reading of document 01, written apart from the original: what each
-//! sentence says, one function a paragraph, without a thought for speed.
+//! A plain reading of document 01: what each sentence says, one function a
+//! paragraph, without a thought for speed. It shares nothing with the original's
+//! code; where 01 leaves a sum to the source, it takes the source's.
 //!
 //! It comes with variants, each of which misreads one sentence on purpose, so
 //! that a scene can be shown to tell the sentence from its misreading.
