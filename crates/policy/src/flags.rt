@@ -2,6 +2,7 @@
 ghost use mathlib.Core.Path.{_≡_};
 ghost use Rattle.policy.specs.Flags.{has, WATER, DAMAGING, GRASS, DOOR, IRON-DOOR, OPEN};
 
+// A flag byte. Its two highest bits are not read.
 pub struct Flags {
     pub bits: u8,
 }

@@ -21,6 +21,7 @@ const PATH_NODE_BUDGET: u64 = 2048;
 
 const PATH_MAX_DROP: f64 = 3.0;
 
+// Which states a mob may occupy or stand on, and how it meets doors.
 pub struct WalkPolicy {
     pub avoid_water: bool,
     pub avoid_damage_blocks: bool,
@@ -33,7 +34,8 @@ pub struct WalkPolicy {
     pub door_breaker: bool,
 }
 
-// What filling a permission table answers.
+// What filling a permission table answers: the whole of it is filled, or its length is another than
+// the flag table's (8).
 pub enum Filled {
     Whole,
     BadTable,
