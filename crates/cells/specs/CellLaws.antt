@@ -236,7 +236,16 @@ module _ (f g : ℕ → ℕ → ℕ) (F : Rounding f) (G : Rounding g) where
   pub no-number : (x : Float) → ne x x ≡ true → pos 0 ≡ cellBy f g x
   no-number x t = rw (differs-from-itself x (subst T (sym t) tt))
 
--- ---- a cell number as a float is in that cell, and is its own border
+-- ---- a cell number as a float is exact, is in that cell, and is its own border
+
+-- the number n or -(n + 1), not only one near it: of at most 53 binary digits, so of all of i32
+pub float-value : (n : ℕ) → n ≤ 2 ^ 53 → HasValue (ofInt binary64 (pos n)) false n 1
+unfolding ofInt
+float-value n h = round-whole binary64 false n h
+
+pub float-value-below : (n : ℕ) → suc n ≤ 2 ^ 53 → HasValue (ofInt binary64 (negsuc n)) true (suc n) 1
+unfolding ofInt
+float-value-below n h = round-whole binary64 true (suc n) h
 
 settled : (r : ℕ → ℕ → ℕ) → Rounding r → (m : ℕ) (e : ℤ) (n : ℕ) → m * up e * 1 ≡ n * down e → r (m * up e) (down e) ≡ n
 settled r R m e n h =
@@ -249,11 +258,10 @@ whole-cell f g F G (fin false m e) s n h = rw (← h .0) (ap (ends false) (settl
 whole-cell f g F G (fin true m e) s n h = rw (← h .0) (ap (ends true) (settled f F m e n (h .1)))
 
 pub cell-of-float : (f g : ℕ → ℕ → ℕ) → Rounding f → Rounding g → (z : ℤ) → mag z < 2 ^ 31 → cellBy f g (ofInt binary64 z) ≡ z
-unfolding ofInt
 cell-of-float f g F G (pos n) h =
-    whole-cell f g F G (round binary64 false n 1) false n (round-whole binary64 false n (omega arith)) ∙ ap pos (min-eq-left (omega arith))
+    whole-cell f g F G (ofInt binary64 (pos n)) false n (float-value n (omega arith)) ∙ ap pos (min-eq-left (omega arith))
 cell-of-float f g F G (negsuc n) h =
-    whole-cell f g F G (round binary64 true (suc n) 1) true (suc n) (round-whole binary64 true (suc n) (omega arith))
+    whole-cell f g F G (ofInt binary64 (negsuc n)) true (suc n) (float-value-below n (omega arith))
     ∙ ap (λ (k : ℕ). negℤ (pos k)) (min-eq-left {n = suc n} {m = 2 ^ 31} (omega arith))
 
 -- the floor and the ceiling of a cell number are itself
@@ -264,6 +272,10 @@ floor-float z h = cell-of-float upDiv downDiv upward downward z h
 pub ceil-float : (z : ℤ) → mag z < 2 ^ 31 → ceilCell (ofInt binary64 z) ≡ z
 unfolding ceilCell
 ceil-float z h = cell-of-float downDiv upDiv downward upward z h
+
+-- so two cell numbers with one float are one
+pub float-once : (a b : ℤ) → mag a < 2 ^ 31 → mag b < 2 ^ 31 → ofInt binary64 a ≡ ofInt binary64 b → a ≡ b
+float-once a b h k e = sym (floor-float a h) ∙ ap floorCell e ∙ floor-float b k
 
 -- ---- a cell number is an i32
 

@@ -1,4 +1,4 @@
-// Floats as cell numbers.
+// Floats as cell numbers (01, Numbers): floor and ceiling in the range of an i32, saturating, NaN to 0; and a cell number as a float.
 ghost use mathlib.Core.Path.{_≡_};
 ghost use Prim.Native.Nat.{_<_, _≤_, _^_};
 ghost use lib.IntN.{pos, negℤ};
@@ -23,6 +23,7 @@ fn up(y: f64) -> u64
     if w < y { q + 1 } else { q }
 }
 
+// A size with the sign turned.
 fn minus(n: u64) -> i64
     requires { ⌜ n ≤ 2 ^ 31 ⌝ }
     ensures { λ r. ⌜ r ≡ negℤ (pos n) ⌝ }
@@ -30,7 +31,7 @@ fn minus(n: u64) -> i64
     0 - (n as i64)
 }
 
-// The cell that x lies in.
+// The cell that x lies in: its floor. Outside the range of an i32 the nearest end, of NaN 0.
 pub fn floor_cell(x: f64) -> i64
     ensures { λ r. ⌜ r ≡ floorCell x ⌝ }
 {
@@ -49,7 +50,7 @@ pub fn floor_cell(x: f64) -> i64
     2147483647
 }
 
-// The first cell border at or above x.
+// The first cell border at or above x: its ceiling, with the same ends.
 pub fn ceil_cell(x: f64) -> i64
     ensures { λ r. ⌜ r ≡ ceilCell x ⌝ }
 {

@@ -1,227 +1,147 @@
--- What holds of every exploration, whatever its policy. Assumes nothing.
-use mathlib.Core.Path.{_≡_, refl, sym, ap, subst, _∙_}
+-- What holds of every bounded exploration, of every graph and under every policy: one theorem a claim, stated in the words of Graph, Explore, WalkBack, Guides,
+-- Choose and Estimates. The letters: 𝓖 a graph and 𝓛 its laws, 𝓟 a policy and 𝓠 its laws, b and c budgets. `answer` is the outcome of a whole search under a
+-- budget, `final` the state that it ends in.
+use mathlib.Core.Path.{_≡_, refl, sym, ap, _∙_}
 use mathlib.Core.Bool.{Bool, true, false}
-use mathlib.Core.Option.{Option, none, some}
-use mathlib.Core.List.{List, [], _∷_, _++_, map, append-nil}
-use mathlib.Core.Logic.{_⊎_, inl, inr, ⊎-elim, _≢_}
-use Prim.Native.Nat.{ℕ, zero, suc, _+_, _-_, _≤_, _<_}
+use mathlib.Core.Option.{some}
+use mathlib.Core.List.{List, [], IsPrefix, append-nil}
+use mathlib.Core.Logic.{_⊎_, inl, inr, _↔_, _≢_}
+use Prim.Native.Nat.{ℕ, suc, _+_, _≤_, _<_}
 use native.Mathlib.Omega.{arith}
-use lib.ListN.{length, length-map, length-append}
-use Rattle.exploration.specs.Places.{nth, has, none-some, true-false, nth-left, nth-map, nth-of-map, has-map, count-le}
-use Rattle.exploration.specs.Graph.{Graph, Legs, here, jump, leg, Route, route, Reach, origin, onward, hasStep, connects, fits, endsBy, ends}
-use Rattle.exploration.specs.Explore.{Node, Policy, State, Outcome, Found, Unreachable, BudgetExceeded, Searching, points, run, begin, final, outcomeBy, outcome}
-use Rattle.exploration.specs.Graph.{GraphLaws}
-use Rattle.exploration.specs.Explore.{PolicyLaws}
-use Rattle.exploration.specs.Apart.{Apart, apart-snoc, Covered, pigeon}
-use Rattle.exploration.specs.Visits.{known, known-at}
-use Rattle.exploration.specs.Invariant.{Trail, trail-reach, Link, first-link, next-link, Expanded, Inv}
-use Rattle.exploration.specs.Turns.{Good, going, struck, Rest, at-hit, at-end, ran, shut-of, rest-run, begin-good, final-good, final-rest}
-use Rattle.exploration.specs.Budgets.{Pair, alike, over, Over, pair-final, run-add}
+use lib.Ieee.{Float, isNan, lt, eq}
+use lib.ListN.{length, length-map}
+use Rattle.exploration.specs.Lists.{nth, has, count, total}
+use Rattle.exploration.specs.Graph.{Graph, GraphLaws, Route, Reach}
+use Rattle.exploration.specs.Policy.{Policy, PolicyLaws}
+use Rattle.exploration.specs.Explore.{Outcome, Found, Unreachable, BudgetExceeded, Searching, points, runs, begin, final, outcome, answer}
+use Rattle.exploration.specs.Guides.{play, turns, beginBoth, Fair, one}
+use Rattle.exploration.specs.WalkBack.{isRoute}
+use Rattle.exploration.specs.Choose.{choose, Least, Ordered}
+use Rattle.exploration.specs.Estimates.{Comparison, sooner, Before, First}
+use Rattle.exploration.specs.Laws.Budgets.{Compared, equal, parted, compare-final}
+use Rattle.exploration.specs.Laws.Choices.{chosen-least, least-chosen}
+use Rattle.exploration.specs.Laws.Endings.{found-of, found-outcome, found-route, unreachable-route, exceeded-cover, found-again, end-of, done-ended, ended-done, done-final, enough-done}
+use Rattle.exploration.specs.Laws.Estimates.{chosen-first, first-chosen}
+use Rattle.exploration.specs.Laws.Expansions.{sound-room, sound-counted, final-sound, final-done}
+use Rattle.exploration.specs.Laws.FloatOrder.{float-comparison}
+use Rattle.exploration.specs.Laws.Guides.{as-alone, movers-fair}
+use Rattle.exploration.specs.Laws.Lists.{count-le}
+use Rattle.exploration.specs.Laws.Loops.{runs-run}
+use Rattle.exploration.specs.Laws.WalkBack.{is-route, route-is}
 
-abbrev pub total : List ℕ → ℕ
-total [] = zero
-total (n ∷ ns) = n + total ns
+-- ---- one search, and the same search under another budget
 
-module _ {P L : Type 0} (𝓖 : Graph P L) where
-  open Graph 𝓖 using (same, start, goal, finish)
+module _ {P L A B : Type 0} (𝓖 : Graph P L) (𝓟 : Policy P L A B) (𝓛 : GraphLaws 𝓖) (𝓠 : PolicyLaws 𝓟) where
+  -- A list that is found is a route, of at most one point more than the budget.
+  pub found-is-route : (b : ℕ) (t : List (P × L)) → answer 𝓖 𝓟 b ≡ Found t → Route 𝓖 t × (length t ≤ suc b)
+  found-is-route b t e = found-route 𝓖 𝓟 (final-sound 𝓖 𝓟 𝓛 𝓠 b) (found-of 𝓖 𝓟 (final 𝓖 𝓟 b) t e)
 
-  ends-here : (p : P) → same p goal ≡ true → ends 𝓖 p ≡ none → ⊥
-  unfolding ends
-  ends-here p e h = let z : ends 𝓖 p ≡ some [] = rw (e, endsBy) in none-some (sym h ∙ z)
+  -- Unreachable means that no list is a route.
+  pub unreachable-has-no-route : (b : ℕ) → answer 𝓖 𝓟 b ≡ Unreachable → (t : List (P × L)) → Route 𝓖 t → ⊥
+  unreachable-has-no-route b = unreachable-route 𝓖 𝓟 𝓛 𝓠 b (final 𝓖 𝓟 b) (final-sound 𝓖 𝓟 𝓛 𝓠 b)
 
-  ends-jump : (p : P) (w : P × L) → connects 𝓖 p w ≡ true → ends 𝓖 p ≡ none → ⊥
-  unfolding ends
-  ends-jump p w e h = go (same p goal) (finish p) e h
+  -- A list K that covers every reached point and is no longer than the budget rules out BudgetExceeded.
+  pub covering-budget-suffices : (b : ℕ) (K : List P) → ((p : P) → Reach 𝓖 p → has (λ x. 𝓖 .same x p) K ≡ true) → length K ≤ b → answer 𝓖 𝓟 b ≢ BudgetExceeded
+  covering-budget-suffices b K c h e = omega (arith, exceeded-cover 𝓖 𝓟 𝓛 𝓠 b (final 𝓖 𝓟 b) (final-sound 𝓖 𝓟 𝓛 𝓠 b) e K c)
+
+  -- The points kept under a smaller budget are the first of those kept under a larger one, and never more than the budget.
+  pub smaller-budget-keeps-the-first : (b c : ℕ) → b ≤ c → IsPrefix (points (final 𝓖 𝓟 b)) (points (final 𝓖 𝓟 c)) × (length (points (final 𝓖 𝓟 b)) ≤ b)
+  smaller-budget-keeps-the-first b c h = (go (compare-final 𝓖 𝓟 𝓛 𝓠 b c h), rw length-map (sound-room 𝓖 𝓟 (final-sound 𝓖 𝓟 𝓛 𝓠 b)))
     where
-      go : (b : Bool) (o : Option L) → fits 𝓖 o (w .1) ≡ true → endsBy 𝓖 b o ≡ none → ⊥
-      go true o e h = none-some (sym h)
-      go false none e h = true-false e refl
-      go false (some l) e h = none-some (sym h)
+      go : Compared 𝓖 𝓟 b (final 𝓖 𝓟 b) (final 𝓖 𝓟 c) → IsPrefix (points (final 𝓖 𝓟 b)) (points (final 𝓖 𝓟 c))
+      go (equal e) = ([], append-nil _ ∙ ap points e)
+      go (parted o) = (o .rest .0, sym (o .rest .1))
 
-module _ {P L A B : Type 0} (𝓖 : Graph P L) (𝓟 : Policy P L A B) where
-  open Graph 𝓖 using (same, start, goal, finish)
-  open Policy 𝓟 using (pick)
+  -- Found stays Found under a larger budget.
+  pub found-stays-found : (b c : ℕ) → b ≤ c → (t : List (P × L)) → answer 𝓖 𝓟 b ≡ Found t → (u : List (P × L)) × (answer 𝓖 𝓟 c ≡ Found u)
+  found-stays-found b c h t e = let p = smaller-budget-keeps-the-first b c h .0 in
+      let u = found-again 𝓖 𝓟 𝓛 𝓠 b c (final 𝓖 𝓟 b) (final 𝓖 𝓟 c) (p .0, sym (p .1)) (final-sound 𝓖 𝓟 𝓛 𝓠 b) (final-sound 𝓖 𝓟 𝓛 𝓠 c) (final-done 𝓖 𝓟 𝓛 𝓠 c) t (found-of 𝓖 𝓟 (final 𝓖 𝓟 b) t e) in
+      (u .0, found-outcome 𝓖 𝓟 (final 𝓖 𝓟 c) (u .0) (u .1))
 
-  -- what an outcome says of the state
-  pub data Ended (s : State P L A B) : Outcome (P × L) → Type 0 where
-    by-hit : (t : List (P × L)) → s .hit ≡ some t → Ended s (Found t)
-    by-wait : s .hit ≡ none → (r : ℕ × Node P L A) → pick (s .nodes) (s .book) ≡ some r → Ended s Searching
-    by-end : s .hit ≡ none → pick (s .nodes) (s .book) ≡ none → s .dropped ≡ zero → Ended s Unreachable
-    by-drop : s .hit ≡ none → pick (s .nodes) (s .book) ≡ none → s .dropped ≢ zero → Ended s BudgetExceeded
-
-  pub ended : (s : State P L A B) → Ended s (outcome 𝓖 𝓟 s)
-  unfolding outcome
-  ended s = go (s .hit) (pick (s .nodes) (s .book)) (s .dropped) refl refl refl
+  -- Unreachable stays Unreachable under a larger budget.
+  pub unreachable-stays-unreachable : (b c : ℕ) → b ≤ c → answer 𝓖 𝓟 b ≡ Unreachable → answer 𝓖 𝓟 c ≡ Unreachable
+  unreachable-stays-unreachable b c h e = go (compare-final 𝓖 𝓟 𝓛 𝓠 b c h)
     where
-      go : (h : Option (List (P × L))) (o : Option (ℕ × Node P L A)) (d : ℕ) → s .hit ≡ h → pick (s .nodes) (s .book) ≡ o → s .dropped ≡ d → Ended s (outcomeBy 𝓖 𝓟 h o d)
-      go (some t) o d p q r = by-hit t p
-      go none (some x) d p q r = by-wait p x q
-      go none none zero p q r = by-end p q r
-      go none none (suc d) p q r = by-drop p q (λ z. omega arith)
+      go : Compared 𝓖 𝓟 b (final 𝓖 𝓟 b) (final 𝓖 𝓟 c) → answer 𝓖 𝓟 c ≡ Unreachable
+      go (equal q) = rw (← q) e
+      go (parted o) = absurd (omega (arith, o .lost, end-of 𝓖 𝓟 (final 𝓖 𝓟 b) e .2))
 
-  -- equal states, equal outcomes; and an outcome read off the state
-  pub hit-found : (s : State P L A B) (t : List (P × L)) → s .hit ≡ some t → outcome 𝓖 𝓟 s ≡ Found t
-  unfolding outcome
-  hit-found s t e = rw (e, outcomeBy)
+  -- A search ends after at most budget closings, and its count of closings is the number of closed nodes.
+  pub ends-within-budget : (b : ℕ) → (answer 𝓖 𝓟 b ≢ Searching) × ((final 𝓖 𝓟 b) .closings ≤ b) × ((final 𝓖 𝓟 b) .closings ≡ count (λ n. n .closed) ((final 𝓖 𝓟 b) .nodes))
+  ends-within-budget b = (done-ended 𝓖 𝓟 (final 𝓖 𝓟 b) (final-done 𝓖 𝓟 𝓛 𝓠 b), omega (arith, k, sound-room 𝓖 𝓟 (final-sound 𝓖 𝓟 𝓛 𝓠 b), count-le (λ n. n .closed) ((final 𝓖 𝓟 b) .nodes)), k)
+    where
+      k : (final 𝓖 𝓟 b) .closings ≡ count (λ n. n .closed) ((final 𝓖 𝓟 b) .nodes)
+      k = sound-counted 𝓖 𝓟 (final-sound 𝓖 𝓟 𝓛 𝓠 b)
 
-  hit-of : {s : State P L A B} {t : List (P × L)} → Ended s (Found t) → s .hit ≡ some t
-  hit-of (by-hit t e) = e
+  -- However the expansions are divided into lots: lots that together are as many as the budget end the search, and whenever lots end it, it is in the state
+  -- in which the whole search ends.
+  pub every-division-ends-alike : (b : ℕ) (lots : List ℕ) → (b ≤ total lots → outcome 𝓖 𝓟 (runs 𝓖 𝓟 b lots (begin 𝓖 𝓟 b)) ≢ Searching)
+      × (outcome 𝓖 𝓟 (runs 𝓖 𝓟 b lots (begin 𝓖 𝓟 b)) ≢ Searching → runs 𝓖 𝓟 b lots (begin 𝓖 𝓟 b) ≡ final 𝓖 𝓟 b)
+  every-division-ends-alike b lots = rw (runs-run 𝓖 𝓟 b lots (begin 𝓖 𝓟 b)) (λ h. done-ended 𝓖 𝓟 _ (enough-done 𝓖 𝓟 𝓛 𝓠 b (total lots) h), λ n. done-final 𝓖 𝓟 𝓛 𝓠 b (total lots) (ended-done 𝓖 𝓟 _ n))
 
-  end-of : {s : State P L A B} → Ended s Unreachable → (s .hit ≡ none) × (pick (s .nodes) (s .book) ≡ none) × (s .dropped ≡ zero)
-  end-of (by-end h p d) = (h, p, d)
+-- ---- two policies over one graph
 
-  drop-of : {s : State P L A B} → Ended s BudgetExceeded → (s .hit ≡ none) × (s .dropped ≢ zero)
-  drop-of (by-drop h p d) = (h, d)
-
-  -- expansions in lots
-  abbrev pub runs : ℕ → List ℕ → State P L A B → State P L A B
-  runs b [] s = s
-  runs b (n ∷ ns) s = runs b ns (run 𝓖 𝓟 b n s)
-
-  runs-run : (b : ℕ) (ns : List ℕ) (s : State P L A B) → runs b ns s ≡ run 𝓖 𝓟 b (total ns) s
-  runs-run b [] s = refl
-  runs-run b (n ∷ ns) s = runs-run b ns (run 𝓖 𝓟 b n s) ∙ sym (run-add 𝓖 𝓟 b n (total ns) s)
-
-  module _ (𝓛 : GraphLaws 𝓖) (𝓠 : PolicyLaws 𝓟) where
-    inv-now : {b : ℕ} {s : State P L A B} → Good 𝓖 𝓟 b s → s .hit ≡ none → Inv 𝓖 𝓟 b none s
-    inv-now (going h inv) e = inv
-    inv-now (struck u k n rest h r l _ _ _) e = absurd (none-some (sym e ∙ h))
-
-    -- (b) a list that is found is a route, of at most one point more than the budget
-    hit-route : {b : ℕ} {s : State P L A B} {t : List (P × L)} → Good 𝓖 𝓟 b s → s .hit ≡ some t → Route 𝓖 t × (length t ≤ suc b)
-    hit-route (going h inv) e = absurd (none-some (sym h ∙ e))
-    hit-route {t = t} (struck u k n rest h r l _ _ _) e = let z : u ≡ t = cc in rw (← z) (r, l)
-
-    pub found-route : (b : ℕ) (t : List (P × L)) → outcome 𝓖 𝓟 (final 𝓖 𝓟 b) ≡ Found t → Route 𝓖 t × (length t ≤ suc b)
-    found-route b t e = hit-route (final-good 𝓖 𝓟 𝓛 𝓠 b) (hit-of (subst (Ended (final 𝓖 𝓟 b)) e (ended (final 𝓖 𝓟 b))))
-
-    -- (c) Unreachable: no route exists
-    module _ (b : ℕ) (s : State P L A B) (inv : Inv 𝓖 𝓟 b none s) (none-waits : pick (s .nodes) (s .book) ≡ none) (none-lost : s .dropped ≡ zero) where
-      stands : (p : P) → known 𝓖 (s .nodes) p ≡ true → (n : Node P L A) × (same p (n .point) ≡ true) × Expanded 𝓖 𝓟 s n
-      stands p h = let z = known-at 𝓖 (s .nodes) p h in
-          (z .1, 𝓛 .same-sym (z .1 .point) p (z .3), inv .expanded (z .0) (z .1) (z .2) (shut-of 𝓖 𝓟 inv (z .0) (z .1) (z .2) (𝓠 .pick-none _ _ none-waits (z .0) (z .1) (z .2))) (λ e. none-some (sym e)))
-
-      no-legs : {p : P} {ws : List (P × L)} → known 𝓖 (s .nodes) p ≡ true → Legs 𝓖 p ws → ⊥
-      no-legs {p} h (here e) = let z = stands p h in ends-here 𝓖 (z .0 .point) (𝓛 .same-trans (z .0 .point) p goal (𝓛 .same-sym p (z .0 .point) (z .1)) e) (z .2 .0)
-      no-legs {p} h (jump {w = w} e g) = let z = stands p h in ends-jump 𝓖 (z .0 .point) w (𝓛 .last-same p (z .0 .point) w (z .1) e) (z .2 .0)
-      no-legs {p} h (leg {w = w} e l) = let z = stands p h in no-legs (z .2 .1 none-lost w (𝓛 .step-same p (z .0 .point) w (z .1) e)) l
-
-      no-route : {t : List (P × L)} → Route 𝓖 t → ⊥
-      no-route (route {w = w} e _ l) = no-legs (has-map _ _ (λ p i. 𝓛 .same-trans p start (w .0) i e) (points s) (inv .rooted none-lost)) l
-
-    pub unreachable-none : (b : ℕ) → outcome 𝓖 𝓟 (final 𝓖 𝓟 b) ≡ Unreachable → (t : List (P × L)) → Route 𝓖 t → ⊥
-    unreachable-none b e t r = let z = end-of (subst (Ended (final 𝓖 𝓟 b)) e (ended (final 𝓖 𝓟 b))) in no-route b (final 𝓖 𝓟 b) (inv-now (final-good 𝓖 𝓟 𝓛 𝓠 b) (z .0)) (z .1) (z .2) r
-
-    -- (d) a budget for every point that steps reach is never exceeded
-    reached : {b : ℕ} {s : State P L A B} → Inv 𝓖 𝓟 b none s → (k : ℕ) (n : Node P L A) → nth (s .nodes) k ≡ some n → Link 𝓖 𝓟 (s .nodes) n → Reach 𝓖 (n .point)
-    reached inv k n e (first-link p q l) = origin q
-    reached inv k n e (next-link j m p q c h) = onward (n .point, n .label) (trail-reach 𝓖 𝓟 (inv .trails j m q c .1)) h
-
-    cover : (K : List P) (ns : List (Node P L A)) (q : P) → ((k : ℕ) (n : Node P L A) → nth ns k ≡ some n → has (λ x. same x (n .point)) K ≡ true) → has (λ x. same x q) K ≡ true → Covered same K (map (λ n. n .point) ns ++ (q ∷ []))
-    cover K [] q h e = (e, tt)
-    cover K (n ∷ ns) q h e = (h 0 n refl, cover K ns q (λ k m i. h (suc k) m i) e)
-
-    pub enough : (b : ℕ) (K : List P) → ((p : P) → Reach 𝓖 p → has (λ x. same x p) K ≡ true) → length K ≤ b → outcome 𝓖 𝓟 (final 𝓖 𝓟 b) ≢ BudgetExceeded
-    enough b K c h e = go (drop-of (subst (Ended (final 𝓖 𝓟 b)) e (ended (final 𝓖 𝓟 b))))
-      where
-        s : State P L A B
-        s = final 𝓖 𝓟 b
-
-        go : (s .hit ≡ none) × (s .dropped ≢ zero) → ⊥
-        go z =
-            let inv = inv-now (final-good 𝓖 𝓟 𝓛 𝓠 b) (z .0) in
-            let o = inv .over (z .1) in
-            let most = pigeon same (𝓛 .same-sym) (𝓛 .same-trans) (points s ++ (o .0 ∷ [])) K (apart-snoc same (points s) (o .0) (inv .apart) (o .2)) (cover K (s .nodes) (o .0) (λ k n i. c (n .point) (reached inv k n i (inv .links k n i))) (c (o .0) (o .1))) in
-            omega (arith, most, o .3, length-append (points s) (o .0 ∷ []), length-map (s .nodes) (λ n. n .point))
-
-    -- No. 14: what a smaller budget keeps comes first under a larger one, and no budget keeps more than it is
-    pub kept-first : (b c : ℕ) → b ≤ c → (r : List P) × (points (final 𝓖 𝓟 c) ≡ points (final 𝓖 𝓟 b) ++ r)
-    kept-first b c h = go (pair-final 𝓖 𝓟 𝓛 𝓠 b c h)
-      where
-        go : Pair 𝓖 𝓟 b (final 𝓖 𝓟 b) (final 𝓖 𝓟 c) → (r : List P) × (points (final 𝓖 𝓟 c) ≡ points (final 𝓖 𝓟 b) ++ r)
-        go (alike e) = ([], ap (points) (sym e) ∙ sym (append-nil _))
-        go (over o) = o .rest
-
-    pub kept-room : (b : ℕ) → length (points (final 𝓖 𝓟 b)) ≤ b
-    kept-room b = rw length-map (go (final-good 𝓖 𝓟 𝓛 𝓠 b))
-      where
-        go : Good 𝓖 𝓟 b (final 𝓖 𝓟 b) → length ((final 𝓖 𝓟 b) .nodes) ≤ b
-        go (going h inv) = inv .room
-        go (struck t k n rest h r l e i inv) = inv .room
-
-    -- a search ends after at most budget closings
-    pub closings-room : (b : ℕ) → (final 𝓖 𝓟 b) .closings ≤ b
-    closings-room b = go (final-good 𝓖 𝓟 𝓛 𝓠 b)
-      where
-        room : {busy : Option ℕ} → Inv 𝓖 𝓟 b busy (final 𝓖 𝓟 b) → (final 𝓖 𝓟 b) .closings ≤ b
-        room inv = omega (arith, inv .counted, inv .room, count-le (λ n. n .closed) ((final 𝓖 𝓟 b) .nodes))
-
-        go : Good 𝓖 𝓟 b (final 𝓖 𝓟 b) → (final 𝓖 𝓟 b) .closings ≤ b
-        go (going h inv) = room inv
-        go (struck t k n rest h r l e i inv) = room inv
-
-    -- (c) Unreachable stays so under a larger budget
-    pub unreachable-stays : (b c : ℕ) → b ≤ c → outcome 𝓖 𝓟 (final 𝓖 𝓟 b) ≡ Unreachable → outcome 𝓖 𝓟 (final 𝓖 𝓟 c) ≡ Unreachable
-    unreachable-stays b c h e = go (pair-final 𝓖 𝓟 𝓛 𝓠 b c h)
-      where
-        go : Pair 𝓖 𝓟 b (final 𝓖 𝓟 b) (final 𝓖 𝓟 c) → outcome 𝓖 𝓟 (final 𝓖 𝓟 c) ≡ Unreachable
-        go (alike q) = rw (← q) e
-        go (over o) = absurd (omega (arith, o .lost, end-of (subst (Ended (final 𝓖 𝓟 b)) e (ended (final 𝓖 𝓟 b))) .2))
-
-    -- (a) and so does Found
-    pub found-stays : (b c : ℕ) → b ≤ c → (t : List (P × L)) → outcome 𝓖 𝓟 (final 𝓖 𝓟 b) ≡ Found t → (u : List (P × L)) × (outcome 𝓖 𝓟 (final 𝓖 𝓟 c) ≡ Found u)
-    found-stays b c h t e = go (kept-first b c h) (final-good 𝓖 𝓟 𝓛 𝓠 b) (final-rest 𝓖 𝓟 𝓛 𝓠 c)
-      where
-        s : State P L A B
-        s = final 𝓖 𝓟 b
-
-        u : State P L A B
-        u = final 𝓖 𝓟 c
-
-        there : (r : List P) → points u ≡ points s ++ r → (k : ℕ) (n : Node P L A) → nth (s .nodes) k ≡ some n → (m : Node P L A) × (nth (u .nodes) k ≡ some m) × (m .point ≡ n .point)
-        there r q k n i = nth-of-map (λ x. x .point) (u .nodes) k (n .point) (rw q (nth-left (points s) r k (n .point) (nth-map (λ x. x .point) (s .nodes) k n i)))
-
-        go : (r : List P) × (points u ≡ points s ++ r) → Good 𝓖 𝓟 b s → Rest 𝓖 𝓟 u → (x : List (P × L)) × (outcome 𝓖 𝓟 u ≡ Found x)
-        go p g (at-hit x q) = (x, hit-found u x q)
-        go p (going i _) (at-end j q) = absurd (none-some (sym i ∙ hit-of (subst (Ended s) e (ended s))))
-        go p (struck y k n rest i _ _ at-k last _) (at-end j q) =
-            let m = there (p .0) (p .1) k n at-k in
-            let inv = inv-now (final-good 𝓖 𝓟 𝓛 𝓠 c) j in
-            let x = inv .expanded k (m .0) (m .1) (shut-of 𝓖 𝓟 inv k (m .0) (m .1) (𝓠 .pick-none _ _ q k (m .0) (m .1))) (λ z. none-some (sym z)) in
-            absurd (none-some (sym (x .0) ∙ ap (ends 𝓖) (m .2) ∙ last))
-
-    -- a whole search has ended
-    pub never-searching : (b : ℕ) → outcome 𝓖 𝓟 (final 𝓖 𝓟 b) ≢ Searching
-    never-searching b e = go (final-rest 𝓖 𝓟 𝓛 𝓠 b) (subst (Ended (final 𝓖 𝓟 b)) e (ended (final 𝓖 𝓟 b)))
-      where
-        go : Rest 𝓖 𝓟 (final 𝓖 𝓟 b) → Ended (final 𝓖 𝓟 b) Searching → ⊥
-        go (at-hit t h) (by-wait i r p) = none-some (sym i ∙ h)
-        go (at-end h q) (by-wait i r p) = none-some (sym q ∙ p)
-
-    -- No. 10: expansions in any lots, as many as the budget or more, end in the state of the whole search
-    pub divided : (b : ℕ) (lots : List ℕ) → b ≤ total lots → runs b lots (begin 𝓖 𝓟 b) ≡ final 𝓖 𝓟 b
-    divided b lots h = runs-run b lots _ ∙ ap (λ (n : ℕ). run 𝓖 𝓟 b n (begin 𝓖 𝓟 b)) (sum b (total lots) h) ∙ run-add 𝓖 𝓟 b b (total lots - b) _ ∙ rest-run 𝓖 𝓟 b (total lots - b) (final 𝓖 𝓟 b) (final-rest 𝓖 𝓟 𝓛 𝓠 b)
-      where
-        sum : (b n : ℕ) → b ≤ n → n ≡ b + (n - b)
-        sum b n h = omega arith
-
+-- both found a list, or both are unreachable
 pub data Agree {W : Type 0} : Outcome W → Outcome W → Type 0 where
   both-found : (t u : List W) → Agree (Found t) (Found u)
   both-unreachable : Agree Unreachable Unreachable
 
--- No. 12: two policies over one graph agree, where neither exceeds its budget
-module _ {P L A B C D : Type 0} (𝓖 : Graph P L) (𝓛 : GraphLaws 𝓖) (𝓟 : Policy P L A B) (𝓡 : Policy P L C D) (𝓠 : PolicyLaws 𝓟) (𝓢 : PolicyLaws 𝓡) (b c : ℕ) where
-  pub agree : outcome 𝓖 𝓟 (final 𝓖 𝓟 b) ≢ BudgetExceeded → outcome 𝓖 𝓡 (final 𝓖 𝓡 c) ≢ BudgetExceeded → Agree (outcome 𝓖 𝓟 (final 𝓖 𝓟 b)) (outcome 𝓖 𝓡 (final 𝓖 𝓡 c))
-  agree p q = go _ _ refl refl p q
+module _ {P L A B C D : Type 0} (𝓖 : Graph P L) (𝓛 : GraphLaws 𝓖) (𝓟 : Policy P L A B) (𝓡 : Policy P L C D) (𝓠 : PolicyLaws 𝓟) (𝓢 : PolicyLaws 𝓡) where
+  -- Two policies over one graph agree, where neither exceeds its budget.
+  pub policies-agree : (b c : ℕ) → answer 𝓖 𝓟 b ≢ BudgetExceeded → answer 𝓖 𝓡 c ≢ BudgetExceeded → Agree (answer 𝓖 𝓟 b) (answer 𝓖 𝓡 c)
+  policies-agree b c p q = go _ _ refl refl p q
     where
-      go : (x y : Outcome (P × L)) → outcome 𝓖 𝓟 (final 𝓖 𝓟 b) ≡ x → outcome 𝓖 𝓡 (final 𝓖 𝓡 c) ≡ y → x ≢ BudgetExceeded → y ≢ BudgetExceeded → Agree x y
+      go : (x y : Outcome (P × L)) → answer 𝓖 𝓟 b ≡ x → answer 𝓖 𝓡 c ≡ y → x ≢ BudgetExceeded → y ≢ BudgetExceeded → Agree x y
       go (Found t) (Found u) e f p q = both-found t u
-      go (Found t) Unreachable e f p q = absurd (unreachable-none 𝓖 𝓡 𝓛 𝓢 c f t (found-route 𝓖 𝓟 𝓛 𝓠 b t e .0))
+      go (Found t) Unreachable e f p q = absurd (unreachable-has-no-route 𝓖 𝓡 𝓛 𝓢 c f t (found-is-route 𝓖 𝓟 𝓛 𝓠 b t e .0))
       go (Found t) BudgetExceeded e f p q = absurd (q refl)
-      go (Found t) Searching e f p q = absurd (never-searching 𝓖 𝓡 𝓛 𝓢 c f)
-      go Unreachable (Found u) e f p q = absurd (unreachable-none 𝓖 𝓟 𝓛 𝓠 b e u (found-route 𝓖 𝓡 𝓛 𝓢 c u f .0))
+      go (Found t) Searching e f p q = absurd (ends-within-budget 𝓖 𝓡 𝓛 𝓢 c .0 f)
+      go Unreachable (Found u) e f p q = absurd (unreachable-has-no-route 𝓖 𝓟 𝓛 𝓠 b e u (found-is-route 𝓖 𝓡 𝓛 𝓢 c u f .0))
       go Unreachable Unreachable e f p q = both-unreachable
       go Unreachable BudgetExceeded e f p q = absurd (q refl)
-      go Unreachable Searching e f p q = absurd (never-searching 𝓖 𝓡 𝓛 𝓢 c f)
+      go Unreachable Searching e f p q = absurd (ends-within-budget 𝓖 𝓡 𝓛 𝓢 c .0 f)
       go BudgetExceeded y e f p q = absurd (p refl)
-      go Searching y e f p q = absurd (never-searching 𝓖 𝓟 𝓛 𝓠 b e)
+      go Searching y e f p q = absurd (ends-within-budget 𝓖 𝓟 𝓛 𝓠 b .0 e)
+
+-- ---- two guides by turns
+
+module _ {P L A B Q M C D : Type 0} (𝓖 : Graph P L) (𝓗 : Graph Q M) (𝓟 : Policy P L A B) (𝓡 : Policy Q M C D) (𝓛 : GraphLaws 𝓖) (𝓜 : GraphLaws 𝓗) (𝓠 : PolicyLaws 𝓟) (𝓢 : PolicyLaws 𝓡) where
+  -- Each guide ends in the state in which it would end alone, and while it is searching it waits for at most one expansion of the other.
+  pub guides-by-turns : (b c : ℕ) → (play 𝓖 𝓗 𝓟 𝓡 b c (turns 𝓖 𝓗 𝓟 𝓡 b c) (beginBoth 𝓖 𝓗 𝓟 𝓡 b c) ≡ (final 𝓖 𝓟 b, final 𝓗 𝓡 c))
+      × Fair 𝓖 𝓗 𝓟 𝓡 b c (turns 𝓖 𝓗 𝓟 𝓡 b c) (beginBoth 𝓖 𝓗 𝓟 𝓡 b c)
+  guides-by-turns b c = (as-alone 𝓖 𝓗 𝓟 𝓡 b c 𝓛 𝓜 𝓠 𝓢, movers-fair 𝓖 𝓗 𝓟 𝓡 b c (b + c) one (beginBoth 𝓖 𝓗 𝓟 𝓡 b c))
+
+-- ---- the test of a list
+
+-- The test of a list is true exactly for routes.
+pub route-test-exact : {P L : Type 0} (𝓖 : Graph P L) (t : List (P × L)) → (isRoute 𝓖 t ≡ true) ↔ Route 𝓖 t
+route-test-exact 𝓖 t = (is-route 𝓖 t, route-is 𝓖)
+
+-- ---- the next of the frontier
+
+-- Where the order is total and transitive on the waiting elements that are present, the scan keeps the least of them, and only the least.
+pub picks-the-least : {A : Type 0} (waits : A → Bool) (beats : A → A → Bool) (xs : List A) → Ordered waits beats xs → (r : ℕ × A) → (choose waits beats xs ≡ some r) ↔ Least waits beats xs r
+picks-the-least waits beats xs o r = (chosen-least waits beats xs o r, least-chosen waits beats xs o r)
+
+module _ {A E : Type 0} (below level : E → E → Bool) (Number : E → Type 0) (laws : Comparison below level Number) (waits : A → Bool) (estimate : A → E) (order : A → ℕ) where
+  -- By estimate and push order: where the waiting estimates are numbers, what is picked has the lowest estimate, of those the earliest push, and where pushes
+  -- tie the lowest place; and only that one is picked.
+  pub picks-lowest-estimate-then-earliest-push : (xs : List A) → ((k : ℕ) (x : A) → nth xs k ≡ some x → waits x ≡ true → Number (estimate x)) → (r : ℕ × A)
+      → (choose waits (sooner below level estimate order) xs ≡ some r) ↔ First below level estimate order waits xs r
+  picks-lowest-estimate-then-earliest-push xs n r = (chosen-first below level Number laws estimate order waits xs (λ k x w. n k x (w .0) (w .1)) r, first-chosen below level Number laws estimate order waits xs (λ k x w. n k x (w .0) (w .1)) r)
+
+  -- Where no two pushes tie, the place decides nothing: every other waiting one has a higher estimate, or an equal one and a later push.
+  pub distinct-pushes-decide : (xs : List A) → ((k : ℕ) (x : A) → nth xs k ≡ some x → waits x ≡ true → Number (estimate x))
+      → ((j k : ℕ) (x y : A) → nth xs j ≡ some x → nth xs k ≡ some y → order x ≡ order y → j ≡ k) → (r : ℕ × A) → choose waits (sooner below level estimate order) xs ≡ some r
+      → (k : ℕ) (x : A) → nth xs k ≡ some x → waits x ≡ true → k ≢ r .0 → (below (estimate (r .1)) (estimate x) ≡ true) ⊎ ((level (estimate (r .1)) (estimate x) ≡ true) × (order (r .1) < order x))
+  distinct-pushes-decide xs n distinct r e k x i w h = let f = picks-lowest-estimate-then-earliest-push xs n r .0 e in go (f .0 .0) (f .1 k x (i, w) h)
+    where
+      go : nth xs (r .0) ≡ some (r .1) → Before below level estimate order (r .0) (r .1) k x → (below (estimate (r .1)) (estimate x) ≡ true) ⊎ ((level (estimate (r .1)) (estimate x) ≡ true) × (order (r .1) < order x))
+      go j (inl p) = inl p
+      go j (inr (p, inl q)) = inr (p, q)
+      go j (inr (p, inr q)) = absurd (h (distinct k (r .0) x (r .1) i j (sym (q .0))))
+
+-- And so it is for f64 estimates that are no NaN.
+pub picks-lowest-f64-then-earliest-push : {A : Type 0} (waits : A → Bool) (estimate : A → Float) (order : A → ℕ) (xs : List A) → ((k : ℕ) (x : A) → nth xs k ≡ some x → waits x ≡ true → isNan (estimate x) ≡ false) → (r : ℕ × A)
+    → (choose waits (sooner lt eq estimate order) xs ≡ some r) ↔ First lt eq estimate order waits xs r
+picks-lowest-f64-then-earliest-push = picks-lowest-estimate-then-earliest-push lt eq (λ x. isNan x ≡ false) float-comparison

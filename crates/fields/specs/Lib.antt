@@ -1,3 +1,7 @@
 pub mod Little
+pub mod Records
 pub mod Laws
+pub mod Pieces
+pub mod RecordLaws
 pub mod Signed
+pub mod Values

@@ -1,28 +1,14 @@
-// Little-endian fields of byte tables: total reads and writes at an offset.
+// Little-endian fields of byte tables (01, Tables): reads and writes at an offset, total. Where a field does not fit, a read gives 0 and a write
+// changes nothing.
 ghost use mathlib.Core.Path.{_≡_};
-ghost use Prim.Native.Nat.{_+_, _*_, _%_};
+ghost use Prim.Native.Nat.{_+_, _*_, _%_, _≤_};
+ghost use lib.ListN.{length};
 ghost use mir.Syntax.{w32};
-ghost use mir.Val.{toZ};
-ghost use Rattle.fields.specs.Little.{fitsAt, field, withField, floatField, withFloat};
-
-// The number that four bytes stand for, lowest first.
-fn join4(a: u8, b: u8, c: u8, d: u8) -> u32
-    ensures { λ r. ⌜ r ≡ a + 256 * (b + 256 * (c + 256 * d)) ⌝ }
-{
-    (a as u32) + 256 * ((b as u32) + 256 * ((c as u32) + 256 * (d as u32)))
-}
-
-// The same of eight.
-fn join8(a: u8, b: u8, c: u8, d: u8, e: u8, f: u8, g: u8, h: u8) -> u64
-    ensures { λ r. ⌜ r ≡ a + 256 * (b + 256 * (c + 256 * (d + 256 * (e + 256 * (f + 256 * (g + 256 * h)))))) ⌝ }
-{
-    let low = (a as u64) + 256 * ((b as u64) + 256 * ((c as u64) + 256 * (d as u64)));
-    let high = (e as u64) + 256 * ((f as u64) + 256 * ((g as u64) + 256 * (h as u64)));
-    low + 4294967296 * high
-}
+ghost use mir.Val.{toZ, ofZ};
+ghost use Rattle.fields.specs.Little.{fitsAt, field, withField, signedField, withSigned, floatField, withFloat};
 
 // Whether n bytes stand at an offset.
-pub fn room(s: &[u8], at: usize, n: usize) -> bool
+pub fn fits_at(s: &[u8], at: usize, n: usize) -> bool
     ensures { λ r. ⌜ r ≡ fitsAt n (now (s .entry)) at ⌝ }
 {
     let len = s.len();
@@ -32,7 +18,43 @@ pub fn room(s: &[u8], at: usize, n: usize) -> bool
     at <= len - n
 }
 
-// The u32 at an offset; 0 where it does not fit.
+// The number that four bytes stand for, lowest first.
+fn join(a: u8, b: u8, c: u8, d: u8) -> u32
+    ensures { λ r. ⌜ r ≡ a + 256 * (b + 256 * (c + 256 * d)) ⌝ }
+{
+    (a as u32) + 256 * ((b as u32) + 256 * ((c as u32) + 256 * (d as u32)))
+}
+
+// The four bytes at an offset that has them.
+fn four_at(s: &[u8], at: usize) -> u32
+    requires { ⌜ at + 4 ≤ length (now s) ⌝ }
+    ensures { λ r. ⌜ r ≡ field 4 (now (s .entry)) at ⌝ }
+{
+    join(s[at], s[at + 1], s[at + 2], s[at + 3])
+}
+
+// The lowest byte of a number.
+fn low(v: u32) -> u8
+    ensures { λ r. ⌜ r ≡ v % 256 ⌝ }
+{
+    (v % 256) as u8
+}
+
+// The four bytes at an offset that has them, set.
+fn put_four(s: &mut [u8], at: usize, v: u32)
+    requires { ⌜ at + 4 ≤ length (now s) ⌝ }
+    ensures { λ _. ⌜ now (s .exit) ≡ withField 4 (now (s .entry)) at v ⌝ }
+{
+    let b = v / 256;
+    let c = b / 256;
+    let d = c / 256;
+    s[at] = low(v);
+    s[at + 1] = low(b);
+    s[at + 2] = low(c);
+    s[at + 3] = low(d);
+}
+
+// The u32 at an offset.
 pub fn u32_at(s: &[u8], at: usize) -> u32
     ensures { λ r. ⌜ r ≡ field 4 (now (s .entry)) at ⌝ }
 {
@@ -43,46 +65,10 @@ pub fn u32_at(s: &[u8], at: usize) -> u32
     if n - 4 < at {
         return 0;
     }
-    join4(s[at], s[at + 1], s[at + 2], s[at + 3])
+    four_at(s, at)
 }
 
-// The u64 at an offset; 0 where it does not fit.
-pub fn u64_at(s: &[u8], at: usize) -> u64
-    ensures { λ r. ⌜ r ≡ field 8 (now (s .entry)) at ⌝ }
-{
-    let n = s.len();
-    if n < 8 {
-        return 0;
-    }
-    if n - 8 < at {
-        return 0;
-    }
-    join8(
-        s[at],
-        s[at + 1],
-        s[at + 2],
-        s[at + 3],
-        s[at + 4],
-        s[at + 5],
-        s[at + 6],
-        s[at + 7],
-    )
-}
-
-// The lowest byte of a number.
-fn low4(v: u32) -> u8
-    ensures { λ r. ⌜ r ≡ v % 256 ⌝ }
-{
-    (v % 256) as u8
-}
-
-fn low8(v: u64) -> u8
-    ensures { λ r. ⌜ r ≡ v % 256 ⌝ }
-{
-    (v % 256) as u8
-}
-
-// The u32 at an offset set to v; nothing where it does not fit.
+// The u32 at an offset set to v.
 pub fn put_u32(s: &mut [u8], at: usize, v: u32)
     ensures { λ _. ⌜ now (s .exit) ≡ withField 4 (now (s .entry)) at v ⌝ }
 {
@@ -93,16 +79,26 @@ pub fn put_u32(s: &mut [u8], at: usize, v: u32)
     if n - 4 < at {
         return;
     }
-    let b = v / 256;
-    let c = b / 256;
-    let d = c / 256;
-    s[at] = low4(v);
-    s[at + 1] = low4(b);
-    s[at + 2] = low4(c);
-    s[at + 3] = low4(d);
+    put_four(s, at, v);
 }
 
-// The u64 at an offset set to v; nothing where it does not fit.
+// The u64 at an offset: two numbers of four bytes, the lower first.
+pub fn u64_at(s: &[u8], at: usize) -> u64
+    ensures { λ r. ⌜ r ≡ field 8 (now (s .entry)) at ⌝ }
+{
+    let n = s.len();
+    if n < 8 {
+        return 0;
+    }
+    if n - 8 < at {
+        return 0;
+    }
+    let low = four_at(s, at);
+    let high = four_at(s, at + 4);
+    (low as u64) + 4294967296 * (high as u64)
+}
+
+// The u64 at an offset set to v.
 pub fn put_u64(s: &mut [u8], at: usize, v: u64)
     ensures { λ _. ⌜ now (s .exit) ≡ withField 8 (now (s .entry)) at v ⌝ }
 {
@@ -113,31 +109,20 @@ pub fn put_u64(s: &mut [u8], at: usize, v: u64)
     if n - 8 < at {
         return;
     }
-    let b = v / 256;
-    let c = b / 256;
-    let d = c / 256;
-    let e = d / 256;
-    let f = e / 256;
-    let g = f / 256;
-    let h = g / 256;
-    s[at] = low8(v);
-    s[at + 1] = low8(b);
-    s[at + 2] = low8(c);
-    s[at + 3] = low8(d);
-    s[at + 4] = low8(e);
-    s[at + 5] = low8(f);
-    s[at + 6] = low8(g);
-    s[at + 7] = low8(h);
+    let low = (v % 4294967296) as u32;
+    let high = (v / 4294967296) as u32;
+    put_four(s, at, low);
+    put_four(s, at + 4, high);
 }
 
-// The f64 at an offset; 0.0 where it does not fit.
+// The f64 at an offset: 0.0 where it does not fit, and every NaN pattern the one NaN.
 pub fn f64_at(s: &[u8], at: usize) -> f64
     ensures { λ r. ⌜ r ≡ floatField (now (s .entry)) at ⌝ }
 {
     floats::float_of(u64_at(s, at))
 }
 
-// The f64 at an offset set to x; nothing where it does not fit.
+// The f64 at an offset set to x.
 pub fn put_f64(s: &mut [u8], at: usize, x: f64)
     ensures { λ _. ⌜ now (s .exit) ≡ withFloat (now (s .entry)) at x ⌝ }
 {
@@ -155,9 +140,27 @@ pub fn signed_of(n: u32) -> i32
     }
 }
 
-// The i32 at an offset; 0 where it does not fit.
+// The 32 bits of a signed number, in two's complement.
+pub fn unsigned_of(x: i32) -> u32
+    ensures { λ r. ⌜ r ≡ ofZ w32 x ⌝ }
+{
+    if x < 0 {
+        4294967295 - ((-1 - x) as u32)
+    } else {
+        x as u32
+    }
+}
+
+// The i32 at an offset.
 pub fn i32_at(s: &[u8], at: usize) -> i32
-    ensures { λ r. ⌜ r ≡ toZ w32 (field 4 (now (s .entry)) at) ⌝ }
+    ensures { λ r. ⌜ r ≡ signedField (now (s .entry)) at ⌝ }
 {
     signed_of(u32_at(s, at))
+}
+
+// The i32 at an offset set to x.
+pub fn put_i32(s: &mut [u8], at: usize, x: i32)
+    ensures { λ _. ⌜ now (s .exit) ≡ withSigned (now (s .entry)) at x ⌝ }
+{
+    put_u32(s, at, unsigned_of(x));
 }

@@ -1,4 +1,4 @@
--- `numbers::ceil_cell` meets its contract. Assumes nothing.
+-- `cells::ceil_cell` meets its contract. Assumes nothing.
 use native.Mathlib.Omega.{arith}
 use mathlib.Core.Path.{_∙_, sym, ap}
 use borrow.Author.Needs.{needs}

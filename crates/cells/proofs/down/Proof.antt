@@ -1,4 +1,4 @@
--- `numbers::down` meets its contract. Assumes nothing.
+-- `cells::down` meets its contract. Assumes nothing.
 use mathlib.Core.Path.{_∙_}
 use Rattle.cells.specs.CellLaws.{over, under, cut}
 use Rattle.cells.proofs.down.Statement.{statement}

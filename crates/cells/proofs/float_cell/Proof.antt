@@ -1,4 +1,4 @@
--- `numbers::float_cell` meets its contract. Assumes nothing.
+-- `cells::float_cell` meets its contract. Assumes nothing.
 use borrow.Author.Needs.{needs}
 use mathlib.Core.Path.{_∙_, ap}
 use lib.Ieee.{ofInt, binary64}

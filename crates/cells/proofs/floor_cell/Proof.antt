@@ -1,4 +1,4 @@
--- `numbers::floor_cell` meets its contract. Assumes nothing.
+-- `cells::floor_cell` meets its contract. Assumes nothing.
 use native.Mathlib.Omega.{arith}
 use mathlib.Core.Path.{_∙_, sym, ap}
 use borrow.Author.Needs.{needs}

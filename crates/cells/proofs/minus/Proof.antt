@@ -1,4 +1,4 @@
--- `numbers::minus` meets its contract. Assumes nothing.
+-- `cells::minus` meets its contract. Assumes nothing.
 use native.Mathlib.Omega.{arith}
 use mathlib.Core.Path.{_∙_, ap}
 use mir.Syntax.{w64}

@@ -1,4 +1,4 @@
--- `numbers::up` meets its contract. Assumes nothing.
+-- `cells::up` meets its contract. Assumes nothing.
 use native.Mathlib.Omega.{arith}
 use Rattle.cells.specs.CellLaws.{down-small, up-yes, up-no}
 use borrow.Author.Needs.{needs}

@@ -1,0 +1,26 @@
+-- Lists by place and by test, as the definitions of this crate speak of them.
+use mathlib.Core.Bool.{Bool, true, false, _||_}
+use mathlib.Core.List.{List, [], _∷_}
+use Prim.Native.Nat.{ℕ, zero, suc, _+_}
+
+-- the element at a place, counted from 0
+pub use lib.ListN.{getElem? as nth}
+
+abbrev pub total : List ℕ → ℕ
+total [] = zero
+total (n ∷ ns) = n + total ns
+
+abbrev pub tally : Bool → ℕ → ℕ
+tally true n = suc n
+tally false n = n
+
+module _ {A : Type 0} where
+  -- whether some element passes a test
+  abbrev pub has : (A → Bool) → List A → Bool
+  has p [] = false
+  has p (x ∷ xs) = p x || has p xs
+
+  -- how many elements pass a test
+  abbrev pub count : (A → Bool) → List A → ℕ
+  count p [] = zero
+  count p (x ∷ xs) = tally (p x) (count p xs)

@@ -1,0 +1,64 @@
+-- 01, Graph step: the heights of a column that a step may go to. Definitions only.
+use mathlib.Core.Bool.{Bool, _&&_, cond}
+use mathlib.Core.List.{List, [], _∷_}
+use lib.IntN.{ℤ, pos, _-ℤ_}
+use lib.Ieee.{Float, binary64, lt, le, add, sub}
+use Rattle.floats.specs.Floats.{E, smaller, larger}
+use Rattle.cells.specs.Cells.{floorCell}
+use Rattle.cells.specs.Ranges.{along}
+use Rattle.world.specs.declared.Aabb.{Aabb}
+use Rattle.world.specs.Space.{Space, Block}
+
+-- "Low is the larger of y - max_drop and start y - range, high the smaller of y + max(step, jump) and start y + range."
+pub record Band : Type 0 where
+  pub low : Float
+  pub high : Float
+
+unfoldable pub bandFrom : (y drop step jump startY range : Float) → Band
+bandFrom y drop step jump startY range = record {
+  low = larger (sub binary64 y drop) (sub binary64 startY range);
+  high = smaller (add binary64 y (larger step jump)) (add binary64 startY range);
+}
+
+-- "box tops from low to high, E allowed, .. whose box spans the centre, borders included"
+unfoldable pub reaches : Band → Float → Float → Aabb → Bool
+reaches band x z b =
+    le (b .min .x) x && le x (b .max .x) && le (b .min .z) z && le z (b .max .z)
+    && le (sub binary64 (band .low) E) (b .max .y) && le (b .max .y) (add binary64 (band .high) E)
+
+unfoldable pub topsOf : Band → Float → Float → List Aabb → List Float
+topsOf band x z [] = []
+topsOf band x z (b ∷ bs) = cond (reaches band x z b) (b .max .y ∷ topsOf band x z bs) (topsOf band x z bs)
+
+-- "of that column's cells with bit 2"
+unfoldable pub topsIn : Band → Float → Float → Block → List Float
+topsIn band x z b = cond (b .support) (topsOf band x z (b .boxes)) []
+
+-- "from floor(low) - 2 to floor(high)"; the centre (x, z) lies in the column's own cells
+unfoldable pub tops : Space → Band → Float → Float → List Float
+tops sp band x z =
+    along (λ y. topsIn band x z (sp (floorCell x) y (floorCell z))) (floorCell (band .low) -ℤ pos 2) (floorCell (band .high))
+
+-- "sorted"
+unfoldable pub insert : Float → List Float → List Float
+insert t [] = t ∷ []
+insert t (u ∷ us) = cond (le t u) (t ∷ (u ∷ us)) (u ∷ insert t us)
+
+unfoldable pub sorted : List Float → List Float
+sorted [] = []
+sorted (t ∷ ts) = insert t (sorted ts)
+
+-- "one within E of the last kept is dropped"
+unfoldable pub within : Float → Float → Bool
+within kept t = le (sub binary64 t kept) E
+
+unfoldable pub thinnedAfter : Float → List Float → List Float
+thinnedAfter kept [] = []
+thinnedAfter kept (t ∷ ts) = cond (within kept t) (thinnedAfter kept ts) (t ∷ thinnedAfter t ts)
+
+unfoldable pub thinned : List Float → List Float
+thinned [] = []
+thinned (t ∷ ts) = t ∷ thinnedAfter t ts
+
+unfoldable pub heights : Space → Band → Float → Float → List Float
+heights sp band x z = thinned (sorted (tops sp band x z))

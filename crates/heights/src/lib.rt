@@ -1,0 +1,1 @@
+// The heights of a column (01, The graph: "Graph step").

@@ -1,0 +1,10 @@
+pub mod Flags
+pub mod Answers
+pub mod Doors
+pub mod Permission
+pub mod Jump
+pub mod Request
+pub mod Laws
+pub mod Unique
+pub mod Infinite
+pub mod Examples

@@ -1,0 +1,149 @@
+// The walk policy of one search, and the functions that make permission bytes of flags (01, Policy).
+ghost use mathlib.Core.Path.{_≡_};
+ghost use Rattle.policy.specs.Answers.{passageNumber, filledNumber};
+ghost use Rattle.policy.specs.Doors.{doorPassage};
+ghost use Rattle.policy.specs.Permission.{forbidden, permission, filled, permissionTable};
+ghost use Rattle.policy.specs.Request.{asked};
+use crate::doors::Passage;
+use crate::flags::Flags;
+
+// The bits of a permission byte.
+const OCCUPIED: u8 = 1;
+
+const SUPPORT: u8 = 2;
+
+const COLLIDES: u8 = 4;
+
+// A search's range around the body, the nodes that it retains, and the highest drop on its way.
+const PATH_MAX_RANGE: f64 = 16.0;
+
+const PATH_NODE_BUDGET: u64 = 2048;
+
+const PATH_MAX_DROP: f64 = 3.0;
+
+pub struct WalkPolicy {
+    pub avoid_water: bool,
+    pub avoid_damage_blocks: bool,
+    pub can_jump: bool,
+    // The lift of one jump.
+    pub jump_height: f64,
+    pub can_pass_doors: bool,
+    pub can_open_doors: bool,
+    pub can_open_iron_doors: bool,
+    pub door_breaker: bool,
+}
+
+// What filling a permission table answers.
+pub enum Filled {
+    Whole,
+    BadTable,
+}
+
+// The parts of a request that the policy and the body decide. Start and goal are the caller's.
+pub struct Asked {
+    pub max_range: f64,
+    pub node_budget: u64,
+    pub step_height: f64,
+    pub jump_height: f64,
+    pub max_drop: f64,
+}
+
+impl WalkPolicy {
+    // How a state with these flags is met. Only a breaker tells open from closed and iron from wood.
+    pub fn door_passage(self, flags: Flags) -> Passage
+        ensures { λ r. ⌜ passageNumber r ≡ doorPassage self (flags .bits) ⌝ }
+    {
+        if !flags.is_door() {
+            return Passage::Shape;
+        }
+        if !self.door_breaker {
+            if self.can_open_doors {
+                return Passage::Through;
+            }
+            if self.can_pass_doors {
+                return Passage::Shape;
+            }
+            return Passage::Wall;
+        }
+        if !self.can_pass_doors {
+            return Passage::Wall;
+        }
+        if flags.is_open() {
+            return Passage::Shape;
+        }
+        if flags.is_iron_door() {
+            if self.can_open_iron_doors {
+                return Passage::Through;
+            }
+            return Passage::Wall;
+        }
+        Passage::Through
+    }
+
+    // Whether a state with these flags is forbidden. A body in water may leave it, so water isn't then.
+    fn forbids(self, in_water: bool, flags: Flags) -> bool
+        ensures { λ r. ⌜ r ≡ forbidden self «in_water» (flags .bits) ⌝ }
+    {
+        let water = self.avoid_water & !in_water & flags.is_water();
+        let damage = self.avoid_damage_blocks & flags.is_damaging();
+        water | damage
+    }
+
+    // The permission byte of a state with these flags.
+    pub fn permission(self, in_water: bool, flags: Flags) -> u8
+        ensures { λ r. ⌜ r ≡ permission self «in_water» (flags .bits) ⌝ }
+    {
+        let forbidden = self.forbids(in_water, flags);
+        match self.door_passage(flags) {
+            Passage::Shape => {
+                if forbidden {
+                    COLLIDES
+                } else {
+                    OCCUPIED + SUPPORT + COLLIDES
+                }
+            }
+            Passage::Through => { if forbidden { 0 } else { OCCUPIED + SUPPORT } }
+            Passage::Wall => {
+                if forbidden {
+                    COLLIDES
+                } else {
+                    SUPPORT + COLLIDES
+                }
+            }
+        }
+    }
+
+    // The permission byte of each flag byte, in a table of the same length; else nothing is written.
+    pub fn fill_permissions(self, in_water: bool, flags: &[u8], permissions: &mut [u8]) -> Filled
+        ensures answer { λ r. ⌜ filledNumber r ≡ filled (now (flags .entry)) (now (permissions .entry)) ⌝ }
+        ensures written { λ r. ⌜ now (permissions .exit) ≡ permissionTable self «in_water» (now (flags .entry)) (now (permissions .entry)) ⌝ }
+    {
+        if flags.len() != permissions.len() {
+            return Filled::BadTable;
+        }
+        let mut i: usize = 0;
+        while i < flags.len() {
+            let bits = flags[i];
+            permissions[i] = self.permission(in_water, Flags { bits });
+            i += 1;
+        }
+        Filled::Whole
+    }
+
+    // What a search for this policy asks, for a body that climbs steps of this height.
+    pub fn request(self, step_height: f64) -> Asked
+        ensures { λ r. ⌜ r ≡ asked self «step_height» ⌝ }
+    {
+        let mut jump_height: f64 = 0.0;
+        if self.can_jump {
+            jump_height = self.jump_height;
+        }
+        Asked {
+            max_range: PATH_MAX_RANGE,
+            node_budget: PATH_NODE_BUDGET,
+            step_height,
+            jump_height,
+            max_drop: PATH_MAX_DROP,
+        }
+    }
+}

@@ -1,0 +1,42 @@
+-- `policy_check::jump_lines` is safe and ends. Assumes nothing.
+use Prim.Native.Nat.{_≤_, _-_}
+use borrow.Author.Needs.{needs}
+use Rattle.policy_check.proofs.jump_lines.Statement.{statement}
+use Rattle.policy_check.proofs.jump_lines.Tie as tie
+
+abbrev Inv-loop : tie.InvT-loop
+Inv-loop number₀ number = number ≤ 48
+
+abbrev μ-loop : tie.MeasureT-loop
+μ-loop number₀ number = 48 - number
+
+loop-holds : tie.Need-loop-holds Inv-loop μ-loop
+loop-holds c = search needs
+
+jump-line-requires : tie.Need-jump-line-requires Inv-loop μ-loop
+jump-line-requires c κs = search needs
+
+add-number : tie.Need-add-number Inv-loop μ-loop
+add-number c = search needs
+
+loop-less : tie.Need-loop-less Inv-loop μ-loop
+loop-less c = search needs
+
+loop-again : tie.Need-loop-again Inv-loop μ-loop
+loop-again c = search needs
+
+returns : tie.Need-returns Inv-loop μ-loop
+returns c = search needs
+
+pub jump-lines-spec : {M : Type 1} → statement M
+jump-lines-spec =
+    tie.close
+    (tie.spec
+    Inv-loop
+    μ-loop
+    loop-holds
+    jump-line-requires
+    add-number
+    loop-less
+    loop-again
+    returns)

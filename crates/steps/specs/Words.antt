@@ -1,0 +1,75 @@
+-- The graph of 01 over the words of records: a point is three 64-bit patterns, a label a movement's number and a lift's pattern. Definitions only.
+use Prim.Native.Nat.{ℕ}
+use mathlib.Core.Bool.{Bool, _&&_, cond}
+use mathlib.Core.Option.{Option, none, some}
+use mathlib.Core.List.{List, map}
+use lib.Dec.{eqb}
+use lib.Ieee.{binary64, ofBits, toBits}
+use Rattle.world.specs.declared.Point.{Point}
+use Rattle.world.specs.declared.Body.{Body}
+use Rattle.world.specs.declared.Request.{Request}
+use Rattle.world.specs.Space.{Space}
+use Rattle.edges.specs.declared.answer.Waypoint.{Waypoint}
+use Rattle.edges.specs.declared.answer.EdgeAnswer.{EdgeAnswer}
+use Rattle.edges.specs.declared.answer.EdgeAnswer.the-variants.{To, Nowhere}
+use Rattle.edges.specs.Edges.{movementNumber, connector}
+use Rattle.exploration.specs.Graph.{Graph}
+use Rattle.steps.specs.Columns.{stepsFrom}
+
+-- the feet of a waypoint record
+pub record Feet : Type 0 where
+  pub x : ℕ
+  pub y : ℕ
+  pub z : ℕ
+
+-- the movement and the lift of a waypoint record
+pub record Label : Type 0 where
+  pub movement : ℕ
+  pub lift : ℕ
+
+-- "Same point: equal bits, with -0.0 as 0."
+unfoldable pub canonicalWord : ℕ → ℕ
+canonicalWord n = cond (eqb n 0x8000_0000_0000_0000) 0 n
+
+unfoldable pub sameWord : ℕ → ℕ → Bool
+sameWord a b = eqb (canonicalWord a) (canonicalWord b)
+
+unfoldable pub samePoint : Feet → Feet → Bool
+samePoint p q = sameWord (p .x) (q .x) && sameWord (p .y) (q .y) && sameWord (p .z) (q .z)
+
+-- 01, Modules 5: "lifts compare as numbers": equal bits, with -0.0 as 0, for no edge's lift is a NaN
+unfoldable pub alike : Label → Label → Bool
+alike a b = eqb (a .movement) (b .movement) && sameWord (a .lift) (b .lift)
+
+-- a point is read with -0.0 as 0
+unfoldable pub pointOf : Feet → Point
+pointOf p = record { x = ofBits binary64 (canonicalWord (p .x)); y = ofBits binary64 (canonicalWord (p .y)); z = ofBits binary64 (canonicalWord (p .z)) }
+
+unfoldable pub feetOf : Point → Feet
+feetOf p = record { x = toBits binary64 (p .x); y = toBits binary64 (p .y); z = toBits binary64 (p .z) }
+
+unfoldable pub labelOf : Waypoint → Label
+labelOf w = record { movement = movementNumber (w .movement); lift = toBits binary64 (w .lift) }
+
+unfoldable pub stepOf : Waypoint → Feet × Label
+stepOf w = (feetOf (w .feet), labelOf w)
+
+abbrev pub labelIf : EdgeAnswer → Option Label
+labelIf Nowhere = none
+labelIf (To w) = some (labelOf w)
+
+-- the start's label: "the start first (Walk, lift 0)"
+abbrev pub standing : Label
+standing = record { movement = 0; lift = 0 }
+
+-- the graph of a space, a request and a body
+unfoldable pub graph : Space → Request → Body → Graph Feet Label
+graph sp r body = record {
+  same = samePoint;
+  alike = alike;
+  start = feetOf (r .start);
+  startLabel = standing;
+  goal = feetOf (r .goal);
+  steps = λ p. map stepOf (stepsFrom sp r body (pointOf p));
+  connector = λ p. labelIf (connector sp r body (pointOf p));
+}

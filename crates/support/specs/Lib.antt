@@ -1,0 +1,2 @@
+pub mod Cover
+pub mod Support

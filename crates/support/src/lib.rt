@@ -1,0 +1,1 @@
+// Supported segments (01, The graph: "Supported segment").

@@ -1,0 +1,180 @@
+//! The oracle: what walkprint must answer. oracle/README.md describes each
+//! command.
+
+mod bench;
+mod digest;
+mod geometry;
+mod policy;
+mod reader;
+mod selftest;
+mod stats;
+mod store;
+mod trace;
+mod walks;
+
+use std::io::{ErrorKind, Read, Write};
+use std::path::Path;
+use std::process::ExitCode;
+
+const USAGE: &str = "\
+oracle print < SCENE
+oracle nodes < SCENE
+oracle scene FILE
+oracle text < SCENE
+oracle make SEED KIND
+oracle stats KIND N
+oracle policy
+oracle policy bytes
+oracle geometry < SCENE
+oracle walkback SCENE < LIST
+oracle bench SCENE N
+oracle edges SCENE N
+oracle mutants ...
+oracle store FOLDER
+oracle selftest FOLDER
+";
+
+fn main() -> ExitCode {
+    let arguments: Vec<String> = std::env::args().skip(1).collect();
+    match run(&arguments) {
+        Ok(true) => ExitCode::SUCCESS,
+        Ok(false) => ExitCode::FAILURE,
+        Err(error) => {
+            eprintln!("{error}");
+            ExitCode::from(2)
+        }
+    }
+}
+
+/// False if a check failed; an error if the command could not be run.
+fn run(arguments: &[String]) -> Result<bool, String> {
+    let words: Vec<&str> = arguments.iter().map(String::as_str).collect();
+    match words[..] {
+        ["print"] => put(scene::print_verdict(&original::verdict(&input()?)).as_bytes()),
+        ["nodes"] => nodes(),
+        ["scene", file] => put(&scene_file(file)?),
+        ["text"] => put(scene::to_text(&input()?).as_bytes()),
+        ["make", seed, kind] => make(seed, kind),
+        ["stats", kind, count] => stats(kind, count),
+        ["policy"] => put(policy::text().as_bytes()),
+        ["policy", "bytes"] => put(&policy::bytes()),
+        ["geometry"] => geometry(),
+        ["bench", file, runs] => {
+            put(bench::line(file, &any_scene(file)?, number(runs)?).as_bytes())
+        }
+        ["edges", file, runs] => {
+            put(bench::edges_line(file, &any_scene(file)?, number(runs)?).as_bytes())
+        }
+        ["walkback", file] => walkback(file),
+        ["store", folder] => put(store::store(Path::new(folder))?.as_bytes()),
+        ["selftest", folder] => selftest::selftest(Path::new(folder)),
+        ["mutants", ..] => Ok(mutants::run(&arguments[1..])),
+        _ => Err(USAGE.to_string()),
+    }
+}
+
+fn input() -> Result<Vec<u8>, String> {
+    let mut bytes = Vec::new();
+    std::io::stdin()
+        .read_to_end(&mut bytes)
+        .map_err(|error| error.to_string())?;
+    Ok(bytes)
+}
+
+fn put(bytes: &[u8]) -> Result<bool, String> {
+    match std::io::stdout().write_all(bytes) {
+        // Whoever read it has enough.
+        Err(error) if error.kind() == ErrorKind::BrokenPipe => Ok(true),
+        Err(error) => Err(error.to_string()),
+        Ok(()) => Ok(true),
+    }
+}
+
+/// The bytes of a scene in text form.
+fn scene_file(file: &str) -> Result<Vec<u8>, String> {
+    let text = std::fs::read_to_string(file).map_err(|error| format!("{file}: {error}"))?;
+    scene::from_text(&text).map_err(|error| format!("{file}: {error}"))
+}
+
+/// The scene of a seed and a kind.
+fn make(seed: &str, kind: &str) -> Result<bool, String> {
+    put(&scene::make(number(seed)?, kind).ok_or_else(kinds_known)?)
+}
+
+/// The shares of a kind, or of each and of all mixed.
+fn stats(kind: &str, count: &str) -> Result<bool, String> {
+    let count = number(count)?;
+    let kinds = match kind {
+        "all" => [&scene::KINDS[..], &["mixed"]].concat(),
+        kind => vec![kind],
+    };
+    for kind in kinds {
+        put(stats::stats(kind, count)
+            .ok_or_else(kinds_known)?
+            .as_bytes())?;
+    }
+    Ok(true)
+}
+
+fn kinds_known() -> String {
+    format!("kinds: mixed {}", scene::KINDS.join(" "))
+}
+
+fn number(word: &str) -> Result<u64, String> {
+    word.parse()
+        .map_err(|_| format!("{word} is no whole number"))
+}
+
+/// The original's checks on chosen points of a scene.
+fn geometry() -> Result<bool, String> {
+    let bytes = input()?;
+    let scene = scene::read(&bytes).map_err(|bad| format!("record {} is bad", bad.record))?;
+    if !original::valid_request(&scene) || scene::too_large(&scene.request, &scene.body) {
+        return Err("the request is invalid or too large".to_string());
+    }
+    let mut out = String::new();
+    for question in geometry::questions(&scene) {
+        out.push_str(&question.line());
+        out.push('\n');
+    }
+    put(out.as_bytes())
+}
+
+/// A large world by its name, or a scene in a file, in text form if its name
+/// ends so.
+fn any_scene(file: &str) -> Result<scene::Scene, String> {
+    if let Some(scene) = scene::large(file) {
+        return Ok(scene);
+    }
+    let bytes = if file.ends_with(".txt") {
+        scene_file(file)?
+    } else {
+        std::fs::read(file).map_err(|error| format!("{file}: {error}"))?
+    };
+    scene::read(&bytes).map_err(|bad| format!("record {} is bad", bad.record))
+}
+
+/// Whether a list of 40-byte records is a route of a scene in a file.
+fn walkback(file: &str) -> Result<bool, String> {
+    let list = input()?;
+    let answer = match original::walk_back(&any_scene(file)?, &list) {
+        Ok(true) => "yes\n".to_string(),
+        Ok(false) => "no\n".to_string(),
+        Err(refusal) => scene::print_refusal(refusal),
+    };
+    put(answer.as_bytes())
+}
+
+/// The retained nodes in 01's records, in hex, one a line.
+fn nodes() -> Result<bool, String> {
+    let mut out = String::new();
+    if let Ok(answer) = original::verdict(&input()?) {
+        for node in &answer.nodes {
+            for byte in node.bytes() {
+                out.push_str(&format!("{byte:02x}"));
+            }
+            out.push('\n');
+        }
+    }
+    put(out.as_bytes())
+}

@@ -1,0 +1,86 @@
+//! Lists for a walk-back: found ones, and each of them damaged.
+
+use scene::{Answer, Outcome, Scene};
+
+const KINDS: [&str; 6] = ["levels", "slabs", "stairs", "doors", "far", "zeros"];
+/// The most bytes of a scene, and the seeds looked through for each kind.
+const SCENE: usize = 32 * scene::RECORD;
+const SEEDS: u64 = 1000;
+
+/// Cases of a walk-back: scenes with lists, and what the walk-back answers.
+pub fn cases() -> Vec<u8> {
+    let mut out = Vec::new();
+    let mut count: u32 = 0;
+    for kind in KINDS {
+        let Some((bytes, answer)) = found(kind) else {
+            continue;
+        };
+        let scene = scene::read(&bytes).expect("it was searched");
+        let lists = lists(&scene, &answer);
+        out.extend(((bytes.len() / scene::RECORD) as u32).to_le_bytes());
+        out.extend((lists.len() as u32).to_le_bytes());
+        out.extend(&bytes);
+        for list in &lists {
+            let yes = original::walk_back(&scene, list).expect("it was searched");
+            out.extend((list.len() as u32).to_le_bytes());
+            out.extend(u32::from(yes).to_le_bytes());
+            out.extend(list);
+        }
+        count += 1;
+    }
+    [&count.to_le_bytes()[..], &out].concat()
+}
+
+/// The first small scene of a kind with a list of four points.
+fn found(kind: &str) -> Option<(Vec<u8>, Answer)> {
+    (1..=SEEDS).find_map(|seed| {
+        let bytes = scene::make(seed, kind)?;
+        let answer = original::verdict(&bytes).ok()?;
+        let fits =
+            answer.outcome == Outcome::Found && answer.list.len() == 4 && bytes.len() <= SCENE;
+        fits.then_some((bytes, answer))
+    })
+}
+
+/// The found list; then lists that differ from it in one thing.
+pub fn lists(scene: &Scene, answer: &Answer) -> Vec<Vec<u8>> {
+    let list: Vec<u8> = answer.list.iter().flat_map(|p| p.bytes()).collect();
+    let mut out = vec![list.clone(), Vec::new(), list[..list.len() - 1].to_vec()];
+    for begin in (0..list.len()).step_by(40) {
+        let end = begin + 40;
+        // Without this record, and with it twice.
+        out.push([&list[..begin], &list[end..]].concat());
+        out.push([&list[..end], &list[begin..]].concat());
+        for at in (begin..end).step_by(8) {
+            let word = u64::from_le_bytes(list[at..at + 8].try_into().expect("8 bytes"));
+            for changed in changes(word, at + 8 == end) {
+                let mut copy = list.clone();
+                copy[at..at + 8].copy_from_slice(&changed.to_le_bytes());
+                out.push(copy);
+            }
+        }
+    }
+    // The start and the goal alone.
+    let ends = [scene.request.start, scene.request.goal].map(|feet| scene::Waypoint {
+        feet,
+        lift: 0.0,
+        movement: 0,
+    });
+    out.push(ends.iter().flat_map(|point| point.bytes()).collect());
+    out
+}
+
+/// Other words for one: a movement, or a float's neighbours and a zero's
+/// other sign.
+fn changes(word: u64, movement: bool) -> Vec<u64> {
+    if movement {
+        return vec![(word + 1) % 4, word + 4, word + (1 << 32)];
+    }
+    let number = f64::from_bits(word);
+    let other = if number == 0.0 { -number } else { number + 1.0 };
+    vec![
+        number.next_up().to_bits(),
+        other.to_bits(),
+        f64::NAN.to_bits(),
+    ]
+}

@@ -1,0 +1,1 @@
+//! A plain reading of document 01 (to be written).

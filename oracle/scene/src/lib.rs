@@ -1,0 +1,186 @@
+//! A scene as document 01 describes it: the request, the body and the tables,
+//! the answer to it, and both in bytes, in text and as walkprint prints them.
+//!
+//! Written from document 01 alone; nothing here knows the original.
+
+mod large;
+mod make;
+mod print;
+mod random;
+mod read;
+mod record;
+mod text;
+mod world;
+
+pub use large::{LARGE, large};
+pub use make::{KINDS, make};
+pub use print::{name, print, print_refusal, print_verdict};
+pub use random::Random;
+pub use read::{BadScene, Ends, Partial, RECORD, Steps, read, read_partial};
+pub use record::{Record, write_bytes};
+pub use text::{from_text, to_text};
+pub use world::{RawTables, bad_world};
+
+/// What is asked of a search.
+#[derive(Debug, Clone, Copy, PartialEq)]
+pub struct Request {
+    pub start: [f64; 3],
+    pub goal: [f64; 3],
+    pub max_range: f64,
+    pub node_budget: u64,
+    pub step_height: f64,
+    pub jump_height: f64,
+    pub max_drop: f64,
+}
+
+/// The body that walks; its step height caps the request's.
+#[derive(Debug, Clone, Copy, PartialEq)]
+pub struct Body {
+    pub width: f64,
+    pub height: f64,
+    pub step_height: f64,
+}
+
+/// The cells that a table of cells speaks about.
+#[derive(Debug, Clone, Copy, PartialEq, Eq)]
+pub struct Window {
+    pub origin: [i32; 3],
+    pub sizes: [u32; 3],
+}
+
+/// State and shape of a cell that no fill reached.
+pub const UNFILLED: (u32, u32) = (u32::MAX, 0);
+
+/// 01's "Tables", as numbers.
+#[derive(Debug, Clone, PartialEq)]
+pub struct Tables {
+    pub window: Window,
+    /// State and shape of each cell: x runs fastest, then z, then y.
+    pub cells: Vec<(u32, u32)>,
+    /// A byte a state: 1 occupied, 2 support, 4 collides.
+    pub permissions: Vec<u8>,
+    /// First box and count of each shape.
+    pub shapes: Vec<(u32, u32)>,
+    /// Min x, y, z, max x, y, z of each box, local to its cell.
+    pub boxes: Vec<[f64; 6]>,
+}
+
+/// A whole scene.
+#[derive(Debug, Clone, PartialEq)]
+pub struct Scene {
+    pub request: Request,
+    pub body: Body,
+    pub tables: Tables,
+}
+
+/// How a search that was not refused ended.
+#[derive(Debug, Clone, Copy, PartialEq, Eq)]
+pub enum Outcome {
+    Found = 0,
+    Unreachable = 1,
+    BudgetExceeded = 2,
+}
+
+/// A point of a list; movement 0 Walk, 1 Step, 2 Jump, 3 Drop.
+#[derive(Debug, Clone, Copy, PartialEq)]
+pub struct Waypoint {
+    pub feet: [f64; 3],
+    pub lift: f64,
+    pub movement: u64,
+}
+
+/// The parent number of a node without parent.
+pub const NO_PARENT: u32 = u32::MAX;
+
+/// A retained node; closed is 1 after its expansion began, else 0.
+#[derive(Debug, Clone, Copy, PartialEq)]
+pub struct NodeRecord {
+    pub point: Waypoint,
+    pub cost: f64,
+    pub parent: u32,
+    pub closed: u32,
+}
+
+/// The answer to a scene that was not refused.
+#[derive(Debug, Clone, PartialEq)]
+pub struct Answer {
+    pub outcome: Outcome,
+    pub list: Vec<Waypoint>,
+    /// Retained nodes in discovery order; none if no search began.
+    pub nodes: Vec<NodeRecord>,
+    /// How many of them are closed.
+    pub closed: u64,
+}
+
+/// A refusal by its number in 01's table; the record is 0 unless the number
+/// is 7.
+#[derive(Debug, Clone, Copy, PartialEq, Eq)]
+pub struct Refusal {
+    pub number: u32,
+    pub record: u64,
+}
+
+/// What walkprint answers to a scene.
+pub type Verdict = Result<Answer, Refusal>;
+
+impl Waypoint {
+    /// 01's waypoint record.
+    pub fn bytes(&self) -> [u8; 40] {
+        let mut out = [0; 40];
+        for (place, number) in [self.feet[0], self.feet[1], self.feet[2], self.lift]
+            .into_iter()
+            .enumerate()
+        {
+            out[8 * place..][..8].copy_from_slice(&number.to_bits().to_le_bytes());
+        }
+        out[32..].copy_from_slice(&self.movement.to_le_bytes());
+        out
+    }
+}
+
+impl NodeRecord {
+    /// 01's node record.
+    pub fn bytes(&self) -> [u8; 56] {
+        let mut out = [0; 56];
+        out[..40].copy_from_slice(&self.point.bytes());
+        out[40..48].copy_from_slice(&self.cost.to_bits().to_le_bytes());
+        out[48..52].copy_from_slice(&self.parent.to_le_bytes());
+        out[52..].copy_from_slice(&self.closed.to_le_bytes());
+        out
+    }
+}
+
+impl Answer {
+    /// An answer whose search never began.
+    pub fn unbegun(outcome: Outcome) -> Self {
+        Self {
+            outcome,
+            list: Vec::new(),
+            nodes: Vec::new(),
+            closed: 0,
+        }
+    }
+
+    /// Whether both answers have the same bits everywhere.
+    pub fn same_bits(&self, other: &Self) -> bool {
+        self.outcome == other.outcome
+            && self.closed == other.closed
+            && self.list.len() == other.list.len()
+            && self.nodes.len() == other.nodes.len()
+            && self
+                .list
+                .iter()
+                .zip(&other.list)
+                .all(|(a, b)| a.bytes() == b.bytes())
+            && self
+                .nodes
+                .iter()
+                .zip(&other.nodes)
+                .all(|(a, b)| a.bytes() == b.bytes())
+    }
+}
+
+/// Number 4, TooLarge: a limit of the search, judged after `valid_request`.
+pub fn too_large(request: &Request, body: &Body) -> bool {
+    request.max_range > 64.0 || body.width > 8.0 || body.height > 16.0 || request.node_budget > 4096
+}

@@ -1,0 +1,64 @@
+//! What walkprint writes to standard output, by 01's "Scenes and walkprint".
+
+use std::fmt::Write;
+
+use crate::{Answer, Outcome, Refusal, Verdict};
+
+const MOVEMENTS: [&str; 4] = ["walk", "step", "jump", "drop"];
+
+/// An outcome's name in lower case.
+pub fn name(outcome: Outcome) -> &'static str {
+    match outcome {
+        Outcome::Found => "found",
+        Outcome::Unreachable => "unreachable",
+        Outcome::BudgetExceeded => "budgetexceeded",
+    }
+}
+
+/// Outcome, waypoints, retained, closed, length; then a line a waypoint.
+pub fn print(answer: &Answer) -> String {
+    let mut out = String::new();
+    let _ = writeln!(
+        out,
+        "{} {} {} {} {:016x}",
+        name(answer.outcome),
+        answer.list.len(),
+        answer.nodes.len(),
+        answer.closed,
+        length(answer).to_bits()
+    );
+    for (place, point) in answer.list.iter().enumerate() {
+        let [x, y, z] = point.feet.map(f64::to_bits);
+        let _ = writeln!(
+            out,
+            "{place} {} {x:016x} {y:016x} {z:016x} {:016x}",
+            MOVEMENTS[point.movement as usize],
+            point.lift.to_bits()
+        );
+    }
+    out
+}
+
+/// The line of a refusal.
+pub fn print_refusal(refusal: Refusal) -> String {
+    format!("refused {} {}\n", refusal.number, refusal.record)
+}
+
+/// What walkprint prints for either.
+pub fn print_verdict(verdict: &Verdict) -> String {
+    match verdict {
+        Ok(answer) => print(answer),
+        Err(refusal) => print_refusal(*refusal),
+    }
+}
+
+/// "The f64 sum, from 0.0 in list order, of straight distances between
+/// neighbours."
+fn length(answer: &Answer) -> f64 {
+    let mut sum = 0.0;
+    for pair in answer.list.windows(2) {
+        let [dx, dy, dz] = [0, 1, 2].map(|axis| pair[1].feet[axis] - pair[0].feet[axis]);
+        sum += (dx * dx + dy * dy + dz * dz).sqrt();
+    }
+    sum
+}
