@@ -1,5 +1,5 @@
 -- 01, Graph step: the heights of a column that a step may go to. Definitions only.
-use mathlib.Core.Bool.{Bool, _&&_, cond}
+use mathlib.Core.Bool.{Bool, _&&_, _||_, cond}
 use mathlib.Core.List.{List, [], _∷_}
 use lib.IntN.{ℤ, pos, _-ℤ_}
 use lib.Ieee.{Float, binary64, lt, le, add, sub}
@@ -8,12 +8,11 @@ use Rattle.cells.specs.Cells.{floorCell}
 use Rattle.cells.specs.Ranges.{along}
 use Rattle.world.specs.declared.Aabb.{Aabb}
 use Rattle.world.specs.Space.{Space, Block}
+use Rattle.heights.specs.declared.Band.{Band}
+use Rattle.heights.specs.declared.Height.{Height}
+use Rattle.heights.specs.declared.Height.the-variants.{At, None}
 
 -- "Low is the larger of y - max_drop and start y - range, high the smaller of y + max(step, jump) and start y + range."
-pub record Band : Type 0 where
-  pub low : Float
-  pub high : Float
-
 unfoldable pub bandFrom : (y drop step jump startY range : Float) → Band
 bandFrom y drop step jump startY range = record {
   low = larger (sub binary64 y drop) (sub binary64 startY range);
@@ -48,9 +47,9 @@ unfoldable pub sorted : List Float → List Float
 sorted [] = []
 sorted (t ∷ ts) = insert t (sorted ts)
 
--- "one within E of the last kept is dropped"
+-- "one within E of the last kept is dropped": of sorted ones none is below the last kept
 unfoldable pub within : Float → Float → Bool
-within kept t = le (sub binary64 t kept) E
+within kept t = le t kept || le (sub binary64 t kept) E
 
 unfoldable pub thinnedAfter : Float → List Float → List Float
 thinnedAfter kept [] = []
@@ -62,3 +61,17 @@ thinned (t ∷ ts) = t ∷ thinnedAfter t ts
 
 unfoldable pub heights : Space → Band → Float → Float → List Float
 heights sp band x z = thinned (sorted (tops sp band x z))
+
+-- ---- one after the other: those left once the last kept is given, and the first of them
+
+unfoldable pub keptAfter : Height → List Float → List Float
+keptAfter None ts = thinned ts
+keptAfter (At kept) ts = thinnedAfter kept ts
+
+abbrev pub firstOf : List Float → Height
+firstOf [] = None
+firstOf (t ∷ ts) = At t
+
+-- the next of the heights after the last kept one, the first of all where none is kept yet
+unfoldable pub nextAfter : Space → Band → Float → Float → Height → Height
+nextAfter sp band x z after = firstOf (keptAfter after (sorted (tops sp band x z)))

@@ -1,1 +1,257 @@
-// The heights of a column (01, The graph: "Graph step").
+// The heights of a column (01, The graph, "Graph step"): the box tops that a step may go to, the next smallest one a call.
+use cells::Range;
+use world::Aabb;
+use world::Cell;
+use world::Found;
+use world::Point;
+use world::Window;
+ghost use mathlib.Core.Path.{_≡_};
+ghost use mathlib.Core.List.{map};
+ghost use Prim.Native.Nat.{_*_};
+ghost use lib.ListN.{drop};
+ghost use Rattle.cells.specs.Ranges.{across};
+ghost use Rattle.cells.specs.RangeLaws.{Near};
+ghost use Rattle.world.specs.declared.Aabb.{Aabb};
+ghost use Rattle.world.specs.Boxes.{moved};
+ghost use Rattle.world.specs.Space.{run, space};
+ghost use Rattle.heights.specs.Heights.{bandFrom, reaches, topsOf, topsIn, nextAfter};
+ghost use Rattle.heights.specs.Laws.{taken};
+ghost use Rattle.heights.specs.Next.{beyond, lower, better, pass};
+
+// The tops that a step may go to lie from low to high.
+pub struct Band {
+    pub low: f64,
+    pub high: f64,
+}
+
+// A height of a column, or none.
+pub enum Height {
+    At(f64),
+    None,
+}
+
+// The band of a point at y.
+pub fn band_from(y: f64, drop: f64, step: f64, jump: f64, start_y: f64, range: f64) -> Band
+    ensures { λ r. ⌜ r ≡ bandFrom y drop step jump «start_y» range ⌝ }
+{
+    Band {
+        low: floats::max(y - drop, start_y - range),
+        high: floats::min(y + floats::max(step, jump), start_y + range),
+    }
+}
+
+// Whether a box has a top in the band, and spans the centre.
+fn reaches_to(band: Band, x: f64, z: f64, b: Aabb) -> bool
+    ensures { λ r. ⌜ r ≡ reaches band x z b ⌝ }
+{
+    (b.min.x <= x)
+        & (x <= b.max.x)
+        & (b.min.z <= z)
+        & (z <= b.max.z)
+        & (band.low - floats::E <= b.max.y)
+        & (b.max.y <= band.high + floats::E)
+}
+
+// Whether a top is not within E of the last kept.
+fn is_beyond(after: Height, top: f64) -> bool
+    ensures { λ r. ⌜ r ≡ beyond after top ⌝ }
+{
+    match after {
+        Height::At(kept) => !((top <= kept) | (top - kept <= floats::E)),
+        Height::None => true,
+    }
+}
+
+// The lower of the best so far and a top.
+fn lower_of(best: Height, top: f64) -> Height
+    ensures { λ r. ⌜ r ≡ lower best (Height.At top) ⌝ }
+{
+    match best {
+        Height::At(least) => { if top < least { Height::At(top) } else { best } }
+        Height::None => Height::At(top),
+    }
+}
+
+// The best so far, or a top where that is lower and not within E of the last kept.
+fn better_of(after: Height, best: Height, top: f64) -> Height
+    ensures { λ r. ⌜ r ≡ better after best top ⌝ }
+{
+    if is_beyond(after, top) {
+        lower_of(best, top)
+    } else {
+        best
+    }
+}
+
+// What one box makes of the best so far.
+fn take_box(band: Band, x: f64, z: f64, after: Height, best: Height, b: Aabb) -> Height
+    ensures { λ r. ⌜ r ≡ taken band x z after best b ⌝ }
+{
+    if reaches_to(band, x, z, b) {
+        better_of(after, best, b.max.y)
+    } else {
+        best
+    }
+}
+
+// The best of so many box records of a part of the table, moved by a point.
+fn run_next(
+    part: &[u8],
+    boxes: u32,
+    by: Point,
+    band: Band,
+    x: f64,
+    z: f64,
+    after: Height,
+    best: Height,
+) -> Height
+    ensures { λ r. ⌜ r ≡ pass after best (topsOf band x z (map (λ (b : Aabb). moved b by) (run boxes (now (part .entry)) 0))) ⌝ }
+{
+    let mut left = boxes;
+    let mut at: usize = 0;
+    let mut least = best;
+    while left > 0 {
+        let Found::Here(b) = world::box_at(part, at) else {
+            return least;
+        };
+        least = take_box(band, x, z, after, least, world::offset(b, by));
+        left -= 1;
+        at += 48;
+    }
+    least
+}
+
+// The same of a run of the whole table: the part that starts at the first record is handed on.
+fn table_next(
+    table: &[u8],
+    first: u32,
+    boxes: u32,
+    by: Point,
+    band: Band,
+    x: f64,
+    z: f64,
+    after: Height,
+    best: Height,
+) -> Height
+    ensures { λ r. ⌜ r ≡ pass after best (topsOf band x z (map (λ (b : Aabb). moved b by) (run boxes (drop (48 * first) (now (table .entry))) 0))) ⌝ }
+{
+    let from = 48 * (first as usize);
+    if from <= table.len() {
+        run_next(&table[from..], boxes, by, band, x, z, after, best)
+    } else {
+        best
+    }
+}
+
+// The best of a cell of the column.
+fn cell_next(
+    w: Window,
+    cells: &[u8],
+    perms: &[u8],
+    shapes: &[u8],
+    boxes: &[u8],
+    band: Band,
+    x: f64,
+    z: f64,
+    cx: i64,
+    y: i64,
+    cz: i64,
+    after: Height,
+    best: Height,
+) -> Height
+    ensures { λ r. ⌜ r ≡ pass after best (topsIn band x z (space w (now (cells .entry)) (now (perms .entry)) (now (shapes .entry)) (now (boxes .entry)) cx y cz)) ⌝ }
+{
+    let by = world::corner_of(cx, y, cz);
+    match world::cell_at(w, cells, perms, shapes, cx, y, cz) {
+        Cell::Unknown => best,
+        Cell::Known {
+            occupied: _,
+            support,
+            first,
+            count,
+        } => {
+            if support {
+                table_next(boxes, first, count, by, band, x, z, after, best)
+            } else {
+                best
+            }
+        }
+    }
+}
+
+// The best of the cells of a column in some layers.
+fn column_next(
+    w: Window,
+    cells: &[u8],
+    perms: &[u8],
+    shapes: &[u8],
+    boxes: &[u8],
+    band: Band,
+    x: f64,
+    z: f64,
+    cx: i64,
+    layers: Range,
+    cz: i64,
+    after: Height,
+) -> Height
+    requires { ⌜ Near layers ⌝ }
+    ensures { λ r. ⌜ r ≡ pass after Height.None (across (λ y. topsIn band x z (space w (now (cells .entry)) (now (perms .entry)) (now (shapes .entry)) (now (boxes .entry)) cx y cz)) layers) ⌝ }
+{
+    let low = layers.first;
+    let n = layers.count;
+    let mut best = Height::None;
+    let mut k: usize = 0;
+    while k < n {
+        let y = low + (k as i64);
+        best = cell_next(
+            w,
+            cells,
+            perms,
+            shapes,
+            boxes,
+            band,
+            x,
+            z,
+            cx,
+            y,
+            cz,
+            after,
+            best,
+        );
+        k += 1;
+    }
+    best
+}
+
+// The next of the heights of the column with the centre (x, z), after the last kept one.
+pub fn next_height(
+    w: Window,
+    cells: &[u8],
+    perms: &[u8],
+    shapes: &[u8],
+    boxes: &[u8],
+    band: Band,
+    x: f64,
+    z: f64,
+    after: Height,
+) -> Height
+    ensures { λ r. ⌜ r ≡ nextAfter (space w (now (cells .entry)) (now (perms .entry)) (now (shapes .entry)) (now (boxes .entry))) band x z after ⌝ }
+{
+    let cx = cells::floor_cell(x);
+    let cz = cells::floor_cell(z);
+    let layers = cells::floors(band.low, band.high, 2);
+    column_next(
+        w,
+        cells,
+        perms,
+        shapes,
+        boxes,
+        band,
+        x,
+        z,
+        cx,
+        layers,
+        cz,
+        after,
+    )
+}

@@ -1,0 +1,133 @@
+-- Laws that the code's loops and branches go by.
+use Prim.Native.Nat.{ℕ, zero, suc, _+_, _-_, _*_, _≤_, _<_}
+use native.Mathlib.Omega.{arith}
+use mathlib.Core.Path.{_≡_, refl, sym, ap, _∙_}
+use mathlib.Core.Bool.{Bool, true, false, not, _&&_, cond}
+use mathlib.Core.List.{List, [], _∷_, map}
+use lib.ListN.{length, drop, drop-of-length-le}
+use lib.Ieee.{Float, binary64, le, add, sub, isNan}
+use Rattle.floats.specs.Floats.{E}
+use Rattle.floats.specs.Order.{le-left}
+use lib.IntN.{ℤ, pos, _+ℤ_}
+use Rattle.cells.specs.declared.ranges.Range.{Range}
+use Rattle.cells.specs.Ranges.{range, gather, across, along}
+use Rattle.world.specs.declared.Point.{Point}
+use Rattle.world.specs.declared.Aabb.{Aabb}
+use Rattle.world.specs.declared.Found.{Found}
+use Rattle.world.specs.declared.Found.the-variants.{Here, End}
+use Rattle.world.specs.declared.Cell.{Cell}
+use Rattle.world.specs.declared.Cell.the-variants.{Unknown, Known}
+use Rattle.world.specs.Boxes.{moved}
+use Rattle.world.specs.Space.{Space, Block, run, boxHere, blockOf}
+use Rattle.world.specs.Laws.{no-box}
+use Rattle.heights.specs.declared.Band.{Band}
+use Rattle.heights.specs.declared.Height.{Height}
+use Rattle.heights.specs.Heights.{reaches, topsOf, topsIn, tops}
+use Rattle.heights.specs.Next.{better, pass, Numbers, numbers-gather}
+
+module _ (band : Band) (x z : Float) (after : Height) where
+  -- ---- a run of boxes, moved by a point
+
+  abbrev pub runPass : Point → Height → List ℕ → ℕ → ℕ → Height
+  runPass by best s left at = pass after best (topsOf band x z (map (λ (b : Aabb). moved b by) (run left s at)))
+
+  -- what one box makes of the best so far
+  abbrev pub taken : Height → Aabb → Height
+  taken best b = cond (reaches band x z b) (better after best (b .max .y)) best
+
+  pass-cons : (best : Height) (b : Aabb) (bs : List Aabb) → pass after best (topsOf band x z (b ∷ bs)) ≡ pass after (taken best b) (topsOf band x z bs)
+  unfolding topsOf
+  pass-cons best b bs = pick (reaches band x z b)
+    where
+      pick : (t : Bool) → pass after best (cond t (b .max .y ∷ topsOf band x z bs) (topsOf band x z bs)) ≡ pass after (cond t (better after best (b .max .y)) best) (topsOf band x z bs)
+      pick true = refl
+      pick false = refl
+
+  module _ (by : Point) (best : Height) (s : List ℕ) (at : ℕ) where
+    -- the table ends here
+    pub run-end : (left : ℕ) → 0 < left → boxHere s at ≡ End → runPass by best s left at ≡ best
+    unfolding run topsOf
+    run-end zero h e = absurd (omega arith)
+    run-end (suc n) h e = rw e
+
+    -- one box more
+    pub run-on : (left : ℕ) (b : Aabb) → 0 < left → boxHere s at ≡ Here b → runPass by best s left at ≡ runPass by (taken best (moved b by)) s (left - 1) (at + 48)
+    unfolding run
+    run-on zero b h e = absurd (omega arith)
+    run-on (suc n) b h e = let k : suc n - 1 ≡ n = omega arith in rw (e, k) (pass-cons best (moved b by) _)
+
+    -- no box is left
+    pub run-none : (left : ℕ) → left ≤ 0 → runPass by best s left at ≡ best
+    unfolding run topsOf
+    run-none zero h = refl
+    run-none (suc n) h = absurd (omega arith)
+
+  -- past its end a table has no boxes
+  pub past : (by : Point) (best : Height) (s : List ℕ) (n left : ℕ) → length s < n → runPass by best (drop n s) left 0 ≡ best
+  unfolding run topsOf
+  past by best s n left h = rw (drop-of-length-le s {i = n} (omega arith)) (empty left)
+    where
+      empty : (k : ℕ) → runPass by best [] k 0 ≡ best
+      empty zero = refl
+      empty (suc k) = rw (no-box [] 0 (omega arith))
+
+  -- ---- a cell, by the tests on it
+
+  module _ (boxes : List ℕ) (p : Point) (best : Height) where
+    pub unknown-none : pass after best (topsIn band x z (blockOf boxes Unknown p)) ≡ best
+    unfolding topsIn blockOf
+    unknown-none = refl
+
+    pub no-support : (o s : Bool) (first many : ℕ) → s ≡ false → pass after best (topsIn band x z (blockOf boxes (Known o s first many) p)) ≡ best
+    unfolding topsIn blockOf
+    no-support o s first many e = rw e
+
+    pub supports : (o s : Bool) (first many : ℕ) → s ≡ true →
+        pass after best (topsIn band x z (blockOf boxes (Known o s first many) p)) ≡ runPass p best (drop (48 * first) boxes) many 0
+    unfolding topsIn blockOf
+    supports o s first many e = rw e
+
+-- ---- a top that is in the band is no NaN
+
+last-holds : (a b : Bool) → (a && b) ≡ true → b ≡ true
+last-holds true b e = e
+last-holds false true e = refl
+last-holds false false e = e
+
+module _ (band : Band) (x z : Float) where
+  top-number : (b : Aabb) → reaches band x z b ≡ true → isNan (b .max .y) ≡ false
+  unfolding reaches
+  top-number b e = le-left (b .max .y) (add binary64 (band .high) E)
+      (last-holds (le (b .min .x) x && le x (b .max .x) && le (b .min .z) z && le z (b .max .z) && le (sub binary64 (band .low) E) (b .max .y)) (le (b .max .y) (add binary64 (band .high) E)) e)
+
+  numbers-tops : (bs : List Aabb) → Numbers (topsOf band x z bs)
+  unfolding topsOf
+  numbers-tops [] = tt
+  numbers-tops (b ∷ bs) = pick (reaches band x z b) (top-number b) (numbers-tops bs)
+    where
+      pick : (t : Bool) → (t ≡ true → isNan (b .max .y) ≡ false) → Numbers (topsOf band x z bs) → Numbers (cond t (b .max .y ∷ topsOf band x z bs) (topsOf band x z bs))
+      pick true f r = (f refl, r)
+      pick false f r = r
+
+  numbers-in : (b : Block) → Numbers (topsIn band x z b)
+  unfolding topsIn
+  numbers-in b = pick (b .support)
+    where
+      pick : (t : Bool) → Numbers (cond t (topsOf band x z (b .boxes)) [])
+      pick true = numbers-tops (b .boxes)
+      pick false = tt
+
+  pub numbers : (sp : Space) → Numbers (tops sp band x z)
+  unfolding tops along across
+  numbers sp = numbers-gather _ (λ k. numbers-in _) 0 _
+
+-- ---- the layers of a column, one after the other
+
+module _ (sp : Space) (band : Band) (x z : Float) (cx low cz : ℤ) where
+  unfoldable pub layerOf : ℕ → List Float
+  layerOf k = topsIn band x z (sp cx (low +ℤ pos k) cz)
+
+pub layers-are : (sp : Space) (band : Band) (x z : Float) (cx cz : ℤ) (layers : Range) →
+    across (λ y. topsIn band x z (sp cx y cz)) layers ≡ gather (layerOf sp band x z cx (layers .first) cz) 0 (layers .count)
+unfolding across layerOf
+layers-are sp band x z cx cz layers = refl
