@@ -1,9 +1,9 @@
 -- Laws of ranges of cells: how a loop goes over one, and what bounds it.
-use Prim.Native.Nat.{ℕ, zero, suc, _+_, _-_, _^_, _≤_, _<_}
+use Prim.Native.Nat.{ℕ, suc, _+_, _-_, _^_, _≤_, _<_}
 use native.Mathlib.Omega.{arith}
 use native.Mathlib.Numerals.{add-one}
-use mathlib.Core.Path.{_≡_, refl, sym, ap, _∙_}
-use mathlib.Core.Bool.{Bool, true, false}
+use mathlib.Core.Path.{_≡_, refl}
+use mathlib.Core.Bool.{true, false}
 use mathlib.Core.List.{List, [], _∷_, foldl, foldl-append}
 use lib.IntN.{ℤ, pos, negsuc, _+ℤ_, _-ℤ_, natAbs}
 use lib.Dec.{T}
@@ -14,7 +14,7 @@ use mir.Val.{SFits}
 use Rattle.cells.specs.Cells.{floorCell, ceilCell}
 use Rattle.cells.specs.CellLaws.{floor-range, ceil-range}
 use Rattle.cells.specs.Parts.{over, under, sum, difference, lt-yes, lt-no, within, natural, over-mag, under-mag, mag-parts, equal}
-use Rattle.cells.specs.Ranges.{count, range, gather, across, along}
+use Rattle.cells.specs.Ranges.{count, range, gather}
 use Rattle.cells.specs.declared.ranges.Range.{Range}
 
 -- ---- a loop that goes through what the cells hold, one after the other, with what it has found so far

@@ -4,7 +4,6 @@ pub mod ranges;
 pub use ranges::Range;
 pub use ranges::floors;
 pub use ranges::reached;
-
 ghost use mathlib.Core.Path.{_≡_};
 ghost use Prim.Native.Nat.{_<_, _≤_, _^_};
 ghost use lib.IntN.{pos, negℤ};
