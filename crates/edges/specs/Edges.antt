@@ -1,7 +1,6 @@
 -- 01, The graph, "In range", "Edge" and "Connector", over a space, a request and a body. Definitions only.
 use Prim.Native.Nat.{ℕ}
 use mathlib.Core.Bool.{Bool, _&&_, cond}
-use mathlib.Core.Option.{Option, none, some}
 use lib.Ieee.{Float, binary64, lt, le, add, sub, neg, ofBits}
 use Rattle.floats.specs.Floats.{E, nought, smaller, larger, absolute}
 use Rattle.world.specs.declared.Point.{Point}
@@ -14,7 +13,8 @@ use Rattle.clear.specs.Clear.{clear}
 use Rattle.support.specs.Support.{supported}
 use Rattle.edges.specs.declared.answer.Movement.{Movement}
 use Rattle.edges.specs.declared.answer.Movement.the-variants.{Walk, Step, Jump, Drop}
-use Rattle.edges.specs.declared.answer.Waypoint.{Waypoint}
+use Rattle.edges.specs.declared.answer.Moving.{Moving}
+use Rattle.edges.specs.declared.answer.Moving.the-variants.{By, None}
 use Rattle.edges.specs.declared.answer.EdgeAnswer.{EdgeAnswer}
 use Rattle.edges.specs.declared.answer.EdgeAnswer.the-variants.{To, Nowhere}
 
@@ -42,26 +42,22 @@ standable sp body p = clear sp (fromFeet p (body .width) (body .height)) && supp
 unfoldable pub stepHeight : Request → Body → Float
 stepHeight r body = smaller (r .«step_height») (body .«step_height»)
 
--- a kind of movement and its lift
-abbrev pub Moving : Type 0
-Moving = Movement × Float
-
 -- "Rise above E: Step with lift dy if dy ≤ step + E, else Jump with lift jump_height if dy ≤ jump_height + E, else none."
-unfoldable pub rising : Request → Body → Float → Option Moving
+unfoldable pub rising : Request → Body → Float → Moving
 rising r body dy =
-    cond (le dy (add binary64 (stepHeight r body) E)) (some (Step, dy))
-    (cond (le dy (add binary64 (r .«jump_height») E)) (some (Jump, r .«jump_height»)) none)
+    cond (le dy (add binary64 (stepHeight r body) E)) (By Step dy)
+    (cond (le dy (add binary64 (r .«jump_height») E)) (By Jump (r .«jump_height»)) None)
 
 -- "Fall beyond E: Drop, lift 0, if at most max_drop + E, else none."
-unfoldable pub falling : Request → Float → Option Moving
-falling r dy = cond (le (neg dy) (add binary64 (r .«max_drop») E)) (some (Drop, nought)) none
+unfoldable pub falling : Request → Float → Moving
+falling r dy = cond (le (neg dy) (add binary64 (r .«max_drop») E)) (By Drop nought) None
 
--- "Otherwise Walk, lift the larger of dy and 0."
-unfoldable pub moving : Request → Body → Float → Option Moving
+-- "Otherwise Walk, lift the larger of dy and 0.": of a zero +0.0
+unfoldable pub moving : Request → Body → Float → Moving
 moving r body dy =
     cond (lt E dy) (rising r body dy)
     (cond (lt dy (neg E)) (falling r dy)
-    (some (Walk, larger dy nought)))
+    (By Walk (larger dy nought)))
 
 -- the corners of the way: up by the lift, across, and down or up to the target
 abbrev pub raised : Point → Float → Point
@@ -77,21 +73,23 @@ up lift = record { x = nought; y = lift; z = nought }
 unfoldable pub swept : Body → Point → Point → Aabb
 swept body feet by = expandTowards (fromFeet feet (body .width) (body .height)) by
 
+-- "the lift, crossing and settle areas clear"
+unfoldable pub wayClear : Space → Body → Point → Point → Float → Bool
+wayClear sp body from to lift =
+    clear sp (swept body from (up lift))
+    && clear sp (swept body (raised from lift) (minus (across from lift to) (raised from lift)))
+    && clear sp (swept body (across from lift to) (minus to (across from lift to)))
+
 -- "Then target and raised point in range, target standable, the lift, crossing and settle areas clear, the segment supported."
 unfoldable pub passable : Space → Request → Body → Point → Point → Float → Bool
 passable sp r body from to lift =
-    inRange r to && inRange r (raised from lift) && standable sp body to
-    && clear sp (swept body from (up lift))
-    && clear sp (swept body (raised from lift) (minus (across from lift to) (raised from lift)))
-    && clear sp (swept body (across from lift to) (minus to (across from lift to)))
-    && supported sp (body .width) from to
+    inRange r to && inRange r (raised from lift) && standable sp body to && wayClear sp body from to lift && supported sp (body .width) from to
 
-abbrev pub waypoint : Point → Moving → Waypoint
-waypoint to m = record { feet = to; lift = m .1; movement = m .0 }
-
-abbrev pub edgeBy : Space → Request → Body → Point → Point → Option Moving → EdgeAnswer
-edgeBy sp r body from to none = Nowhere
-edgeBy sp r body from to (some m) = cond (passable sp r body from to (m .1)) (To (waypoint to m)) Nowhere
+-- the waypoint that a movement leads to, where there is one and the way is passable
+abbrev pub edgeBy : Space → Request → Body → Point → Point → Moving → EdgeAnswer
+edgeBy sp r body from to None = Nowhere
+edgeBy sp r body from to (By movement lift) =
+    cond (passable sp r body from to lift) (To (record { feet = to; lift = lift; movement = movement })) Nowhere
 
 unfoldable pub edge : Space → Request → Body → Point → Point → EdgeAnswer
 edge sp r body from to = edgeBy sp r body from to (moving r body (sub binary64 (to .y) (from .y)))

@@ -8,6 +8,12 @@ pub enum Movement {
     Drop,
 }
 
+// A kind of movement and its lift, or none.
+pub(crate) enum Moving {
+    By(Movement, f64),
+    None,
+}
+
 pub struct Waypoint {
     pub feet: Point,
     pub lift: f64,

@@ -1,0 +1,13 @@
+-- `edges::near` meets its contract. Assumes nothing.
+use borrow.Author.Needs.{needs}
+use Rattle.edges.proofs.near.Statement.{statement}
+use Rattle.edges.proofs.near.Tie as tie
+
+abs-requires : tie.Need-abs-requires
+abs-requires c κs = search needs
+
+returns : tie.Need-returns
+returns c = rw (c .abs .ensures)
+
+pub near-spec : {M : Type 1} → statement M
+near-spec = tie.close (tie.spec abs-requires returns)
