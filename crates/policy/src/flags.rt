@@ -17,7 +17,7 @@ impl Flags {
     pub const DOOR: u8 = 8;
 
     pub const IRON_DOOR: u8 = 16;
-    // A door half whose own state is open.
+    // The half itself stands open.
     pub const OPEN: u8 = 32;
 
     pub fn is_water(self) -> bool

@@ -4,7 +4,7 @@ ghost use Rattle.world.specs.Boxes.{meets, corner, plus, minus, moved, c
 use crate::Aabb;
 use crate::Point;
 
-// Strict overlap: touching faces do not intersect.
+// Whether two boxes share room, strictly on every axis.
 pub fn intersects(a: Aabb, b: Aabb) -> bool
     ensures { λ r. ⌜ r ≡ meets a b ⌝ }
 {

@@ -68,7 +68,7 @@ impl Area {
         }
     }
 
-    /// Overlap on every axis; touching faces do not intersect. The variants
+    /// Whether two boxes share room, strictly on every axis. The variants
     /// let faces touch on the axis that they name.
     pub fn intersects(&self, other: &Self, touching: Option<usize>) -> bool {
         (0..3).all(|axis| {
