@@ -1,2 +1,5 @@
 pub mod Columns
 pub mod Words
+pub mod SideLaws
+pub mod Expansion
+pub mod GraphLaws

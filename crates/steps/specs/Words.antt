@@ -4,7 +4,7 @@ use mathlib.Core.Bool.{Bool, _&&_, cond}
 use mathlib.Core.Option.{Option, none, some}
 use mathlib.Core.List.{List, map}
 use lib.Dec.{eqb}
-use lib.Ieee.{binary64, ofBits, toBits}
+use lib.Ieee.{Float, binary64, ofBits, toBits}
 use Rattle.world.specs.declared.Point.{Point}
 use Rattle.world.specs.declared.Body.{Body}
 use Rattle.world.specs.declared.Request.{Request}
@@ -42,8 +42,11 @@ unfoldable pub alike : Label → Label → Bool
 alike a b = eqb (a .movement) (b .movement) && sameWord (a .lift) (b .lift)
 
 -- a point is read with -0.0 as 0
+unfoldable pub coordinate : ℕ → Float
+coordinate n = ofBits binary64 (canonicalWord n)
+
 unfoldable pub pointOf : Feet → Point
-pointOf p = record { x = ofBits binary64 (canonicalWord (p .x)); y = ofBits binary64 (canonicalWord (p .y)); z = ofBits binary64 (canonicalWord (p .z)) }
+pointOf p = record { x = coordinate (p .x); y = coordinate (p .y); z = coordinate (p .z) }
 
 unfoldable pub feetOf : Point → Feet
 feetOf p = record { x = toBits binary64 (p .x); y = toBits binary64 (p .y); z = toBits binary64 (p .z) }
