@@ -5,17 +5,16 @@
 // end is read as zeros, and a write past it changes nothing.
 
 pub mod records;
-
-
-
+pub mod scans;
 
 pub use records::get_entry;
 pub use records::get_node;
 pub use records::put_entry;
 pub use records::put_node;
-
-
-
+pub use scans::pick;
+pub use scans::same_point;
+pub use scans::seek;
+pub use scans::zero;
 
 // The feet of a waypoint: the patterns of three f64.
 pub struct Feet {
