@@ -4,14 +4,9 @@ use native.Mathlib.Omega.{arith}
 use mathlib.Core.Bool.{Bool}
 use mathlib.Core.List.{List}
 use mathlib.Core.Path.{_≡_, sym, _∙_}
-use borrow.Author.Needs.{needs}
 use borrow.Author.Tests.{not-true, not-false}
 use denote.Ref.{now}
-use lib.IntN.{pos, _+ℤ_}
-use mir.Syntax.{w64}
-use mir.Val.{SFits, toZ, ofZ}
-use mir.Facts.{toZ-ofZ, toZ-pos}
-use Rattle.cells.specs.RangeLaws.{sum-fits}
+use Rattle.cells.specs.RangeLaws.{number-fits, number-is}
 use Rattle.cells.specs.declared.ranges.Range.{Range}
 use Rattle.world.specs.declared.Window.{Window}
 use Rattle.world.specs.declared.Aabb.{Aabb}
@@ -40,23 +35,9 @@ whole : (s : tie.Start Inv-loop μ-loop) →
     allFree (space (s .args .w) (now (s .args .cells)) (now (s .args .perms)) (now (s .args .shapes)) (now (s .args .boxes))) (s .args .area) (s .args .ys) (s .args .xs) (s .args .zs) ≡ holds (at s) 0 (s .args .ys .count)
 whole s = all-is _ _ _ _ _
 
--- the number of a turn
-module _ (c : tie.After-struct-told Inv-loop μ-loop) where
-  number : toZ w64 (c .before .before .before .before .loop .k) ≡ pos (c .before .before .before .before .loop .k)
-  number = toZ-pos w64 (omega (arith, c .before .before .before .before .before .before .before .before .before .pre .0 .count, c .before .before .if1 .taken))
-
-  first : toZ w64 (ofZ w64 (c .before .before .before .before .before .before .before .before .before .args .ys .first)) ≡ c .before .before .before .before .before .before .before .before .before .args .ys .first
-  first = toZ-ofZ (record { sfits = omega (arith, c .before .before .before .before .before .before .before .before .before .pre .0 .first) })
-
-  fits : SFits w64 (c .before .before .before .before .before .before .before .before .before .args .ys .first +ℤ pos (c .before .before .before .before .loop .k))
-  fits = sum-fits (c .before .before .before .before .before .before .before .before .before .args .ys .first) (c .before .before .before .before .loop .k) (c .before .before .before .before .before .before .before .before .before .pre .0 .first) (omega (arith, c .before .before .before .before .before .before .before .before .before .pre .0 .count, c .before .before .if1 .taken))
-
-  sum-is : toZ w64 (ofZ w64 (toZ w64 (ofZ w64 (c .before .before .before .before .before .before .before .before .before .args .ys .first)) +ℤ toZ w64 (c .before .before .before .before .loop .k))) ≡ c .before .before .before .before .before .before .before .before .before .args .ys .first +ℤ pos (c .before .before .before .before .loop .k)
-  sum-is = rw (first, number) (toZ-ofZ fits)
-
 one : (c : tie.After-layer-free Inv-loop μ-loop) → at (c .before .before .before .before .before .before .before .before .before .before) (c .before .before .before .before .before .loop .k) ≡ c .layer-free .result
 unfolding layerOf
-one c = sym (rw (sum-is (c .before)) at (c .layer-free .ensures))
+one c = sym (rw (number-is (c .before .before .before .before .before .before .before .before .before .before .args .ys) (c .before .before .before .before .before .before .before .before .before .before .pre .0) (c .before .before .before .before .before .loop .k) (c .before .before .before .if1 .taken)) at (c .layer-free .ensures))
 
 loop-holds : tie.Need-loop-holds Inv-loop μ-loop
 loop-holds c = begins (at (c .before .before .before .before)) (c .before .before .before .before .args .ys .count)
@@ -65,7 +46,7 @@ cast-y : tie.Need-cast-y Inv-loop μ-loop
 cast-y c = record { sfits = omega (arith, c .before .before .before .before .before .before .before .pre .0 .count, c .if1 .taken) }
 
 add-y : tie.Need-add-y Inv-loop μ-loop
-add-y c = rw (first c, number c) (fits c)
+add-y c = number-fits (c .before .before .before .before .before .before .before .before .before .args .ys) (c .before .before .before .before .before .before .before .before .before .pre .0) (c .before .before .before .before .loop .k) (c .before .before .if1 .taken)
 
 layer-free-requires : tie.Need-layer-free-requires Inv-loop μ-loop
 layer-free-requires c κs = (c .before .before .before .before .before .before .before .before .before .pre .1, c .before .before .before .before .before .before .before .before .before .pre .2)

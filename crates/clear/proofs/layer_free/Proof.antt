@@ -4,14 +4,12 @@ use native.Mathlib.Omega.{arith}
 use mathlib.Core.Bool.{Bool}
 use mathlib.Core.List.{List}
 use mathlib.Core.Path.{_≡_, sym, _∙_}
-use borrow.Author.Needs.{needs}
 use borrow.Author.Tests.{not-true, not-false}
 use denote.Ref.{now}
-use lib.IntN.{pos, _+ℤ_}
 use mir.Syntax.{w64}
-use mir.Val.{SFits, toZ, ofZ}
-use mir.Facts.{toZ-ofZ, toZ-pos}
-use Rattle.cells.specs.RangeLaws.{sum-fits}
+use mir.Val.{toZ, ofZ}
+use mir.Facts.{toZ-ofZ}
+use Rattle.cells.specs.RangeLaws.{number-fits, number-is}
 use Rattle.cells.specs.declared.ranges.Range.{Range}
 use Rattle.world.specs.declared.Window.{Window}
 use Rattle.world.specs.declared.Aabb.{Aabb}
@@ -40,23 +38,9 @@ whole : (s : tie.Start Inv-loop μ-loop) →
     layerFree (space (s .args .w) (now (s .args .cells)) (now (s .args .perms)) (now (s .args .shapes)) (now (s .args .boxes))) (s .args .area) (s .args .y) (s .args .xs) (s .args .zs) ≡ holds (at s) 0 (s .args .xs .count)
 whole s = rw (toZ-ofZ {w = w64} (s .fits .y)) (layer-is _ _ _ _ _)
 
--- the number of a turn
-module _ (c : tie.After-struct-told Inv-loop μ-loop) where
-  number : toZ w64 (c .before .before .before .before .loop .k) ≡ pos (c .before .before .before .before .loop .k)
-  number = toZ-pos w64 (omega (arith, c .before .before .before .before .before .before .before .before .before .pre .0 .count, c .before .before .if1 .taken))
-
-  first : toZ w64 (ofZ w64 (c .before .before .before .before .before .before .before .before .before .args .xs .first)) ≡ c .before .before .before .before .before .before .before .before .before .args .xs .first
-  first = toZ-ofZ (record { sfits = omega (arith, c .before .before .before .before .before .before .before .before .before .pre .0 .first) })
-
-  fits : SFits w64 (c .before .before .before .before .before .before .before .before .before .args .xs .first +ℤ pos (c .before .before .before .before .loop .k))
-  fits = sum-fits (c .before .before .before .before .before .before .before .before .before .args .xs .first) (c .before .before .before .before .loop .k) (c .before .before .before .before .before .before .before .before .before .pre .0 .first) (omega (arith, c .before .before .before .before .before .before .before .before .before .pre .0 .count, c .before .before .if1 .taken))
-
-  sum-is : toZ w64 (ofZ w64 (toZ w64 (ofZ w64 (c .before .before .before .before .before .before .before .before .before .args .xs .first)) +ℤ toZ w64 (c .before .before .before .before .loop .k))) ≡ c .before .before .before .before .before .before .before .before .before .args .xs .first +ℤ pos (c .before .before .before .before .loop .k)
-  sum-is = rw (first, number) (toZ-ofZ fits)
-
 one : (c : tie.After-row-free Inv-loop μ-loop) → at (c .before .before .before .before .before .before .before .before .before .before) (c .before .before .before .before .before .loop .k) ≡ c .row-free .result
 unfolding rowOf
-one c = sym (rw (sum-is (c .before)) at (c .row-free .ensures))
+one c = sym (rw (number-is (c .before .before .before .before .before .before .before .before .before .before .args .xs) (c .before .before .before .before .before .before .before .before .before .before .pre .0) (c .before .before .before .before .before .loop .k) (c .before .before .before .if1 .taken)) at (c .row-free .ensures))
 
 loop-holds : tie.Need-loop-holds Inv-loop μ-loop
 loop-holds c = begins (at (c .before .before .before .before)) (c .before .before .before .before .args .xs .count)
@@ -65,7 +49,7 @@ cast-x : tie.Need-cast-x Inv-loop μ-loop
 cast-x c = record { sfits = omega (arith, c .before .before .before .before .before .before .before .pre .0 .count, c .if1 .taken) }
 
 add-x : tie.Need-add-x Inv-loop μ-loop
-add-x c = rw (first c, number c) (fits c)
+add-x c = number-fits (c .before .before .before .before .before .before .before .before .before .args .xs) (c .before .before .before .before .before .before .before .before .before .pre .0) (c .before .before .before .before .loop .k) (c .before .before .if1 .taken)
 
 row-free-requires : tie.Need-row-free-requires Inv-loop μ-loop
 row-free-requires c κs = c .before .before .before .before .before .before .before .before .before .pre .1

@@ -7,11 +7,10 @@ use mathlib.Core.Path.{_≡_, sym, _∙_}
 use borrow.Author.Needs.{needs}
 use borrow.Author.Tests.{not-true, not-false}
 use denote.Ref.{now}
-use lib.IntN.{pos, _+ℤ_}
 use mir.Syntax.{w64}
-use mir.Val.{SFits, toZ, ofZ}
-use mir.Facts.{toZ-ofZ, toZ-pos}
-use Rattle.cells.specs.RangeLaws.{sum-fits}
+use mir.Val.{toZ, ofZ}
+use mir.Facts.{toZ-ofZ}
+use Rattle.cells.specs.RangeLaws.{number-fits, number-is}
 use Rattle.cells.specs.declared.ranges.Range.{Range}
 use Rattle.world.specs.declared.Window.{Window}
 use Rattle.world.specs.declared.Aabb.{Aabb}
@@ -40,23 +39,9 @@ whole : (s : tie.Start Inv-loop μ-loop) →
     rowFree (space (s .args .w) (now (s .args .cells)) (now (s .args .perms)) (now (s .args .shapes)) (now (s .args .boxes))) (s .args .area) (s .args .x) (s .args .y) (s .args .zs) ≡ holds (at s) 0 (s .args .zs .count)
 whole s = rw (toZ-ofZ {w = w64} (s .fits .x), toZ-ofZ {w = w64} (s .fits .y)) (row-is _ _ _ _ _)
 
--- the number of a turn
-module _ (c : tie.After-struct-told Inv-loop μ-loop) where
-  number : toZ w64 (c .before .before .before .before .loop .k) ≡ pos (c .before .before .before .before .loop .k)
-  number = toZ-pos w64 (omega (arith, c .before .before .before .before .before .before .before .before .before .pre .count, c .before .before .if1 .taken))
-
-  first : toZ w64 (ofZ w64 (c .before .before .before .before .before .before .before .before .before .args .zs .first)) ≡ c .before .before .before .before .before .before .before .before .before .args .zs .first
-  first = toZ-ofZ (record { sfits = omega (arith, c .before .before .before .before .before .before .before .before .before .pre .first) })
-
-  fits : SFits w64 (c .before .before .before .before .before .before .before .before .before .args .zs .first +ℤ pos (c .before .before .before .before .loop .k))
-  fits = sum-fits (c .before .before .before .before .before .before .before .before .before .args .zs .first) (c .before .before .before .before .loop .k) (c .before .before .before .before .before .before .before .before .before .pre .first) (omega (arith, c .before .before .before .before .before .before .before .before .before .pre .count, c .before .before .if1 .taken))
-
-  sum-is : toZ w64 (ofZ w64 (toZ w64 (ofZ w64 (c .before .before .before .before .before .before .before .before .before .args .zs .first)) +ℤ toZ w64 (c .before .before .before .before .loop .k))) ≡ c .before .before .before .before .before .before .before .before .before .args .zs .first +ℤ pos (c .before .before .before .before .loop .k)
-  sum-is = rw (first, number) (toZ-ofZ fits)
-
 one : (c : tie.After-cell-free Inv-loop μ-loop) → at (c .before .before .before .before .before .before .before .before .before .before) (c .before .before .before .before .before .loop .k) ≡ c .cell-free .result
 unfolding cellOf
-one c = sym (rw (sum-is (c .before)) at (c .cell-free .ensures))
+one c = sym (rw (number-is (c .before .before .before .before .before .before .before .before .before .before .args .zs) (c .before .before .before .before .before .before .before .before .before .before .pre) (c .before .before .before .before .before .loop .k) (c .before .before .before .if1 .taken)) at (c .cell-free .ensures))
 
 loop-holds : tie.Need-loop-holds Inv-loop μ-loop
 loop-holds c = begins (at (c .before .before .before .before)) (c .before .before .before .before .args .zs .count)
@@ -65,7 +50,7 @@ cast-z : tie.Need-cast-z Inv-loop μ-loop
 cast-z c = record { sfits = omega (arith, c .before .before .before .before .before .before .before .pre .count, c .if1 .taken) }
 
 add-z : tie.Need-add-z Inv-loop μ-loop
-add-z c = rw (first c, number c) (fits c)
+add-z c = number-fits (c .before .before .before .before .before .before .before .before .before .args .zs) (c .before .before .before .before .before .before .before .before .before .pre) (c .before .before .before .before .loop .k) (c .before .before .if1 .taken)
 
 cell-free-requires : tie.Need-cell-free-requires Inv-loop μ-loop
 cell-free-requires c κs = search needs
