@@ -1,20 +1,21 @@
 -- Laws of ranges of cells: how a loop goes over one, and what bounds it.
-use Prim.Native.Nat.{ℕ, zero, suc, _+_, _-_, _^_, _≤_, _<_}
+use Prim.Native.Nat.{ℕ, suc, _+_, _-_, _^_, _≤_, _<_}
 use native.Mathlib.Omega.{arith}
 use native.Mathlib.Numerals.{add-one}
-use mathlib.Core.Path.{_≡_, refl, sym, ap, _∙_}
-use mathlib.Core.Bool.{Bool, true, false}
+use mathlib.Core.Path.{_≡_, refl}
+use mathlib.Core.Bool.{true, false}
 use mathlib.Core.List.{List, [], _∷_, foldl, foldl-append}
 use lib.IntN.{ℤ, pos, negsuc, _+ℤ_, _-ℤ_, natAbs}
 use lib.Dec.{T}
 use lib.Ieee.{Float}
 use lib.Signed.{mag, ltZ, nonNeg}
 use mir.Syntax.{w64}
-use mir.Val.{SFits}
+use mir.Val.{SFits, toZ, ofZ}
+use mir.Facts.{toZ-ofZ, toZ-pos}
 use Rattle.cells.specs.Cells.{floorCell, ceilCell}
 use Rattle.cells.specs.CellLaws.{floor-range, ceil-range}
 use Rattle.cells.specs.Parts.{over, under, sum, difference, lt-yes, lt-no, within, natural, over-mag, under-mag, mag-parts, equal}
-use Rattle.cells.specs.Ranges.{count, range, gather, across, along}
+use Rattle.cells.specs.Ranges.{count, range, gather}
 use Rattle.cells.specs.declared.ranges.Range.{Range}
 
 -- ---- a loop that goes through what the cells hold, one after the other, with what it has found so far
@@ -50,6 +51,23 @@ pub record Near (r : Range) : Type 0 where
 pub sum-fits : (z : ℤ) (k : ℕ) → mag z ≤ 2 ^ 32 → k ≤ 2 ^ 34 → SFits w64 (z +ℤ pos k)
 sum-fits z k h l =
     within w64 (z +ℤ pos k) (omega (arith, sum z (pos k), over-mag z, under-mag z)) (omega (arith, sum z (pos k), over-mag z, under-mag z))
+
+-- the number of cell k of a range, as the code works it out from the machine's bits
+module _ (r : Range) (near : Near r) (k : ℕ) (h : k < r .count) where
+  low-end : toZ w64 (ofZ w64 (r .first)) ≡ r .first
+  low-end = toZ-ofZ (record { sfits = omega (arith, near .first) })
+
+  step : toZ w64 k ≡ pos k
+  step = toZ-pos w64 (omega (arith, near .count))
+
+  fits : SFits w64 (r .first +ℤ pos k)
+  fits = sum-fits (r .first) k (near .first) (omega (arith, near .count))
+
+  pub number-fits : SFits w64 (toZ w64 (ofZ w64 (r .first)) +ℤ toZ w64 k)
+  number-fits = rw (low-end, step) fits
+
+  pub number-is : toZ w64 (ofZ w64 (toZ w64 (ofZ w64 (r .first)) +ℤ toZ w64 k)) ≡ r .first +ℤ pos k
+  number-is = rw (low-end, step) (toZ-ofZ fits)
 
 pub less-fits : (z : ℤ) (k : ℕ) → mag z ≤ 2 ^ 31 → k ≤ 2 ^ 31 → SFits w64 (z -ℤ pos k)
 less-fits z k h l = within w64 (z -ℤ pos k) (omega (arith, difference z (pos k), over-mag z, under-mag z)) (omega (arith, difference z (pos k), over-mag z, under-mag z))

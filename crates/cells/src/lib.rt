@@ -4,12 +4,16 @@ pub mod ranges;
 pub use ranges::Range;
 pub use ranges::floors;
 pub use ranges::reached;
-
 ghost use mathlib.Core.Path.{_≡_};
 ghost use Prim.Native.Nat.{_<_, _≤_, _^_};
 ghost use lib.IntN.{pos, negℤ};
 ghost use lib.Ieee.{binary64, ofInt};
 ghost use Rattle.cells.specs.Cells.{floorCell, ceilCell, Small, wholeBy, downDiv, upDiv};
+
+// The ends of an i32.
+const LOWEST: i64 = -2147483648;
+
+const HIGHEST: i64 = 2147483647;
 
 // The whole part of a small number.
 fn down(y: f64) -> u64
@@ -45,7 +49,7 @@ pub fn floor_cell(x: f64) -> i64
         if -2147483648.0 < x {
             return minus(up(-x));
         }
-        return -2147483648;
+        return LOWEST;
     }
     if x < 2147483647.0 {
         return down(x) as i64;
@@ -53,7 +57,7 @@ pub fn floor_cell(x: f64) -> i64
     if x != x {
         return 0;
     }
-    2147483647
+    HIGHEST
 }
 
 // The first cell border at or above x: its ceiling, with the same ends.
@@ -64,7 +68,7 @@ pub fn ceil_cell(x: f64) -> i64
         if -2147483648.0 < x {
             return minus(down(-x));
         }
-        return -2147483648;
+        return LOWEST;
     }
     if x < 2147483647.0 {
         return up(x) as i64;
@@ -72,7 +76,7 @@ pub fn ceil_cell(x: f64) -> i64
     if x != x {
         return 0;
     }
-    2147483647
+    HIGHEST
 }
 
 // A cell number as a float: exact for every number of at most 53 binary digits, and else the nearest.

@@ -1,28 +1,22 @@
 -- Laws that the loops go by.
-use Prim.Native.Nat.{ℕ, zero, suc, _+_, _-_, _*_, _^_, _≤_, _<_}
+use Prim.Native.Nat.{ℕ, zero, suc, _+_, _-_, _*_, _≤_, _<_}
 use native.Mathlib.Omega.{arith}
 use native.Mathlib.Numerals.{add-one}
-use mathlib.Core.Path.{_≡_, refl, sym, ap, _∙_}
-use mathlib.Core.Bool.{Bool, true, false, not, _&&_, _||_, cond}
-use mathlib.Core.List.{List, [], _∷_, map}
-use lib.IntN.{ℤ, pos, negsuc, _+ℤ_, _-ℤ_, natAbs}
-use lib.Dec.{T}
-use lib.Signed.{mag, ltZ, nonNeg}
-use mir.Syntax.{w64}
-use mir.Val.{SFits}
-use Rattle.cells.specs.Parts.{over, under, sum, difference, lt-yes, lt-no, within, upper, lower, natural, over-mag, under-mag, mag-parts}
-use lib.ListN.{length, take, drop, length-drop, drop-of-length-le}
+use mathlib.Core.Path.{_≡_, refl}
+use mathlib.Core.Bool.{Bool, true, false, not, _&&_, _||_}
+use mathlib.Core.List.{List, map}
+use lib.IntN.{ℤ, pos, _+ℤ_}
+use lib.ListN.{length, take, drop, length-drop}
 use lib.Seq.{take-all}
-use Rattle.world.specs.Laws.{no-box}
+use Rattle.world.specs.Laws.{run-past}
+use Rattle.cells.specs.declared.ranges.Range.{Range}
 use Rattle.world.specs.declared.Point.{Point}
 use Rattle.world.specs.declared.Aabb.{Aabb}
-use Rattle.world.specs.declared.Found.{Found}
 use Rattle.world.specs.declared.Found.the-variants.{Here, End}
-use Rattle.world.specs.declared.Cell.{Cell}
 use Rattle.world.specs.declared.Cell.the-variants.{Unknown, Known}
-use Rattle.world.specs.Boxes.{meets, moved, cube, corner}
-use Rattle.world.specs.Space.{Space, run, boxHere, boxAt, blockOf}
-use Rattle.clear.specs.Clear.{hits, holds, each, voxel, free, rowFree, layerFree, allFree, count}
+use Rattle.world.specs.Boxes.{meets, moved, cube, corner, voxel}
+use Rattle.world.specs.Space.{Space, run, boxHere, blockOf}
+use Rattle.clear.specs.Clear.{hits, holds, each, free, rowFree, layerFree, allFree}
 
 -- ---- a run of boxes
 
@@ -63,12 +57,8 @@ part-is n s = take-all (length s - n) (drop n s) (omega (arith, length-drop n s)
 
 -- past its end a table has no boxes
 pub past : (area : Aabb) (by : Point) (s : List ℕ) (n left : ℕ) → length s < n → runHits area by (drop n s) left 0 ≡ false
-unfolding run hits
-past area by s n left h = rw (drop-of-length-le s {i = n} (omega arith)) (empty left)
-  where
-    empty : (k : ℕ) → runHits area by [] k 0 ≡ false
-    empty zero = refl
-    empty (suc k) = rw (no-box [] 0 (omega arith))
+unfolding hits
+past area by s n left h = rw (run-past s n left h)
 
 -- ---- a cell, by the tests on it
 
@@ -122,77 +112,27 @@ module _ (f : ℕ → Bool) (k n : ℕ) where
 pub begins : (f : ℕ → Bool) (n : ℕ) → holds f 0 n ≡ holds f 0 (n - 0)
 begins f n = let e : n - 0 ≡ n = omega arith in rw e
 
--- a cell number within i32 and a step is no more than i64 holds
-pub sum-fits : (z : ℤ) (k : ℕ) → mag z ≤ 2 ^ 31 → k ≤ 2 ^ 33 → SFits w64 (z +ℤ pos k)
-sum-fits z k h l =
-    within w64 (z +ℤ pos k) (omega (arith, sum z (pos k), over-mag z, under-mag z)) (omega (arith, sum z (pos k), over-mag z, under-mag z))
-
 -- ---- what each turn of the three loops asks
 
 module _ (sp : Space) (area : Aabb) where
   -- cell k of a row, row k of a layer, and layer k
-  unfoldable pub cellOf : ℤ → ℤ → ℤ → ℕ → Bool
-  cellOf x y z k = free area (corner x y (z +ℤ pos k)) (sp x y (z +ℤ pos k))
+  unfoldable pub cellOf : ℤ → ℤ → Range → ℕ → Bool
+  cellOf x y zs k = free area (corner x y (zs .first +ℤ pos k)) (sp x y (zs .first +ℤ pos k))
 
-  unfoldable pub rowOf : ℤ → ℤ → ℤ → ℕ → ℕ → Bool
-  rowOf y x z nz k = rowFree sp area (x +ℤ pos k) y z nz
+  unfoldable pub rowOf : ℤ → Range → Range → ℕ → Bool
+  rowOf y xs zs k = rowFree sp area (xs .first +ℤ pos k) y zs
 
-  unfoldable pub layerOf : ℤ → ℤ → ℕ → ℤ → ℕ → ℕ → Bool
-  layerOf y x nx z nz k = layerFree sp area (y +ℤ pos k) x nx z nz
+  unfoldable pub layerOf : Range → Range → Range → ℕ → Bool
+  layerOf ys xs zs k = layerFree sp area (ys .first +ℤ pos k) xs zs
 
-  pub row-is : (x y z : ℤ) (n : ℕ) → rowFree sp area x y z n ≡ holds (cellOf x y z) 0 n
+  pub row-is : (x y : ℤ) (zs : Range) → rowFree sp area x y zs ≡ holds (cellOf x y zs) 0 (zs .count)
   unfolding rowFree each cellOf
-  row-is x y z n = refl
+  row-is x y zs = refl
 
-  pub layer-is : (y x : ℤ) (nx : ℕ) (z : ℤ) (nz : ℕ) → layerFree sp area y x nx z nz ≡ holds (rowOf y x z nz) 0 nx
+  pub layer-is : (y : ℤ) (xs zs : Range) → layerFree sp area y xs zs ≡ holds (rowOf y xs zs) 0 (xs .count)
   unfolding layerFree each rowOf
-  layer-is y x nx z nz = refl
+  layer-is y xs zs = refl
 
-  pub all-is : (y : ℤ) (ny : ℕ) (x : ℤ) (nx : ℕ) (z : ℤ) (nz : ℕ) → allFree sp area y ny x nx z nz ≡ holds (layerOf y x nx z nz) 0 ny
+  pub all-is : (ys xs zs : Range) → allFree sp area ys xs zs ≡ holds (layerOf ys xs zs) 0 (ys .count)
   unfolding allFree each layerOf
-  all-is y ny x nx z nz = refl
-
--- ---- how many cells there are between two
-
-no-over : (z : ℤ) → over z ≤ under z → over z ≡ 0
-no-over (pos n) h = omega arith
-no-over (negsuc n) h = refl
-
-size-over : (z : ℤ) → under z ≤ over z → natAbs z ≡ over z
-size-over (pos n) h = refl
-size-over (negsuc n) h = absurd (omega arith)
-
-abs-mag : (z : ℤ) → natAbs z ≤ suc (mag z)
-abs-mag (pos n) = omega arith
-abs-mag (negsuc n) = omega arith
-
-module _ (low high : ℤ) (l : mag low ≤ 2 ^ 31) (h : mag high ≤ 2 ^ 31) where
-  pub apart-fits : SFits w64 (high -ℤ low)
-  apart-fits = within w64 (high -ℤ low) (omega (arith, difference high low, over-mag low, under-mag low, over-mag high, under-mag high)) (omega (arith, difference high low, over-mag low, under-mag low, over-mag high, under-mag high))
-
-  pub span-fits : SFits w64 (high -ℤ low +ℤ pos 1)
-  span-fits = within w64 (high -ℤ low +ℤ pos 1) (omega (arith, difference high low, sum (high -ℤ low) (pos 1), over-mag low, under-mag low, over-mag high, under-mag high)) (omega (arith, difference high low, sum (high -ℤ low) (pos 1), over-mag low, under-mag low, over-mag high, under-mag high))
-
-  -- none where high is below low
-  pub span-none : ltZ high low ≡ true → count low high ≡ 0
-  unfolding count
-  span-none e = no-over (high -ℤ low +ℤ pos 1) (omega (arith, difference high low, sum (high -ℤ low) (pos 1), lt-yes high low e))
-
-  module _ (e : ltZ high low ≡ false) where
-    pub span-natural : T (nonNeg (high -ℤ low +ℤ pos 1))
-    span-natural = natural (high -ℤ low +ℤ pos 1) (omega (arith, difference high low, sum (high -ℤ low) (pos 1), lt-no high low e))
-
-    pub span-is : natAbs (high -ℤ low +ℤ pos 1) ≡ count low high
-    unfolding count
-    span-is = size-over (high -ℤ low +ℤ pos 1) (omega (arith, difference high low, sum (high -ℤ low) (pos 1), lt-no high low e))
-
-    pub span-small : natAbs (high -ℤ low +ℤ pos 1) ≤ 2 ^ 33
-    span-small = omega (arith, abs-mag (high -ℤ low +ℤ pos 1), mag-parts (high -ℤ low +ℤ pos 1) (2 ^ 32 + 2) (omega (arith, difference high low, sum (high -ℤ low) (pos 1), over-mag low, under-mag low, over-mag high, under-mag high)) (omega (arith, difference high low, sum (high -ℤ low) (pos 1), over-mag low, under-mag low, over-mag high, under-mag high)))
-
--- ---- one cell less
-
-pub less-fits : (z : ℤ) → mag z < 2 ^ 31 → SFits w64 (z -ℤ pos 1)
-less-fits z h = within w64 (z -ℤ pos 1) (omega (arith, difference z (pos 1), over-mag z, under-mag z)) (omega (arith, difference z (pos 1), over-mag z, under-mag z))
-
-pub less-mag : (z : ℤ) → mag z < 2 ^ 31 → mag (z -ℤ pos 1) ≤ 2 ^ 31
-less-mag z h = mag-parts (z -ℤ pos 1) (2 ^ 31) (omega (arith, difference z (pos 1), over-mag z, under-mag z)) (omega (arith, difference z (pos 1), over-mag z, under-mag z))
+  all-is ys xs zs = refl

@@ -1,14 +1,14 @@
-// What an area of the world holds.
+// Clear areas (01, The graph): whether a body fits into an area, by the boxes and the permissions of the cells that it reaches.
 ghost use mathlib.Core.Path.{_≡_};
 ghost use mathlib.Core.List.{map};
-ghost use Prim.Native.Nat.{_+_, _*_, _<_, _≤_, _^_};
-ghost use lib.IntN.{pos, _+ℤ_, _-ℤ_};
+ghost use Prim.Native.Nat.{_*_};
 ghost use lib.ListN.{drop};
-ghost use lib.Signed.{mag};
+ghost use Rattle.cells.specs.RangeLaws.{Near};
 ghost use Rattle.world.specs.declared.Aabb.{Aabb};
 ghost use Rattle.world.specs.Boxes.{moved, corner};
 ghost use Rattle.world.specs.Space.{run, space};
-ghost use Rattle.clear.specs.Clear.{count, hits, voxel, free, rowFree, layerFree, allFree, first, last, clear};
+ghost use Rattle.clear.specs.Clear.{hits, free, rowFree, layerFree, allFree, clear};
+use cells::Range;
 use world::Aabb;
 use world::Cell;
 use world::Found;
@@ -50,23 +50,6 @@ fn table_hits(table: &[u8], first: u32, boxes: u32, by: Point, area: Aabb) -> bo
     }
 }
 
-// A cell's own cube.
-fn voxel_at(p: Point) -> Aabb
-    ensures { λ r. ⌜ r ≡ voxel p ⌝ }
-{
-    Aabb {
-        min: p,
-        max: world::sum(
-            p,
-            Point {
-                x: 1.0,
-                y: 1.0,
-                z: 1.0,
-            },
-        ),
-    }
-}
-
 // Whether a cell is free for an area.
 fn cell_free(
     w: Window,
@@ -82,7 +65,7 @@ fn cell_free(
     ensures { λ r. ⌜ r ≡ free area (corner x y z) (space w (now (cells .entry)) (now (perms .entry)) (now (shapes .entry)) (now (boxes .entry)) x y z) ⌝ }
 {
     let p = world::corner_of(x, y, z);
-    let meets = world::intersects(voxel_at(p), area);
+    let meets = world::intersects(world::voxel_at(p), area);
     match world::cell_at(w, cells, perms, shapes, x, y, z) {
         Cell::Unknown => {
             if meets {
@@ -107,7 +90,7 @@ fn cell_free(
     }
 }
 
-// Whether the cells of a row are free for an area: n cells from z up.
+// Whether the cells of a row are free for an area, along z.
 fn row_free(
     w: Window,
     cells: &[u8],
@@ -117,15 +100,15 @@ fn row_free(
     area: Aabb,
     x: i64,
     y: i64,
-    z: i64,
-    n: usize,
+    zs: Range,
 ) -> bool
-    requires { ⌜ (mag z ≤ 2 ^ 31) × (n ≤ 2 ^ 33) ⌝ }
-    ensures { λ r. ⌜ r ≡ rowFree (space w (now (cells .entry)) (now (perms .entry)) (now (shapes .entry)) (now (boxes .entry))) area x y z n ⌝ }
+    requires { ⌜ Near zs ⌝ }
+    ensures { λ r. ⌜ r ≡ rowFree (space w (now (cells .entry)) (now (perms .entry)) (now (shapes .entry)) (now (boxes .entry))) area x y zs ⌝ }
 {
     let mut k: usize = 0;
-    while k < n {
-        if !cell_free(w, cells, perms, shapes, boxes, area, x, y, z + (k as i64)) {
+    while k < zs.count {
+        let z = zs.first + (k as i64);
+        if !cell_free(w, cells, perms, shapes, boxes, area, x, y, z) {
             return false;
         }
         k += 1;
@@ -133,7 +116,7 @@ fn row_free(
     true
 }
 
-// Whether the rows of a layer are free: nx rows from x up, each of nz cells from z up.
+// Whether the rows of a layer are free, along x.
 fn layer_free(
     w: Window,
     cells: &[u8],
@@ -142,28 +125,16 @@ fn layer_free(
     boxes: &[u8],
     area: Aabb,
     y: i64,
-    x: i64,
-    nx: usize,
-    z: i64,
-    nz: usize,
+    xs: Range,
+    zs: Range,
 ) -> bool
-    requires { ⌜ (mag x ≤ 2 ^ 31) × (nx ≤ 2 ^ 33) × (mag z ≤ 2 ^ 31) × (nz ≤ 2 ^ 33) ⌝ }
-    ensures { λ r. ⌜ r ≡ layerFree (space w (now (cells .entry)) (now (perms .entry)) (now (shapes .entry)) (now (boxes .entry))) area y x nx z nz ⌝ }
+    requires { ⌜ Near xs × Near zs ⌝ }
+    ensures { λ r. ⌜ r ≡ layerFree (space w (now (cells .entry)) (now (perms .entry)) (now (shapes .entry)) (now (boxes .entry))) area y xs zs ⌝ }
 {
     let mut k: usize = 0;
-    while k < nx {
-        if !row_free(
-            w,
-            cells,
-            perms,
-            shapes,
-            boxes,
-            area,
-            x + (k as i64),
-            y,
-            z,
-            nz,
-        ) {
+    while k < xs.count {
+        let x = xs.first + (k as i64);
+        if !row_free(w, cells, perms, shapes, boxes, area, x, y, zs) {
             return false;
         }
         k += 1;
@@ -171,7 +142,7 @@ fn layer_free(
     true
 }
 
-// Whether the layers are free: ny layers from y up.
+// Whether the layers are free, along y.
 fn all_free(
     w: Window,
     cells: &[u8],
@@ -179,66 +150,22 @@ fn all_free(
     shapes: &[u8],
     boxes: &[u8],
     area: Aabb,
-    y: i64,
-    ny: usize,
-    x: i64,
-    nx: usize,
-    z: i64,
-    nz: usize,
+    ys: Range,
+    xs: Range,
+    zs: Range,
 ) -> bool
-    requires { ⌜ (mag y ≤ 2 ^ 31) × (ny ≤ 2 ^ 33) × (mag x ≤ 2 ^ 31) × (nx ≤ 2 ^ 33) × (mag z ≤ 2 ^ 31) × (nz ≤ 2 ^ 33) ⌝ }
-    ensures { λ r. ⌜ r ≡ allFree (space w (now (cells .entry)) (now (perms .entry)) (now (shapes .entry)) (now (boxes .entry))) area y ny x nx z nz ⌝ }
+    requires { ⌜ Near ys × Near xs × Near zs ⌝ }
+    ensures { λ r. ⌜ r ≡ allFree (space w (now (cells .entry)) (now (perms .entry)) (now (shapes .entry)) (now (boxes .entry))) area ys xs zs ⌝ }
 {
     let mut k: usize = 0;
-    while k < ny {
-        if !layer_free(
-            w,
-            cells,
-            perms,
-            shapes,
-            boxes,
-            area,
-            y + (k as i64),
-            x,
-            nx,
-            z,
-            nz,
-        ) {
+    while k < ys.count {
+        let y = ys.first + (k as i64);
+        if !layer_free(w, cells, perms, shapes, boxes, area, y, xs, zs) {
             return false;
         }
         k += 1;
     }
     true
-}
-
-// How many cells there are from low to high.
-fn span(low: i64, high: i64) -> usize
-    requires { ⌜ (mag low ≤ 2 ^ 31) × (mag high ≤ 2 ^ 31) ⌝ }
-    ensures { λ r. ⌜ (r ≡ count low high) × (r ≤ 2 ^ 33) ⌝ }
-{
-    if high < low {
-        return 0;
-    }
-    ((high - low) + 1) as usize
-}
-
-// The first cell that an area reaches along an axis, the one before it, and the last one.
-fn first_cell(least: f64) -> i64
-    ensures { λ r. ⌜ (r ≡ first least) × (mag r ≤ 2 ^ 31) ⌝ }
-{
-    cells::floor_cell(least)
-}
-
-fn cell_below(least: f64) -> i64
-    ensures { λ r. ⌜ (r ≡ first least -ℤ pos 1) × (mag r ≤ 2 ^ 31) ⌝ }
-{
-    cells::floor_cell(least) - 1
-}
-
-fn last_cell(greatest: f64) -> i64
-    ensures { λ r. ⌜ (r ≡ last greatest) × (mag r ≤ 2 ^ 31) ⌝ }
-{
-    cells::ceil_cell(greatest) - 1
 }
 
 // Whether an area is clear.
@@ -252,11 +179,8 @@ pub fn clear_area(
 ) -> bool
     ensures { λ r. ⌜ r ≡ clear (space w (now (cells .entry)) (now (perms .entry)) (now (shapes .entry)) (now (boxes .entry))) area ⌝ }
 {
-    let y = cell_below(area.min.y);
-    let x = first_cell(area.min.x);
-    let z = first_cell(area.min.z);
-    let ny = span(y, last_cell(area.max.y));
-    let nx = span(x, last_cell(area.max.x));
-    let nz = span(z, last_cell(area.max.z));
-    all_free(w, cells, perms, shapes, boxes, area, y, ny, x, nx, z, nz)
+    let ys = cells::reached(area.min.y, area.max.y, 1);
+    let xs = cells::reached(area.min.x, area.max.x, 0);
+    let zs = cells::reached(area.min.z, area.max.z, 0);
+    all_free(w, cells, perms, shapes, boxes, area, ys, xs, zs)
 }

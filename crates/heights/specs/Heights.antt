@@ -59,6 +59,8 @@ unfoldable pub thinned : List Float → List Float
 thinned [] = []
 thinned (t ∷ ts) = t ∷ thinnedAfter t ts
 
+-- 01, Graph step: "Heights are box tops from low to high, E allowed, of that column's cells with bit 2 from floor(low) - 2 to floor(high) whose box spans
+-- the centre, borders included; sorted; one within E of the last kept is dropped."
 unfoldable pub heights : Space → Band → Float → Float → List Float
 heights sp band x z = thinned (sorted (tops sp band x z))
 

@@ -1,3 +1,4 @@
 pub mod Heights
 pub mod Next
 pub mod Laws
+pub mod Examples

@@ -161,7 +161,6 @@ fn cell_next(
 ) -> Height
     ensures { λ r. ⌜ r ≡ pass after best (topsIn band x z (space w (now (cells .entry)) (now (perms .entry)) (now (shapes .entry)) (now (boxes .entry)) cx y cz)) ⌝ }
 {
-    let by = world::corner_of(cx, y, cz);
     match world::cell_at(w, cells, perms, shapes, cx, y, cz) {
         Cell::Unknown => best,
         Cell::Known {
@@ -171,6 +170,7 @@ fn cell_next(
             count,
         } => {
             if support {
+                let by = world::corner_of(cx, y, cz);
                 table_next(boxes, first, count, by, band, x, z, after, best)
             } else {
                 best

@@ -6,7 +6,7 @@ use Prim.Native.Nat.{ℕ, zero, suc}
 use lib.IntN.{ℤ, pos}
 use lib.Ieee.{Float, nan, inf, fin, binary64, add, sub, mul, neg, lt, round}
 use Rattle.policy.specs.Jump.{Jump, none, drag, rises, tick, after, apexOf, jumpApex}
-use Rattle.policy.specs.Laws.{at-rest, goes}
+use Rattle.policy.specs.JumpLaws.{at-rest, goes}
 
 -- a jump that rose without end
 abbrev boundless : Jump

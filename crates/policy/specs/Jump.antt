@@ -5,6 +5,7 @@ use Prim.Native.Nat.{ℕ, zero, suc}
 use lib.IntN.{pos}
 use lib.Ieee.{Float, fin, binary64, add, sub, mul, lt, round}
 
+-- +0.0
 abbrev pub none : Float
 none = fin false 0 (pos 0)
 

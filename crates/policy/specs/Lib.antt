@@ -4,7 +4,8 @@ pub mod Doors
 pub mod Permission
 pub mod Jump
 pub mod Request
-pub mod Laws
+pub mod PermissionLaws
+pub mod JumpLaws
 pub mod Unique
 pub mod Infinite
 pub mod Examples

@@ -1,9 +1,9 @@
 // How a walk meets a block state that may be a door.
 pub enum Passage {
-    // No door, or a door met as its collision shape: closed a wall, open a free doorway.
+    // No door, or one that is left as it stands: only its boxes count.
     Shape,
-    // A door that the body crosses as if it were empty: it opens or breaks it.
+    // A door that is no obstacle, because the mob opens or breaks it.
     Through,
-    // A door cell that the body never enters.
+    // A door whose cell is shut to the mob.
     Wall,
 }

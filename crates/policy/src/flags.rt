@@ -2,6 +2,7 @@
 ghost use mathlib.Core.Path.{_≡_};
 ghost use Rattle.policy.specs.Flags.{has, WATER, DAMAGING, GRASS, DOOR, IRON-DOOR, OPEN};
 
+// A flag byte. Its two highest bits are not read.
 pub struct Flags {
     pub bits: u8,
 }
@@ -16,7 +17,7 @@ impl Flags {
     pub const DOOR: u8 = 8;
 
     pub const IRON_DOOR: u8 = 16;
-    // A door half whose own state is open.
+    // The half itself stands open.
     pub const OPEN: u8 = 32;
 
     pub fn is_water(self) -> bool

@@ -9,6 +9,7 @@ const LIVING_VERTICAL_DRAG: f64 = 0.98;
 // A jump that these many ticks don't bring to rest is refused.
 const TICKS: u32 = 65536;
 
+// What a jump answers: how many blocks it gains, or that it does not come to rest (6).
 pub enum Apex {
     Height(f64),
     Endless,

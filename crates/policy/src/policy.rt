@@ -1,4 +1,4 @@
-// The walk policy of one search, and the functions that make permission bytes of flags (01, Policy).
+// What one search may walk on and through, and the functions that make permission bytes of flags (01, Policy).
 ghost use mathlib.Core.Path.{_≡_};
 ghost use Rattle.policy.specs.Answers.{passageNumber, filledNumber};
 ghost use Rattle.policy.specs.Doors.{doorPassage};
@@ -21,6 +21,7 @@ const PATH_NODE_BUDGET: u64 = 2048;
 
 const PATH_MAX_DROP: f64 = 3.0;
 
+// What a mob may be in, stand on and go through.
 pub struct WalkPolicy {
     pub avoid_water: bool,
     pub avoid_damage_blocks: bool,
@@ -33,7 +34,8 @@ pub struct WalkPolicy {
     pub door_breaker: bool,
 }
 
-// What filling a permission table answers.
+// What filling a permission table answers: the whole of it is filled, or its length is another than
+// the flag table's (8).
 pub enum Filled {
     Whole,
     BadTable,

@@ -1,14 +1,15 @@
-// A digest of words in a row: one that has lost a bit, or a word's place, comes out otherwise.
-use std::num::wrapping_add_u64;
+// The oracle's digest of bytes in a row: one more byte b makes d into 257 d + b + 1, mod 2^31 - 1.
+const MODULUS: u64 = 2_147_483_647;
 
-// The digest with one word more.
-pub(crate) fn with(digest: u64, word: u64) -> u64 {
-    stirred(wrapping_add_u64(digest, word ^ 0x9e37_79b9_7f4a_7c15))
+fn with(digest: u64, byte: u8) -> u64 {
+    (digest % MODULUS * 257 + byte as u64 + 1) % MODULUS
 }
 
-// Marsaglia's xorshift.
-fn stirred(w: u64) -> u64 {
-    let a = w ^ (w << 13);
-    let b = a ^ (a >> 7);
-    b ^ (b << 17)
+// The digest of what came before and of these bytes.
+pub(crate) fn over(digest: u64, s: &[u8]) -> u64 {
+    let mut d = digest;
+    for i in 0..s.len() {
+        d = with(d, s[i]);
+    }
+    d
 }

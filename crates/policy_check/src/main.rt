@@ -1,56 +1,53 @@
-// Asks every policy about every flag byte, and the jump at 2,304 powers and gravities, and prints
-// digests of the answers. What it must print comes from the original (vectors/README.md, "policy").
+// Asks every policy about every flag byte, and the jump at the powers and gravities of its input, and
+// prints what `oracle policy` prints of the original (vectors/README.md, "policy").
 mod digest;
 mod jumps;
 mod policies;
 
+use digest::over;
 use libc::STDOUT_FILENO;
 
-fn word(n: u64) {
-    io::write_all(STDOUT_FILENO, b" ");
-    io::print_hex(STDOUT_FILENO, n, 16);
+// Digests over every policy so far.
+struct All {
+    passages: u64,
+    permissions: u64,
 }
 
-// The answers of the policy with this number.
-fn policy_line(number: u32) {
-    let policy = policies::numbered(number);
-    let in_water = number / 128 % 2 == 1;
+fn digests(passages: u64, permissions: u64) {
+    io::write_all(STDOUT_FILENO, b" passages ");
+    io::print_decimal(STDOUT_FILENO, passages);
+    io::write_all(STDOUT_FILENO, b" permissions ");
+    io::print_decimal(STDOUT_FILENO, permissions);
+    io::write_all(STDOUT_FILENO, b"\n");
+}
+
+// The line of a combination: a policy's number, and in water from 128 on.
+fn policy_line(combination: u32, all: All) -> All {
+    let policy = policies::numbered(combination);
+    let passages = policies::passages(policy);
+    let permissions = policies::permissions(policy, combination / 128 == 1);
     io::write_all(STDOUT_FILENO, b"policy ");
-    io::print_decimal(STDOUT_FILENO, number as u64);
-    word(policies::passages(policy));
-    word(policies::permissions(policy, in_water));
-    word(policies::request(policy));
-    io::write_all(STDOUT_FILENO, b"\n");
-}
-
-// The jumps with the power of this number.
-fn jump_line(number: u32) {
-    io::write_all(STDOUT_FILENO, b"jump ");
-    io::print_decimal(STDOUT_FILENO, number as u64);
-    word(jumps::heights(number));
-    io::write_all(STDOUT_FILENO, b"\n");
+    io::print_decimal(STDOUT_FILENO, combination as u64);
+    digests(over(0, &passages), over(0, &permissions));
+    All {
+        passages: over(all.passages, &passages),
+        permissions: over(all.permissions, &permissions),
+    }
 }
 
 fn policy_lines() {
-    for number in 0..256u32 {
-        policy_line(number);
+    let mut all = All {
+        passages: 0,
+        permissions: 0,
+    };
+    for combination in 0..256u32 {
+        all = policy_line(combination, all);
     }
-}
-
-fn short_line() {
-    io::write_all(STDOUT_FILENO, b"short");
-    word(policies::short_table());
-    io::write_all(STDOUT_FILENO, b"\n");
-}
-
-fn jump_lines() {
-    for number in 0..48u32 {
-        jump_line(number);
-    }
+    io::write_all(STDOUT_FILENO, b"all");
+    digests(all.passages, all.permissions);
 }
 
 fn main() {
     policy_lines();
-    short_line();
-    jump_lines();
+    jumps::lines();
 }

@@ -4,3 +4,4 @@ pub mod Laws
 pub mod Rounds
 pub mod Pass
 pub mod PassLaws
+pub mod Examples

@@ -1,14 +1,12 @@
 -- A pass over the shapes is a round over the intervals of those that count, unless one refuses; and what the loops of a pass go by.
-use Prim.Native.Nat.{ℕ, zero, suc, _+_, _-_, _*_, _≤_, _<_}
+use Prim.Native.Nat.{ℕ, _+_, _-_, _*_, _≤_, _<_}
 use native.Mathlib.Omega.{arith}
-use mathlib.Core.Path.{_≡_, refl, sym, ap, _∙_, subst}
+use mathlib.Core.Path.{_≡_, refl, sym, ap, _∙_}
 use mathlib.Core.Bool.{Bool, true, false, _&&_, cond}
 use mathlib.Core.Option.{Option, none, some}
-use mathlib.Core.List.{List, [], _∷_, map}
-use lib.Dec.{T}
+use mathlib.Core.List.{List, [], _∷_}
 use lib.IntN.{ℤ, pos, _+ℤ_}
-use lib.ListN.{length, take, drop, length-drop, drop-of-length-le}
-use lib.Seq.{take-all}
+use lib.ListN.{length, drop}
 use lib.Ieee.{Float, lt}
 use Rattle.floats.specs.Floats.{nought}
 use Rattle.cells.specs.Ranges.{gather, across}
@@ -19,16 +17,16 @@ use Rattle.world.specs.declared.Aabb.{Aabb}
 use Rattle.world.specs.declared.Found.the-variants.{Here, End}
 use Rattle.world.specs.declared.Cell.the-variants.{Unknown, Known}
 use Rattle.world.specs.Boxes.{moved, cube}
-use Rattle.world.specs.Laws.{no-box}
-use Rattle.world.specs.Space.{Space, run, boxHere, blockOf}
+use Rattle.world.specs.Laws.{run-none as boxes-none, run-end as boxes-end, run-more as boxes-more, run-past as boxes-past, unknown-block, known-block}
+use Rattle.world.specs.Space.{Space, boxHere, blockOf}
 use Rattle.support.specs.declared.Interval.{Interval}
 use Rattle.support.specs.declared.Reach.{Reach}
 use Rattle.support.specs.declared.Reach.the-variants.{Refused, To}
 use Rattle.support.specs.declared.Way.{Way}
-use Rattle.support.specs.Cover.{reachOne, round, enough}
+use Rattle.support.specs.Cover.{round, enough}
 use Rattle.support.specs.Rounds.{beyond, limit, begins, falls, goes-on, ends-short, ends-enough}
 use Rattle.support.specs.Support.{Shape, counts, interval, counting, ahead, intervals, allSupport, carried, shapesOf, rowShapes, layerShapes, allShapes}
-use Rattle.support.specs.Pass.{reachBy, step, pass, shapes, runShapes}
+use Rattle.support.specs.Pass.{reachBy, step, pass, runShapes}
 
 -- ---- a pass as a round
 
@@ -85,17 +83,13 @@ module _ (w : Way) (support : Bool) (by : Point) (s : List ℕ) (at : ℕ) where
   after r n = pass w r (runShapes support by s n at)
 
   -- the table ends here
-  pub run-end : (r : Reach) (left : ℕ) → 0 < left → boxHere s at ≡ End → after r left ≡ r
-  unfolding run
-  run-end r zero h e = absurd (omega arith)
-  run-end r (suc n) h e = rw e
+  pub run-end : (r : Reach) (left : ℕ) → boxHere s at ≡ End → after r left ≡ r
+  run-end r left e = rw (boxes-end s at left e)
 
   -- a box, then the rest
   pub run-on : (r q : Reach) (left : ℕ) (b : Aabb) → 0 < left → boxHere s at ≡ Here b → step w r (record { support = support; box = moved b by }) ≡ q →
       after r left ≡ pass w q (runShapes support by s (left - 1) (at + 48))
-  unfolding run
-  run-on r q zero b h e t = absurd (omega arith)
-  run-on r q (suc n) b h e t = let k : suc n - 1 ≡ n = omega arith in rw (e, k) (ap (λ (x : Reach). pass w x (runShapes support by s n (at + 48))) t)
+  run-on r q left b h e t = rw (boxes-more s at left b h e) (ap (λ (x : Reach). pass w x (runShapes support by s (left - 1) (at + 48))) t)
 
   pub run-refused : (r : Reach) (left : ℕ) (b : Aabb) → 0 < left → boxHere s at ≡ Here b → step w r (record { support = support; box = moved b by }) ≡ Refused →
       after r left ≡ Refused
@@ -103,36 +97,23 @@ module _ (w : Way) (support : Bool) (by : Point) (s : List ℕ) (at : ℕ) where
 
   -- no box is left
   pub run-none : (r : Reach) (left : ℕ) → left ≤ 0 → after r left ≡ r
-  unfolding run
-  run-none r zero h = refl
-  run-none r (suc n) h = absurd (omega arith)
-
--- ---- a part of a table
-
--- a part to the end is what is left past its start
-pub part-is : (n : ℕ) (s : List ℕ) → take (length s - n) (drop n s) ≡ drop n s
-part-is n s = take-all (length s - n) (drop n s) (omega (arith, length-drop n s))
+  run-none r left h = let z : left ≡ 0 = omega arith in rw (z, boxes-none s at)
 
 -- past its end a table has no boxes
 pub past : (w : Way) (support : Bool) (by : Point) (s : List ℕ) (n left : ℕ) (r : Reach) → length s < n → pass w r (runShapes support by (drop n s) left 0) ≡ r
-unfolding run
-past w support by s n left r h = rw (drop-of-length-le s {i = n} (omega arith)) (empty left)
-  where
-    empty : (k : ℕ) → pass w r (runShapes support by [] k 0) ≡ r
-    empty zero = refl
-    empty (suc k) = rw (no-box [] 0 (omega arith))
+past w support by s n left r h = rw (boxes-past s n left h)
 
 -- ---- a cell
 
 module _ (w : Way) (r : Reach) (boxes : List ℕ) (p : Point) where
   pub pass-unknown : pass w r (shapesOf (blockOf boxes Unknown p)) ≡ step w r (record { support = false; box = moved cube p })
-  unfolding shapesOf blockOf
-  pass-unknown = refl
+  unfolding shapesOf
+  pass-unknown = rw (unknown-block boxes p)
 
   module _ (may support : Bool) (first many : ℕ) where
     pub pass-known : pass w r (shapesOf (blockOf boxes (Known may support first many) p)) ≡ pass w r (runShapes support p (drop (48 * first) boxes) many 0)
-    unfolding shapesOf blockOf
-    pass-known = refl
+    unfolding shapesOf
+    pass-known = rw (known-block boxes p may support first many)
 
     pub pass-empty : many ≡ 0 → pass w r (shapesOf (blockOf boxes (Known may support first many) p)) ≡ r
     pass-empty e = pass-known ∙ run-none w support p (drop (48 * first) boxes) 0 r many (omega arith)

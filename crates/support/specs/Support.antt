@@ -1,5 +1,5 @@
 -- 01, The graph, "Supported segment". Definitions only.
-use mathlib.Core.Bool.{Bool, true, false, _&&_, _||_, cond}
+use mathlib.Core.Bool.{Bool, true, _&&_, _||_, cond}
 use mathlib.Core.Option.{Option, none, some}
 use mathlib.Core.List.{List, [], _∷_, map}
 use lib.IntN.{ℤ, pos, _-ℤ_}
@@ -69,8 +69,8 @@ narrowed start delta least greatest i =
     cond (eq delta nought)
     (cond (lt start least || lt greatest start) none (some i))
     (let a = div binary64 (sub binary64 least start) delta in
-     let b = div binary64 (sub binary64 greatest start) delta in
-     some (record { begin = larger (i .begin) (smaller a b); end = smaller (i .end) (larger a b) }))
+    let b = div binary64 (sub binary64 greatest start) delta in
+    some (record { begin = larger (i .begin) (smaller a b); end = smaller (i .end) (larger a b) }))
 
 abbrev pub andThen : {A B : Type 0} → Option A → (A → Option B) → Option B
 andThen none f = none

@@ -10,11 +10,10 @@ ghost use Rattle.world.specs.Space.{space};
 ghost use Rattle.cells.specs.RangeLaws.{Near};
 ghost use Rattle.support.specs.Support.{allShapes, carried, supported};
 use cells::Range;
+pub use line::support_interval;
 use world::Aabb;
 use world::Point;
 use world::Window;
-
-pub use line::support_interval;
 
 // A part of the centre line, borders included: 0 is at the one foot and 1 at the other.
 pub struct Interval {
@@ -58,9 +57,8 @@ fn carries(
 {
     let mut covered = 0.0;
     loop {
-        let Reach::To(next) =
-            pass::reach_all(w, cells, perms, shapes, boxes, way, ys, xs, zs, covered)
-        else {
+        let reach = pass::reach_all(w, cells, perms, shapes, boxes, way, ys, xs, zs, covered);
+        let Reach::To(next) = reach else {
             return false;
         };
         if 1.0 - floats::E <= next {

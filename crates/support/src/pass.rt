@@ -2,22 +2,18 @@
 //
 // A shape that counts and is no support refuses the way, and the pass ends there.
 ghost use mathlib.Core.Path.{_≡_};
-ghost use mathlib.Core.Bool.{Bool};
-ghost use mathlib.Core.List.{map};
 ghost use Prim.Native.Nat.{_*_};
 ghost use lib.ListN.{drop};
 ghost use Rattle.cells.specs.RangeLaws.{Near};
-ghost use Rattle.world.specs.declared.Aabb.{Aabb};
-ghost use Rattle.world.specs.Boxes.{moved};
-ghost use Rattle.world.specs.Space.{run, space};
+ghost use Rattle.world.specs.Space.{space};
 ghost use Rattle.support.specs.Cover.{reachOne};
 ghost use Rattle.support.specs.Support.{footprint, counts, shapesOf, rowShapes, layerShapes, allShapes};
-ghost use Rattle.support.specs.Pass.{step, pass, shapes, runShapes};
-use cells::Range;
+ghost use Rattle.support.specs.Pass.{step, pass, runShapes};
 use crate::Interval;
 use crate::Reach;
 use crate::Span;
 use crate::Way;
+use cells::Range;
 use world::Aabb;
 use world::Cell;
 use world::Found;
@@ -178,8 +174,7 @@ fn reach_row(
     let mut k: usize = 0;
     while k < zs.count {
         let z = zs.first + (k as i64);
-        let Reach::To(next) =
-            reach_cell(w, cells, perms, shapes, boxes, way, x, y, z, reached)
+        let Reach::To(next) = reach_cell(w, cells, perms, shapes, boxes, way, x, y, z, reached)
         else {
             return Reach::Refused;
         };
@@ -209,8 +204,7 @@ fn reach_layer(
     let mut k: usize = 0;
     while k < xs.count {
         let x = xs.first + (k as i64);
-        let Reach::To(next) =
-            reach_row(w, cells, perms, shapes, boxes, way, x, y, zs, reached)
+        let Reach::To(next) = reach_row(w, cells, perms, shapes, boxes, way, x, y, zs, reached)
         else {
             return Reach::Refused;
         };
@@ -240,8 +234,7 @@ pub(crate) fn reach_all(
     let mut k: usize = 0;
     while k < ys.count {
         let y = ys.first + (k as i64);
-        let Reach::To(next) =
-            reach_layer(w, cells, perms, shapes, boxes, way, y, xs, zs, reached)
+        let Reach::To(next) = reach_layer(w, cells, perms, shapes, boxes, way, y, xs, zs, reached)
         else {
             return Reach::Refused;
         };

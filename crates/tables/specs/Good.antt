@@ -51,8 +51,8 @@ module _ (w : Window) (cells shapes boxes : List ℕ) where
   unfolding badWorld
   not-bad-is-good e =
       let t =
-          each-fails (sizeAbove w) (not (eqb (length cells) (cellBytes w))) (notWhole 8 shapes) (notWhole 48 boxes)
-          (some (countAbove shapes) (records 8 shapes)) (some (runPast shapes (records 48 boxes)) (records 8 shapes)) (some (offRule boxes) (records 48 boxes)) e in
+      each-fails (sizeAbove w) (not (eqb (length cells) (cellBytes w))) (notWhole 8 shapes) (notWhole 48 boxes)
+      (some (countAbove shapes) (records 8 shapes)) (some (runPast shapes (records 48 boxes)) (records 8 shapes)) (some (offRule boxes) (records 48 boxes)) e in
       record {
         sizes = sizes-of w (t .0);
         eightACell = eqb-true (length cells) (cellBytes w) (not-false _ (t .1));
@@ -60,7 +60,7 @@ module _ (w : Window) (cells shapes boxes : List ℕ) where
         wholeBoxes = eqb-true (length boxes % 48) 0 (not-false _ (t .3));
         counts = λ i h. ltb-false 16 (countOf shapes i) (is-none (countAbove shapes) (records 8 shapes) (t .4) i h);
         runs = λ i h.
-          ltb-false (records 48 boxes) (firstOf shapes i + countOf shapes i)
-          (is-none (runPast shapes (records 48 boxes)) (records 8 shapes) (t .5) i h);
+            ltb-false (records 48 boxes) (firstOf shapes i + countOf shapes i)
+            (is-none (runPast shapes (records 48 boxes)) (records 8 shapes) (t .5) i h);
         rules = λ i h. not-false _ (is-none (offRule boxes) (records 48 boxes) (t .6) i h);
       }

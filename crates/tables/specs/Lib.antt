@@ -1,3 +1,4 @@
 pub mod BadWorld
 pub mod Laws
 pub mod Good
+pub mod Examples

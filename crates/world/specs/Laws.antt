@@ -1,6 +1,6 @@
 -- Laws of the tables and the space. First what callers meet: the block of a cell, known or unknown, and a run of boxes as a loop goes over it; then
 -- the window, records and boxes by the tests of the code.
-use Prim.Native.Nat.{ℕ, zero, suc, _+_, _-_, _*_, _/_, _^_, _≤_, _<_}
+use Prim.Native.Nat.{ℕ, zero, suc, _+_, _-_, _*_, _/_, _%_, _^_, _≤_, _<_}
 use native.Mathlib.Omega.{arith}
 use mathlib.Core.Path.{_≡_, refl, sym, ap, _∙_}
 use mathlib.Core.Bool.{Bool, true, false, _&&_, cond}
@@ -18,6 +18,7 @@ use mathlib.Core.List.{List, [], _∷_, map}
 use lib.ListN.{length, getD, take, drop, length-drop, drop-of-length-le}
 use lib.Seq.{take-all}
 use Rattle.fields.specs.Little.{field}
+use Rattle.fields.specs.Laws.{four, field-parts}
 use Rattle.world.specs.declared.Window.{Window}
 use Rattle.world.specs.declared.Point.{Point}
 use Rattle.world.specs.declared.Aabb.{Aabb}
@@ -208,6 +209,17 @@ module _ (s : List ℕ) (i : ℕ) where
   pub an-entry : i < length s / 8 → entryAt s i ≡ Of (field 4 s (8 * i)) (field 4 s (8 * i + 4))
   unfolding entryAt
   an-entry h = rw (lt-ltb i (length s / 8) h)
+
+-- read at once: the lower four bytes, and the higher ones
+module _ (s : List ℕ) (at : ℕ) (h : at + 8 ≤ length s) (bytes : (j : ℕ) → getD s j 0 < 256) where
+  low-fits : field 4 s at < 4294967296
+  low-fits = omega (arith, four s at (omega arith), bytes at, bytes (at + 1), bytes (at + 2), bytes (at + 3))
+
+  pub low-half : field 8 s at % 4294967296 ≡ field 4 s at
+  low-half = omega (arith, field-parts 4 4 s at h, low-fits)
+
+  pub high-half : field 8 s at / 4294967296 ≡ field 4 s (at + 4)
+  high-half = omega (arith, field-parts 4 4 s at h, low-fits)
 
 -- and back: what such a record says of its table
 module _ (s : List ℕ) (i : ℕ) where

@@ -4,7 +4,7 @@ ghost use Rattle.world.specs.Boxes.{meets, corner, plus, minus, moved, c
 use crate::Aabb;
 use crate::Point;
 
-// Strict overlap: touching faces do not intersect.
+// Whether two boxes share room, strictly on every axis.
 pub fn intersects(a: Aabb, b: Aabb) -> bool
     ensures { λ r. ⌜ r ≡ meets a b ⌝ }
 {
@@ -27,6 +27,7 @@ pub fn corner_of(x: i64, y: i64, z: i64) -> Point
     }
 }
 
+// The sum of two points, axis by axis.
 pub fn sum(p: Point, q: Point) -> Point
     ensures { λ r. ⌜ r ≡ plus p q ⌝ }
 {
@@ -37,6 +38,7 @@ pub fn sum(p: Point, q: Point) -> Point
     }
 }
 
+// p - q, axis by axis.
 pub fn difference(p: Point, q: Point) -> Point
     ensures { λ r. ⌜ r ≡ minus p q ⌝ }
 {
@@ -57,6 +59,7 @@ pub fn offset(b: Aabb, by: Point) -> Aabb
     }
 }
 
+// The full unit cube of an unknown cell, before it is moved to the cell.
 pub fn unit() -> Aabb
     ensures { λ r. ⌜ r ≡ cube ⌝ }
 {
@@ -110,7 +113,7 @@ pub fn from_feet(feet: Point, width: f64, height: f64) -> Aabb
     }
 }
 
-// Of each coordinate the smaller of it and 0, and the larger.
+// Of each coordinate the smaller of it and 0, and below the larger.
 fn min_zero(p: Point) -> Point
     ensures { λ r. ⌜ r ≡ minZero p ⌝ }
 {

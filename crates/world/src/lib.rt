@@ -18,6 +18,7 @@ pub use space::box_at;
 pub use space::cell_at;
 pub use space::entry_at;
 
+// A place in the world, or a difference of two.
 pub struct Point {
     pub x: f64,
     pub y: f64,
@@ -71,7 +72,8 @@ pub enum Entry {
     Missing,
 }
 
-// What the tables say of a cell.
+// What the tables say of a cell: whether a body may be in it, whether a body may stand on it, and its run of box records, which has none where the
+// cell does not collide.
 pub enum Cell {
     Unknown,
     Known {

@@ -55,15 +55,16 @@ fn record_of(w: Window, x: i64, y: i64, z: i64) -> Place
     Place::At(index(w.sx, w.sz, i, j, k))
 }
 
-// The two numbers of record i of a table of 8-byte records.
+// The two numbers of record i of a table of 8-byte records, by one read of 8 bytes.
 pub fn entry_at(s: &[u8], i: usize) -> Entry
     ensures { λ r. ⌜ r ≡ entryAt (now (s .entry)) i ⌝ }
 {
     if s.len() / 8 <= i {
         return Entry::Missing;
     }
-    let low = fields::u32_at(s, 8 * i);
-    let high = fields::u32_at(s, 8 * i + 4);
+    let both = fields::u64_at(s, 8 * i);
+    let low = (both % 4294967296) as u32;
+    let high = (both / 4294967296) as u32;
     Entry::Of(low, high)
 }
 

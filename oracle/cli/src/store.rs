@@ -30,7 +30,7 @@ pub fn lists(folder: &Path) -> Result<Vec<(&'static str, Vec<u8>)>, String> {
     Ok(vec![
         ("replay.bin", replay),
         ("replay.lst", names.into_bytes()),
-        ("geometry.bin", geometry_cases()),
+        ("geometry.bin", geometry_cases(folder)?),
         ("walkback.bin", walks::cases()),
         ("reader.bin", reader::cases()),
         ("jumps.bin", policy::jump_records()),
@@ -153,27 +153,33 @@ const GROUNDS: [&str; 10] = [
     "bodies",
 ];
 
-/// Of each of these kinds the first small seed whose search retains at least five
-/// nodes, with the questions of `geometry`.
-fn geometry_cases() -> Vec<u8> {
-    let mut out = Vec::new();
-    let mut count: u32 = 0;
-    for kind in GROUNDS {
-        let fits = |bytes: &Vec<u8>| {
-            let nodes = original::verdict(bytes).map_or(0, |answer| answer.nodes.len());
-            nodes >= 5 && bytes.len() <= 40 * scene::RECORD
-        };
-        let made = |seed| scene::make(seed, kind).expect("the kind is known");
-        let Some(bytes) = (1..=SEEDS).map(made).find(fits) else {
-            continue;
-        };
-        let scene = scene::read(&bytes).expect("it was searched");
+/// The first small seed of a kind whose search retains at least five nodes.
+fn ground(kind: &str) -> Option<Vec<u8>> {
+    let fits = |bytes: &Vec<u8>| {
+        let nodes = original::verdict(bytes).map_or(0, |answer| answer.nodes.len());
+        nodes >= 5 && bytes.len() <= 40 * scene::RECORD
+    };
+    let made = |seed| scene::make(seed, kind).expect("the kind is known");
+    (1..=SEEDS).map(made).find(fits)
+}
+
+/// A ground of each of these kinds, then the directed scenes that only a
+/// question tells apart (`asked-*.txt`), with the questions of `geometry`.
+fn geometry_cases(folder: &Path) -> Result<Vec<u8>, String> {
+    let mut scenes: Vec<Vec<u8>> = GROUNDS.iter().filter_map(|kind| ground(kind)).collect();
+    for file in directed(folder)? {
+        if file.starts_with("asked-") {
+            scenes.push(scene_file(&folder.join(&file).to_string_lossy())?);
+        }
+    }
+    let mut out = (scenes.len() as u32).to_le_bytes().to_vec();
+    for bytes in scenes {
+        let scene = scene::read(&bytes).map_err(|bad| format!("bad record {}", bad.record))?;
         let questions = geometry::questions(&scene);
         out.extend(((bytes.len() / scene::RECORD) as u32).to_le_bytes());
         out.extend((questions.len() as u32).to_le_bytes());
         out.extend(&bytes);
         out.extend(questions.iter().flat_map(geometry::Question::bytes));
-        count += 1;
     }
-    [&count.to_le_bytes()[..], &out].concat()
+    Ok(out)
 }

@@ -1,6 +1,105 @@
-//! Single-edit variants of the reading, run over scenes (to be written).
+//! Single-edit variants of the reading, run over scenes. README.md says what
+//! each command does.
 
-/// Runs the variants with the given arguments; false if one survives.
-pub fn run(_arguments: &[String]) -> bool {
-    unimplemented!("the variants are not written yet")
+mod agree;
+mod chance;
+mod claims;
+mod compare;
+mod draft;
+mod hunt;
+mod recipes;
+mod shrink;
+mod table;
+
+use std::path::PathBuf;
+
+use reading::{VARIANTS, Variant};
+use scene::KINDS;
+
+use crate::recipes::{RECIPES, Recipe};
+
+const USAGE: &str = "\
+oracle mutants
+oracle mutants agree SEED COUNT [RECIPE ..]
+oracle mutants claims SEED COUNT [RECIPE ..]
+oracle mutants tidy
+oracle mutants hunt RECIPE SEED COUNT ENOUGH [NAME ..]
+";
+
+/// Runs a command; false if a variant survives, or the reading and the
+/// original part.
+pub fn run(arguments: &[String]) -> bool {
+    let words: Vec<&str> = arguments.iter().map(String::as_str).collect();
+    match words[..] {
+        [] => table::table(&scenes(), 0, 20_000),
+        ["agree", seed, count, ref names @ ..] => {
+            let (seed, count) = (number(seed), number(count));
+            let agrees = |name: &&str| agree::agree(name, &recipe(name), seed, count);
+            recipes_of(names).iter().all(agrees) && agree::agree_policy(seed, count)
+        }
+        ["claims", seed, count, ref names @ ..] => {
+            let (seed, count) = (number(seed), number(count));
+            let keeps = |name: &&str| claims::claims(name, &recipe(name), seed, count);
+            recipes_of(names).iter().all(keeps)
+        }
+        ["tidy"] => {
+            hunt::tidy(&scenes());
+            true
+        }
+        ["hunt", name, seed, count, enough, ref names @ ..] => {
+            let first = number(seed);
+            let seeds = first..first + number(count);
+            hunt::hunt(
+                &chosen(names),
+                seeds,
+                number(enough) as usize,
+                &recipe(name),
+                &scenes(),
+            );
+            true
+        }
+        _ => {
+            eprint!("{USAGE}");
+            false
+        }
+    }
+}
+
+fn recipe(name: &str) -> Recipe {
+    recipes::recipe(name).unwrap_or_else(|| panic!("{name} is no recipe"))
+}
+
+/// The named recipes, or all of them and the kinds of `oracle make`.
+fn recipes_of<'a>(names: &[&'a str]) -> Vec<&'a str> {
+    if names.is_empty() {
+        return RECIPES.iter().chain(&KINDS).copied().collect();
+    }
+    names.to_vec()
+}
+
+/// The directed scenes.
+fn scenes() -> PathBuf {
+    PathBuf::from(concat!(env!("CARGO_MANIFEST_DIR"), "/../../scenes"))
+}
+
+fn number(word: &str) -> u64 {
+    word.parse()
+        .unwrap_or_else(|_| panic!("{word} is no number"))
+}
+
+/// The variants of these names, or those without a directed scene.
+fn chosen(names: &[&str]) -> Vec<Variant> {
+    if names.is_empty() {
+        return table::survivors(&scenes());
+    }
+    let named = |name: &&str| {
+        VARIANTS
+            .iter()
+            .copied()
+            .find(|variant| variant.name() == *name)
+    };
+    names
+        .iter()
+        .map(|name| named(name).unwrap_or_else(|| panic!("{name} is no variant")))
+        .collect()
 }

@@ -1,1 +1,28 @@
-//! A plain reading of document 01 (to be written).
+//! A plain reading of document 01: what each sentence says, one function a
+//! paragraph, without a thought for speed. It shares nothing with the original's
+//! code; where 01 leaves a sum to the source, it takes the source's.
+//!
+//! It comes with variants, each of which misreads one sentence on purpose, so
+//! that a scene can be shown to tell the sentence from its misreading.
+
+mod boxes;
+mod edge;
+mod graph;
+mod policy;
+mod request;
+mod route;
+mod search;
+mod steps;
+mod support;
+mod variant;
+mod world;
+
+pub use boxes::Area;
+pub use graph::{E, Graph};
+pub use policy::{
+    DAMAGING, DOOR, GRASS, IRON_DOOR, OPEN, Passage, Policy, WATER, fill_permissions,
+    find_path_request, jump_apex, passage, permission,
+};
+pub use request::{Rooms, bad_world, search, search_in, too_large, valid_request};
+pub use route::{is_route, reachable_points};
+pub use variant::{ASKED, VARIANTS, Variant};

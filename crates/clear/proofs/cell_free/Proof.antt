@@ -5,9 +5,8 @@ use denote.Ref.{now}
 use mir.Syntax.{w64}
 use mir.Val.{SFits}
 use mir.Facts.{toZ-ofZ}
-use Rattle.world.specs.Boxes.{corner, meets, moved, cube}
+use Rattle.world.specs.Boxes.{corner, meets, moved, cube, voxel}
 use Rattle.world.specs.Space.{cellAt, space}
-use Rattle.clear.specs.Clear.{voxel}
 use Rattle.clear.specs.Laws.{unknown-met, unknown-apart, may-be, may-not, apart}
 use borrow.Author.Needs.{needs}
 use Rattle.clear.proofs.cell_free.Statement.{statement}

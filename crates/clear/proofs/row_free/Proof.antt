@@ -1,88 +1,74 @@
 -- `clear::row_free` meets its contract. Assumes nothing.
-use Prim.Native.Nat.{ℕ, _≤_, _-_, _+_}
+use Prim.Native.Nat.{ℕ, _-_}
 use native.Mathlib.Omega.{arith}
-use mathlib.Core.Bool.{Bool, true, false, not}
-use mathlib.Core.Path.{_≡_, refl, sym, ap, _∙_}
+use mathlib.Core.Bool.{Bool}
+use mathlib.Core.List.{List}
+use mathlib.Core.Path.{_≡_, sym, _∙_}
 use borrow.Author.Needs.{needs}
 use borrow.Author.Tests.{not-true, not-false}
 use denote.Ref.{now}
-use mathlib.Core.List.{List}
-use lib.IntN.{pos, _+ℤ_}
 use mir.Syntax.{w64}
-use mir.Val.{SFits, toZ, ofZ}
-use mir.Facts.{toZ-ofZ, toZ-pos}
+use mir.Val.{toZ, ofZ}
+use mir.Facts.{toZ-ofZ}
+use Rattle.cells.specs.RangeLaws.{number-fits, number-is}
+use Rattle.cells.specs.declared.ranges.Range.{Range}
 use Rattle.world.specs.declared.Window.{Window}
 use Rattle.world.specs.declared.Aabb.{Aabb}
 use Rattle.world.specs.Space.{space}
 use Rattle.clear.specs.Clear.{holds, rowFree}
-use Rattle.clear.specs.Laws.{cellOf, row-is, begins, fails, goes-on, ends, sum-fits}
+use Rattle.clear.specs.Laws.{cellOf, row-is, begins, fails, goes-on, ends}
 use Rattle.clear.proofs.row_free.Statement.{statement}
 use Rattle.clear.proofs.row_free.Tie as tie
 
--- whether cell k of the row is free. The loop has its signed numbers as bits
-abbrev Turn : Window → List ℕ → List ℕ → List ℕ → List ℕ → Aabb → ℕ → ℕ → ℕ → ℕ → ℕ → Bool
-Turn w cells perms shapes boxes area x y z n = cellOf (space w cells perms shapes boxes) area (toZ w64 x) (toZ w64 y) (toZ w64 z)
+-- what turn k asks. The loop has its signed numbers as bits
+abbrev Turn : Window → List ℕ → List ℕ → List ℕ → List ℕ → Aabb → ℕ → ℕ → Range → ℕ → Bool
+Turn w cells perms shapes boxes area x y zs = cellOf (space w cells perms shapes boxes) area (toZ w64 x) (toZ w64 y) zs
 
 abbrev Inv-loop : tie.InvT-loop
-Inv-loop w cells perms shapes boxes area x y z n k₀ k =
-    holds (Turn w cells perms shapes boxes area x y z n) 0 n ≡ holds (Turn w cells perms shapes boxes area x y z n) k (n - k)
+Inv-loop w cells perms shapes boxes area x y zs k₀ k =
+    holds (Turn w cells perms shapes boxes area x y zs) 0 (zs .count) ≡ holds (Turn w cells perms shapes boxes area x y zs) k (zs .count - k)
 
 abbrev μ-loop : tie.MeasureT-loop
-μ-loop w cells perms shapes boxes area x y z n k₀ k = n - k
+μ-loop w cells perms shapes boxes area x y zs k₀ k = zs .count - k
 
 -- the same, of a start
 abbrev at : (s : tie.Start Inv-loop μ-loop) → ℕ → Bool
-at s = Turn (s .args .w) (now (s .args .cells)) (now (s .args .perms)) (now (s .args .shapes)) (now (s .args .boxes)) (s .args .area)
-    (ofZ w64 (s .args .x)) (ofZ w64 (s .args .y)) (ofZ w64 (s .args .z)) (s .args .n)
+at s = Turn (s .args .w) (now (s .args .cells)) (now (s .args .perms)) (now (s .args .shapes)) (now (s .args .boxes)) (s .args .area) (ofZ w64 (s .args .x)) (ofZ w64 (s .args .y)) (s .args .zs)
 
 whole : (s : tie.Start Inv-loop μ-loop) →
-    rowFree (space (s .args .w) (now (s .args .cells)) (now (s .args .perms)) (now (s .args .shapes)) (now (s .args .boxes))) (s .args .area)
-    (s .args .x) (s .args .y) (s .args .z) (s .args .n) ≡ holds (at s) 0 (s .args .n)
-whole s = rw (toZ-ofZ {w = w64} (s .fits .x), toZ-ofZ {w = w64} (s .fits .y), toZ-ofZ {w = w64} (s .fits .z)) (row-is _ _ _ _ _ _)
+    rowFree (space (s .args .w) (now (s .args .cells)) (now (s .args .perms)) (now (s .args .shapes)) (now (s .args .boxes))) (s .args .area) (s .args .x) (s .args .y) (s .args .zs) ≡ holds (at s) 0 (s .args .zs .count)
+whole s = rw (toZ-ofZ {w = w64} (s .fits .x), toZ-ofZ {w = w64} (s .fits .y)) (row-is _ _ _ _ _)
 
--- the number of a turn
-module _ (c : tie.In-loop Inv-loop μ-loop) where
-  step : toZ w64 (c .before .loop .k) ≡ pos (c .before .loop .k)
-  step = toZ-pos w64 (omega arith)
-
-  fits : SFits w64 (toZ w64 (ofZ w64 (c .before .before .before .before .before .before .args .z)) +ℤ pos (c .before .loop .k))
-  fits = rw (toZ-ofZ {w = w64} (c .before .before .before .before .before .before .fits .z)) (sum-fits (c .before .before .before .before .before .before .args .z) (c .before .loop .k) (c .before .before .before .before .before .before .pre .0) (omega arith))
-
-  sum-is : toZ w64 (ofZ w64 (toZ w64 (ofZ w64 (c .before .before .before .before .before .before .args .z)) +ℤ toZ w64 (c .before .loop .k))) ≡ toZ w64 (ofZ w64 (c .before .before .before .before .before .before .args .z)) +ℤ pos (c .before .loop .k)
-  sum-is = rw step (toZ-ofZ fits)
-
-one : (c : tie.After-cell-free Inv-loop μ-loop) → at (c .before .before .before .before .before .before .before) (c .before .before .loop .k) ≡ c .cell-free .result
+one : (c : tie.After-cell-free Inv-loop μ-loop) → at (c .before .before .before .before .before .before .before .before .before .before) (c .before .before .before .before .before .loop .k) ≡ c .cell-free .result
 unfolding cellOf
-one c = sym (rw (sum-is (c .before)) at (c .cell-free .ensures))
+one c = sym (rw (number-is (c .before .before .before .before .before .before .before .before .before .before .args .zs) (c .before .before .before .before .before .before .before .before .before .before .pre) (c .before .before .before .before .before .loop .k) (c .before .before .before .if1 .taken)) at (c .cell-free .ensures))
 
 loop-holds : tie.Need-loop-holds Inv-loop μ-loop
-loop-holds c = begins (at (c .before .before .before .before)) (c .before .before .before .before .args .n)
+loop-holds c = begins (at (c .before .before .before .before)) (c .before .before .before .before .args .zs .count)
 
-cast-cell-free : tie.Need-cast-cell-free Inv-loop μ-loop
-cast-cell-free c = record { sfits = omega arith }
+cast-z : tie.Need-cast-z Inv-loop μ-loop
+cast-z c = record { sfits = omega (arith, c .before .before .before .before .before .before .before .pre .count, c .if1 .taken) }
 
-add-cell-free : tie.Need-add-cell-free Inv-loop μ-loop
-add-cell-free c = rw (step c) (fits c)
+add-z : tie.Need-add-z Inv-loop μ-loop
+add-z c = number-fits (c .before .before .before .before .before .before .before .before .before .args .zs) (c .before .before .before .before .before .before .before .before .before .pre) (c .before .before .before .before .loop .k) (c .before .before .if1 .taken)
 
 cell-free-requires : tie.Need-cell-free-requires Inv-loop μ-loop
 cell-free-requires c κs = search needs
 
 returns : tie.Need-returns Inv-loop μ-loop
-returns c =
-    sym (whole (c .before .before .before .before .before .before .before .before) ∙ c .before .before .before .loop .inv ∙ fails (at (c .before .before .before .before .before .before .before .before)) (c .before .before .before .loop .k) (c .before .before .before .before .before .before .before .before .args .n) (c .before .before .loop-test .taken) (one (c .before) ∙ not-true _ (c .if1 .taken)))
+returns c = sym (whole (c .before .before .before .before .before .before .before .before .before .before .before) ∙ c .before .before .before .before .before .before .loop .inv ∙ fails (at (c .before .before .before .before .before .before .before .before .before .before .before)) (c .before .before .before .before .before .before .loop .k) (c .before .before .before .before .before .before .before .before .before .before .before .args .zs .count) (c .before .before .before .before .if1 .taken) (one (c .before) ∙ not-true _ (c .if2 .taken)))
 
 add-k : tie.Need-add-k Inv-loop μ-loop
-add-k c = search needs
+add-k c = omega (arith, c .before .before .before .before .before .before .before .before .before .before .before .pre .count, c .before .before .before .before .if1 .taken)
 
 loop-less : tie.Need-loop-less Inv-loop μ-loop
-loop-less c = search needs
+loop-less c = omega (arith, c .before .before .before .before .if1 .taken)
 
 loop-again : tie.Need-loop-again Inv-loop μ-loop
-loop-again c =
-    c .before .before .before .loop .inv ∙ goes-on (at (c .before .before .before .before .before .before .before .before)) (c .before .before .before .loop .k) (c .before .before .before .before .before .before .before .before .args .n) (c .before .before .loop-test .taken) (one (c .before) ∙ not-false _ (c .if1 .left))
+loop-again c = c .before .before .before .before .before .before .loop .inv ∙ goes-on (at (c .before .before .before .before .before .before .before .before .before .before .before)) (c .before .before .before .before .before .before .loop .k) (c .before .before .before .before .before .before .before .before .before .before .before .args .zs .count) (c .before .before .before .before .if1 .taken) (one (c .before) ∙ not-false _ (c .if2 .left))
 
 returns-2 : tie.Need-returns-2 Inv-loop μ-loop
-returns-2 c = sym (whole (c .before .before .before .before .before .before) ∙ c .before .loop .inv ∙ ends (at (c .before .before .before .before .before .before)) (c .before .loop .k) (c .before .before .before .before .before .before .args .n) (c .loop-test .left))
+returns-2 c = sym (whole (c .before .before .before .before .before .before .before) ∙ c .before .before .loop .inv ∙ ends (at (c .before .before .before .before .before .before .before)) (c .before .before .loop .k) (c .before .before .before .before .before .before .before .args .zs .count) (c .if1 .left))
 
 pub row-free-spec : {M : Type 1} → statement M
 row-free-spec =
@@ -91,8 +77,8 @@ row-free-spec =
     Inv-loop
     μ-loop
     loop-holds
-    cast-cell-free
-    add-cell-free
+    cast-z
+    add-z
     cell-free-requires
     returns
     add-k

@@ -12,22 +12,19 @@ use Rattle.heights.proofs.cell_next.Statement.{statement}
 use Rattle.heights.proofs.cell_next.Tie as tie
 
 -- signed numbers are what the machine reads back from their bits
-point : (c : tie.After-corner-of) → c .corner-of .result ≡ corner (c .before .before .before .before .before .args .cx) (c .before .before .before .before .before .args .y) (c .before .before .before .before .before .args .cz)
-point c =
+cell : (c : tie.After-cell-at) → cellAt (c .before .before .before .before .before .args .w) (now (c .before .before .before .before .before .args .cells)) (now (c .before .before .before .before .before .args .perms)) (now (c .before .before .before .before .before .args .shapes)) (c .before .before .before .before .before .args .cx) (c .before .before .before .before .before .args .y) (c .before .before .before .before .before .args .cz) ≡ c .cell-at .result
+cell c =
     let f : SFits w64 (c .before .before .before .before .before .args .cx) = c .before .before .before .before .before .fits .cx in
     let g : SFits w64 (c .before .before .before .before .before .args .y) = c .before .before .before .before .before .fits .y in
     let h : SFits w64 (c .before .before .before .before .before .args .cz) = c .before .before .before .before .before .fits .cz in
-    simp (toZ-ofZ, f, g, h) at (c .corner-of .ensures)
-
-cell : (c : tie.After-cell-at) → cellAt (c .before .before .before .before .before .before .args .w) (now (c .before .before .before .before .before .before .args .cells)) (now (c .before .before .before .before .before .before .args .perms)) (now (c .before .before .before .before .before .before .args .shapes)) (c .before .before .before .before .before .before .args .cx) (c .before .before .before .before .before .before .args .y) (c .before .before .before .before .before .before .args .cz) ≡ c .cell-at .result
-cell c =
-    let f : SFits w64 (c .before .before .before .before .before .before .args .cx) = c .before .before .before .before .before .before .fits .cx in
-    let g : SFits w64 (c .before .before .before .before .before .before .args .y) = c .before .before .before .before .before .before .fits .y in
-    let h : SFits w64 (c .before .before .before .before .before .before .args .cz) = c .before .before .before .before .before .before .fits .cz in
     sym (simp (toZ-ofZ, f, g, h) at (c .cell-at .ensures))
 
-corner-of-requires : tie.Need-corner-of-requires
-corner-of-requires c κs = search needs
+point : (c : tie.After-corner-of) → c .corner-of .result ≡ corner (c .before .before .before .before .before .before .before .before .before .before .args .cx) (c .before .before .before .before .before .before .before .before .before .before .args .y) (c .before .before .before .before .before .before .before .before .before .before .args .cz)
+point c =
+    let f : SFits w64 (c .before .before .before .before .before .before .before .before .before .before .args .cx) = c .before .before .before .before .before .before .before .before .before .before .fits .cx in
+    let g : SFits w64 (c .before .before .before .before .before .before .before .before .before .before .args .y) = c .before .before .before .before .before .before .before .before .before .before .fits .y in
+    let h : SFits w64 (c .before .before .before .before .before .before .before .before .before .before .args .cz) = c .before .before .before .before .before .before .before .before .before .before .fits .cz in
+    simp (toZ-ofZ, f, g, h) at (c .corner-of .ensures)
 
 cell-at-requires : tie.Need-cell-at-requires
 cell-at-requires c κs = search needs
@@ -38,6 +35,9 @@ enum-told c = search needs
 enum-known-support : tie.Need-enum-known-support
 enum-known-support c = search needs
 
+corner-of-requires : tie.Need-corner-of-requires
+corner-of-requires c κs = search needs
+
 table-next-requires : tie.Need-table-next-requires
 table-next-requires c κs = search needs
 
@@ -47,7 +47,7 @@ returns c = rw (cell (c .before .before) ∙ c .enum-told .given .1) (sym (unkno
 
 returns-2 : tie.Need-returns-2
 unfolding space
-returns-2 c = rw (cell (c .before .before .before .before .before) ∙ c .before .before .before .support .given .1) (rw (point (c .before .before .before .before .before .before)) at (c .table-next .ensures) ∙ sym (supports _ _ _ _ _ _ _ _ _ _ _ (c .before .if1 .taken)))
+returns-2 c = rw (cell (c .before .before .before .before .before .before) ∙ c .before .before .before .before .support .given .1) (rw (point (c .before)) at (c .table-next .ensures) ∙ sym (supports _ _ _ _ _ _ _ _ _ _ _ (c .before .before .if1 .taken)))
 
 returns-3 : tie.Need-returns-3
 unfolding space
@@ -57,10 +57,10 @@ pub cell-next-spec : {M : Type 1} → statement M
 cell-next-spec =
     tie.close
     (tie.spec
-    corner-of-requires
     cell-at-requires
     enum-told
     enum-known-support
+    corner-of-requires
     table-next-requires
     returns
     returns-2

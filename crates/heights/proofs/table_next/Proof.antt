@@ -2,7 +2,7 @@
 use Prim.Native.Nat.{_*_}
 use mathlib.Core.Path.{sym}
 use denote.Ref.{now}
-use Rattle.clear.specs.Laws.{part-is}
+use Rattle.world.specs.Laws.{part-is}
 use Rattle.heights.specs.Laws.{past}
 use borrow.Author.Needs.{needs}
 use Rattle.heights.proofs.table_next.Statement.{statement}

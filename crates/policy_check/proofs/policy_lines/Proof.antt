@@ -5,10 +5,10 @@ use Rattle.policy_check.proofs.policy_lines.Statement.{statement}
 use Rattle.policy_check.proofs.policy_lines.Tie as tie
 
 abbrev Inv-loop : tie.InvT-loop
-Inv-loop number₀ number = number ≤ 256
+Inv-loop all₀ combination₀ t3 all combination = combination ≤ 256
 
 abbrev μ-loop : tie.MeasureT-loop
-μ-loop number₀ number = 256 - number
+μ-loop all₀ combination₀ t3 all combination = 256 - combination
 
 loop-holds : tie.Need-loop-holds Inv-loop μ-loop
 loop-holds c = search needs
@@ -16,14 +16,23 @@ loop-holds c = search needs
 policy-line-requires : tie.Need-policy-line-requires Inv-loop μ-loop
 policy-line-requires c κs = search needs
 
-add-number : tie.Need-add-number Inv-loop μ-loop
-add-number c = search needs
+add-combination : tie.Need-add-combination Inv-loop μ-loop
+add-combination c = search needs
 
 loop-less : tie.Need-loop-less Inv-loop μ-loop
 loop-less c = search needs
 
 loop-again : tie.Need-loop-again Inv-loop μ-loop
 loop-again c = search needs
+
+slice-aggregate-write-all : tie.Need-slice-aggregate-write-all Inv-loop μ-loop
+slice-aggregate-write-all c = search needs
+
+write-all-requires : tie.Need-write-all-requires Inv-loop μ-loop
+write-all-requires c κs = search needs
+
+digests-requires : tie.Need-digests-requires Inv-loop μ-loop
+digests-requires c κs = search needs
 
 returns : tie.Need-returns Inv-loop μ-loop
 returns c = search needs
@@ -36,7 +45,10 @@ policy-lines-spec =
     μ-loop
     loop-holds
     policy-line-requires
-    add-number
+    add-combination
     loop-less
     loop-again
+    slice-aggregate-write-all
+    write-all-requires
+    digests-requires
     returns)

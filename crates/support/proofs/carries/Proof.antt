@@ -29,8 +29,8 @@ loop-holds c = carried-begins (c .before .before .before .before .args .way) (un
 reach-all-requires : tie.Need-reach-all-requires Inv-loop μ-loop
 reach-all-requires c κs = (c .before .before .before .before .before .pre .0, c .before .before .before .before .before .pre .1, c .before .before .before .before .before .pre .2)
 
-enum-known-next : tie.Need-enum-known-next Inv-loop μ-loop
-enum-known-next c = search needs
+enum-known-reach : tie.Need-enum-known-reach Inv-loop μ-loop
+enum-known-reach c = search needs
 
 enum-told : tie.Need-enum-told Inv-loop μ-loop
 enum-told c = search needs
@@ -40,18 +40,18 @@ returns c = sym (c .before .before .before .loop .inv ∙ carried-refused (c .be
 
 returns-2 : tie.Need-returns-2 Inv-loop μ-loop
 unfolding enough
-returns-2 c = sym (c .before .before .before .before .before .loop .inv ∙ carried-enough (c .before .before .before .before .before .before .before .before .before .before .args .way) (under (c .before .before .before .before .before .before .before .before .before .before)) (c .before .before .before .before .before .loop .covered) _ (sym (c .before .before .before .before .reach-all .ensures) ∙ c .before .before .next .given .1) (c .if1 .taken))
+returns-2 c = sym (c .before .before .before .before .before .loop .inv ∙ carried-enough (c .before .before .before .before .before .before .before .before .before .before .args .way) (under (c .before .before .before .before .before .before .before .before .before .before)) (c .before .before .before .before .before .loop .covered) _ (sym (c .before .before .before .before .reach-all .ensures) ∙ c .before .before .reach .given .1) (c .if1 .taken))
 
 returns-3 : tie.Need-returns-3 Inv-loop μ-loop
 unfolding enough
 returns-3 c =
-    sym (c .before .before .before .before .before .before .loop .inv ∙ carried-short (c .before .before .before .before .before .before .before .before .before .before .before .args .way) (under (c .before .before .before .before .before .before .before .before .before .before .before)) (c .before .before .before .before .before .before .loop .covered) _ (sym (c .before .before .before .before .before .reach-all .ensures) ∙ c .before .before .before .next .given .1) (c .before .if1 .left) (not-true _ (c .if2 .taken)))
+    sym (c .before .before .before .before .before .before .loop .inv ∙ carried-short (c .before .before .before .before .before .before .before .before .before .before .before .args .way) (under (c .before .before .before .before .before .before .before .before .before .before .before)) (c .before .before .before .before .before .before .loop .covered) _ (sym (c .before .before .before .before .before .reach-all .ensures) ∙ c .before .before .before .reach .given .1) (c .before .if1 .left) (not-true _ (c .if2 .taken)))
 
 loop-less : tie.Need-loop-less Inv-loop μ-loop
-loop-less c = carried-falls (c .before .before .before .before .before .before .before .before .before .before .before .args .way) (under (c .before .before .before .before .before .before .before .before .before .before .before)) (c .before .before .before .before .before .before .loop .covered) _ (sym (c .before .before .before .before .before .reach-all .ensures) ∙ c .before .before .before .next .given .1) (not-false _ (c .if2 .left))
+loop-less c = carried-falls (c .before .before .before .before .before .before .before .before .before .before .before .args .way) (under (c .before .before .before .before .before .before .before .before .before .before .before)) (c .before .before .before .before .before .before .loop .covered) _ (sym (c .before .before .before .before .before .reach-all .ensures) ∙ c .before .before .before .reach .given .1) (not-false _ (c .if2 .left))
 
 loop-again : tie.Need-loop-again Inv-loop μ-loop
-loop-again c = c .before .before .before .before .before .before .loop .inv ∙ carried-on (c .before .before .before .before .before .before .before .before .before .before .before .args .way) (under (c .before .before .before .before .before .before .before .before .before .before .before)) (c .before .before .before .before .before .before .loop .covered) _ (sym (c .before .before .before .before .before .reach-all .ensures) ∙ c .before .before .before .next .given .1) (not-false _ (c .if2 .left))
+loop-again c = c .before .before .before .before .before .before .loop .inv ∙ carried-on (c .before .before .before .before .before .before .before .before .before .before .before .args .way) (under (c .before .before .before .before .before .before .before .before .before .before .before)) (c .before .before .before .before .before .before .loop .covered) _ (sym (c .before .before .before .before .before .reach-all .ensures) ∙ c .before .before .before .reach .given .1) (not-false _ (c .if2 .left))
 
 pub carries-spec : {M : Type 1} → statement M
 carries-spec =
@@ -61,7 +61,7 @@ carries-spec =
     μ-loop
     loop-holds
     reach-all-requires
-    enum-known-next
+    enum-known-reach
     enum-told
     returns
     returns-2

@@ -1,6 +1,6 @@
 -- `support::supported_segment` meets its contract. Assumes nothing.
 use native.Mathlib.Omega.{arith}
-use mathlib.Core.Path.{_≡_, refl, _∙_}
+use mathlib.Core.Path.{_∙_}
 use borrow.Author.Needs.{needs}
 use Rattle.cells.specs.RangeLaws.{less-none, floors-near, reached-near}
 use Rattle.support.specs.Support.{shapesUnder, supported}

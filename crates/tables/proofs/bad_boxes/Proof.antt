@@ -56,9 +56,10 @@ loop-less : tie.Need-loop-less Inv-loop μ-loop
 loop-less c = omega (arith, below (c .before))
 
 loop-again : tie.Need-loop-again Inv-loop μ-loop
-loop-again c =
-    (omega (arith, below (c .before)),
-    none-more _ _ (c .before .before .before .before .before .before .loop .inv .1) (sym (told (c .before)) ∙ c .if1 .left))
+loop-again c = (
+  omega (arith, below (c .before)),
+  none-more _ _ (c .before .before .before .before .before .before .loop .inv .1) (sym (told (c .before)) ∙ c .if1 .left),
+)
 
 pub bad-boxes-spec : {M : Type 1} → statement M
 bad-boxes-spec =

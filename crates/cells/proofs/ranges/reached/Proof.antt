@@ -1,7 +1,7 @@
 -- `cells::ranges::reached` meets its contract. Assumes nothing.
 use native.Mathlib.Omega.{arith}
 use Prim.Native.Nat.{_≤_, _^_}
-use mathlib.Core.Path.{_≡_, ap, _∙_}
+use mathlib.Core.Path.{_≡_, _∙_}
 use lib.IntN.{pos, _-ℤ_}
 use lib.Signed.{mag}
 use mir.Syntax.{w64}

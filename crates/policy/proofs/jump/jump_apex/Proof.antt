@@ -4,7 +4,7 @@ use Prim.Native.Nat.{_≤_, _-_}
 use native.Mathlib.Omega.{arith}
 use borrow.Author.Needs.{needs}
 use lib.Ieee.{ofBits}
-use Rattle.policy.specs.Laws.{endless, at-rest, ticked, drag-bits}
+use Rattle.policy.specs.JumpLaws.{endless, at-rest, ticked, drag-bits}
 use Rattle.policy.specs.Jump.{jumpApex, apexOf, after}
 use Rattle.policy.proofs.jump.jump_apex.Statement.{statement}
 use Rattle.policy.proofs.jump.jump_apex.Tie as tie

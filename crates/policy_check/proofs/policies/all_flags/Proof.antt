@@ -7,10 +7,10 @@ use Rattle.policy_check.proofs.policies.all_flags.Statement.{statement}
 use Rattle.policy_check.proofs.policies.all_flags.Tie as tie
 
 abbrev Inv-loop : tie.InvT-loop
-Inv-loop flags₀ i₀ flags i = (i ≤ 255) × (length flags ≡ 256)
+Inv-loop flags₀ bits₀ flags bits = (bits ≤ 255) × (length flags ≡ 256)
 
 abbrev μ-loop : tie.MeasureT-loop
-μ-loop flags₀ i₀ flags i = 255 - i
+μ-loop flags₀ bits₀ flags bits = 255 - bits
 
 loop-holds : tie.Need-loop-holds Inv-loop μ-loop
 loop-holds c = search needs
@@ -21,8 +21,8 @@ cast-flags c = search needs
 array-write-flags : tie.Need-array-write-flags Inv-loop μ-loop
 array-write-flags c = search needs
 
-add-i : tie.Need-add-i Inv-loop μ-loop
-add-i c = search needs
+add-bits : tie.Need-add-bits Inv-loop μ-loop
+add-bits c = search needs
 
 loop-less : tie.Need-loop-less Inv-loop μ-loop
 loop-less c = search needs
@@ -45,7 +45,7 @@ all-flags-spec =
     loop-holds
     cast-flags
     array-write-flags
-    add-i
+    add-bits
     loop-less
     loop-again
     returns

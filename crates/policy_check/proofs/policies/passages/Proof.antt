@@ -1,14 +1,16 @@
 -- `policy_check::policies::passages` is safe and ends. Assumes nothing.
 use Prim.Native.Nat.{_≤_, _-_}
+use mathlib.Core.Path.{_≡_}
+use lib.ListN.{length}
 use borrow.Author.Needs.{needs}
 use Rattle.policy_check.proofs.policies.passages.Statement.{statement}
 use Rattle.policy_check.proofs.policies.passages.Tie as tie
 
 abbrev Inv-loop : tie.InvT-loop
-Inv-loop policy d₀ bits₀ d bits = bits ≤ 255
+Inv-loop policy table₀ bits₀ table bits = (bits ≤ 255) × (length table ≡ 256)
 
 abbrev μ-loop : tie.MeasureT-loop
-μ-loop policy d₀ bits₀ d bits = 255 - bits
+μ-loop policy table₀ bits₀ table bits = 255 - bits
 
 loop-holds : tie.Need-loop-holds Inv-loop μ-loop
 loop-holds c = search needs
@@ -19,8 +21,11 @@ door-passage-requires c κs = search needs
 passage-number-requires : tie.Need-passage-number-requires Inv-loop μ-loop
 passage-number-requires c κs = search needs
 
-with-requires : tie.Need-with-requires Inv-loop μ-loop
-with-requires c κs = search needs
+cast-table : tie.Need-cast-table Inv-loop μ-loop
+cast-table c = search needs
+
+array-write-table : tie.Need-array-write-table Inv-loop μ-loop
+array-write-table c = search needs
 
 add-bits : tie.Need-add-bits Inv-loop μ-loop
 add-bits c = search needs
@@ -46,7 +51,8 @@ passages-spec =
     loop-holds
     door-passage-requires
     passage-number-requires
-    with-requires
+    cast-table
+    array-write-table
     add-bits
     loop-less
     loop-again

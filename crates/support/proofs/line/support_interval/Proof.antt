@@ -1,5 +1,5 @@
 -- `support::line::support_interval` meets its contract. Assumes nothing.
-use mathlib.Core.Path.{_≡_, sym, ap, _∙_}
+use mathlib.Core.Path.{sym, ap, _∙_}
 use borrow.Author.Needs.{needs}
 use Rattle.support.specs.Support.{told, interval}
 use Rattle.support.proofs.line.support_interval.Statement.{statement}

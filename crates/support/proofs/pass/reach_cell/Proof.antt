@@ -1,5 +1,5 @@
 -- `support::pass::reach_cell` meets its contract. Assumes nothing.
-use mathlib.Core.Path.{_≡_, sym, ap, _∙_}
+use mathlib.Core.Path.{_≡_, sym, _∙_}
 use denote.Ref.{now}
 use mir.Syntax.{w64}
 use mir.Val.{SFits}

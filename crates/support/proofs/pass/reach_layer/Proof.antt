@@ -5,12 +5,11 @@ use mathlib.Core.Path.{_≡_, sym, ap, _∙_}
 use mathlib.Core.List.{List}
 use borrow.Author.Needs.{needs}
 use denote.Ref.{now}
-use lib.IntN.{pos, _+ℤ_}
 use mir.Syntax.{w64}
-use mir.Val.{SFits, toZ, ofZ}
-use mir.Facts.{toZ-ofZ, toZ-pos}
+use mir.Val.{toZ, ofZ}
+use mir.Facts.{toZ-ofZ}
 use Rattle.cells.specs.Ranges.{gather}
-use Rattle.cells.specs.RangeLaws.{fold-begins, fold-ends, sum-fits}
+use Rattle.cells.specs.RangeLaws.{fold-begins, fold-ends, number-fits, number-is}
 use Rattle.cells.specs.declared.ranges.Range.{Range}
 use Rattle.world.specs.declared.Window.{Window}
 use Rattle.world.specs.Space.{space}
@@ -46,23 +45,9 @@ passed : (s : tie.Start Inv-loop μ-loop) →
     ≡ pass (s .args .way) (To (s .args .covered)) (gather (at s) 0 (s .args .xs .count))
 passed s = ap (λ (l : List Shape). pass (s .args .way) (To (s .args .covered)) l) (whole s)
 
--- the number of a turn
-module _ (c : tie.After-struct-told Inv-loop μ-loop) where
-  number : toZ w64 (c .before .before .before .before .loop .k) ≡ pos (c .before .before .before .before .loop .k)
-  number = toZ-pos w64 (omega (arith, c .before .before .before .before .before .before .before .before .before .pre .0 .count, c .before .before .if1 .taken))
-
-  first : toZ w64 (ofZ w64 (c .before .before .before .before .before .before .before .before .before .args .xs .first)) ≡ c .before .before .before .before .before .before .before .before .before .args .xs .first
-  first = toZ-ofZ (record { sfits = omega (arith, c .before .before .before .before .before .before .before .before .before .pre .0 .first) })
-
-  fits : SFits w64 (c .before .before .before .before .before .before .before .before .before .args .xs .first +ℤ pos (c .before .before .before .before .loop .k))
-  fits = sum-fits (c .before .before .before .before .before .before .before .before .before .args .xs .first) (c .before .before .before .before .loop .k) (c .before .before .before .before .before .before .before .before .before .pre .0 .first) (omega (arith, c .before .before .before .before .before .before .before .before .before .pre .0 .count, c .before .before .if1 .taken))
-
-  sum-is : toZ w64 (ofZ w64 (toZ w64 (ofZ w64 (c .before .before .before .before .before .before .before .before .before .args .xs .first)) +ℤ toZ w64 (c .before .before .before .before .loop .k))) ≡ c .before .before .before .before .before .before .before .before .before .args .xs .first +ℤ pos (c .before .before .before .before .loop .k)
-  sum-is = rw (first, number) (toZ-ofZ fits)
-
 one : (c : tie.After-reach-row Inv-loop μ-loop) → pass (c .before .before .before .before .before .before .before .before .before .before .args .way) (To (c .before .before .before .before .before .loop .reached)) (at (c .before .before .before .before .before .before .before .before .before .before) (c .before .before .before .before .before .loop .k)) ≡ c .reach-row .result
 unfolding rowOf
-one c = sym (rw (sum-is (c .before)) at (c .reach-row .ensures))
+one c = sym (rw (number-is (c .before .before .before .before .before .before .before .before .before .before .args .xs) (c .before .before .before .before .before .before .before .before .before .before .pre .0) (c .before .before .before .before .before .loop .k) (c .before .before .before .if1 .taken)) at (c .reach-row .ensures))
 
 loop-holds : tie.Need-loop-holds Inv-loop μ-loop
 loop-holds c = fold-begins (step (c .before .before .before .before .args .way)) (at (c .before .before .before .before)) (To (c .before .before .before .before .args .covered)) (c .before .before .before .before .args .xs .count)
@@ -71,7 +56,7 @@ cast-x : tie.Need-cast-x Inv-loop μ-loop
 cast-x c = record { sfits = omega (arith, c .before .before .before .before .before .before .before .pre .0 .count, c .if1 .taken) }
 
 add-x : tie.Need-add-x Inv-loop μ-loop
-add-x c = rw (first c, number c) (fits c)
+add-x c = number-fits (c .before .before .before .before .before .before .before .before .before .args .xs) (c .before .before .before .before .before .before .before .before .before .pre .0) (c .before .before .before .before .loop .k) (c .before .before .if1 .taken)
 
 reach-row-requires : tie.Need-reach-row-requires Inv-loop μ-loop
 reach-row-requires c κs = c .before .before .before .before .before .before .before .before .before .pre .1

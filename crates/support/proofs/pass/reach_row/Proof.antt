@@ -5,12 +5,11 @@ use mathlib.Core.Path.{_≡_, sym, ap, _∙_}
 use mathlib.Core.List.{List}
 use borrow.Author.Needs.{needs}
 use denote.Ref.{now}
-use lib.IntN.{pos, _+ℤ_}
 use mir.Syntax.{w64}
-use mir.Val.{SFits, toZ, ofZ}
-use mir.Facts.{toZ-ofZ, toZ-pos}
+use mir.Val.{toZ, ofZ}
+use mir.Facts.{toZ-ofZ}
 use Rattle.cells.specs.Ranges.{gather}
-use Rattle.cells.specs.RangeLaws.{fold-begins, fold-ends, sum-fits}
+use Rattle.cells.specs.RangeLaws.{fold-begins, fold-ends, number-fits, number-is}
 use Rattle.cells.specs.declared.ranges.Range.{Range}
 use Rattle.world.specs.declared.Window.{Window}
 use Rattle.world.specs.Space.{space}
@@ -46,23 +45,9 @@ passed : (s : tie.Start Inv-loop μ-loop) →
     ≡ pass (s .args .way) (To (s .args .covered)) (gather (at s) 0 (s .args .zs .count))
 passed s = ap (λ (l : List Shape). pass (s .args .way) (To (s .args .covered)) l) (whole s)
 
--- the number of a turn
-module _ (c : tie.After-struct-told Inv-loop μ-loop) where
-  number : toZ w64 (c .before .before .before .before .loop .k) ≡ pos (c .before .before .before .before .loop .k)
-  number = toZ-pos w64 (omega (arith, c .before .before .before .before .before .before .before .before .before .pre .count, c .before .before .if1 .taken))
-
-  first : toZ w64 (ofZ w64 (c .before .before .before .before .before .before .before .before .before .args .zs .first)) ≡ c .before .before .before .before .before .before .before .before .before .args .zs .first
-  first = toZ-ofZ (record { sfits = omega (arith, c .before .before .before .before .before .before .before .before .before .pre .first) })
-
-  fits : SFits w64 (c .before .before .before .before .before .before .before .before .before .args .zs .first +ℤ pos (c .before .before .before .before .loop .k))
-  fits = sum-fits (c .before .before .before .before .before .before .before .before .before .args .zs .first) (c .before .before .before .before .loop .k) (c .before .before .before .before .before .before .before .before .before .pre .first) (omega (arith, c .before .before .before .before .before .before .before .before .before .pre .count, c .before .before .if1 .taken))
-
-  sum-is : toZ w64 (ofZ w64 (toZ w64 (ofZ w64 (c .before .before .before .before .before .before .before .before .before .args .zs .first)) +ℤ toZ w64 (c .before .before .before .before .loop .k))) ≡ c .before .before .before .before .before .before .before .before .before .args .zs .first +ℤ pos (c .before .before .before .before .loop .k)
-  sum-is = rw (first, number) (toZ-ofZ fits)
-
 one : (c : tie.After-reach-cell Inv-loop μ-loop) → pass (c .before .before .before .before .before .before .before .before .before .before .args .way) (To (c .before .before .before .before .before .loop .reached)) (at (c .before .before .before .before .before .before .before .before .before .before) (c .before .before .before .before .before .loop .k)) ≡ c .reach-cell .result
 unfolding cellOf
-one c = sym (rw (sum-is (c .before)) at (c .reach-cell .ensures))
+one c = sym (rw (number-is (c .before .before .before .before .before .before .before .before .before .before .args .zs) (c .before .before .before .before .before .before .before .before .before .before .pre) (c .before .before .before .before .before .loop .k) (c .before .before .before .if1 .taken)) at (c .reach-cell .ensures))
 
 loop-holds : tie.Need-loop-holds Inv-loop μ-loop
 loop-holds c = fold-begins (step (c .before .before .before .before .args .way)) (at (c .before .before .before .before)) (To (c .before .before .before .before .args .covered)) (c .before .before .before .before .args .zs .count)
@@ -71,7 +56,7 @@ cast-z : tie.Need-cast-z Inv-loop μ-loop
 cast-z c = record { sfits = omega (arith, c .before .before .before .before .before .before .before .pre .count, c .if1 .taken) }
 
 add-z : tie.Need-add-z Inv-loop μ-loop
-add-z c = rw (first c, number c) (fits c)
+add-z c = number-fits (c .before .before .before .before .before .before .before .before .before .args .zs) (c .before .before .before .before .before .before .before .before .before .pre) (c .before .before .before .before .loop .k) (c .before .before .if1 .taken)
 
 reach-cell-requires : tie.Need-reach-cell-requires Inv-loop μ-loop
 reach-cell-requires c κs = search needs

@@ -1,15 +1,15 @@
 -- `support::pass::reach_run` meets its contract. Assumes nothing.
 use Prim.Native.Nat.{_≤_}
 use native.Mathlib.Omega.{arith}
-use mathlib.Core.Path.{_≡_, refl, sym, ap, _∙_}
+use mathlib.Core.Path.{_≡_, refl, sym, _∙_}
 use borrow.Author.Needs.{needs}
 use denote.Ref.{now}
 use lib.ListN.{length}
-use Rattle.world.specs.declared.Found.the-variants.{Here, End}
+use Rattle.world.specs.declared.Found.the-variants.{Here}
 use Rattle.world.specs.Boxes.{moved}
 use Rattle.world.specs.Laws.{box-room}
 use Rattle.world.specs.Space.{boxHere}
-use Rattle.support.specs.declared.Reach.the-variants.{Refused, To}
+use Rattle.support.specs.declared.Reach.the-variants.{To}
 use Rattle.support.specs.Pass.{step, pass, runShapes}
 use Rattle.support.specs.PassLaws.{run-end, run-on, run-refused, run-none}
 use Rattle.support.proofs.pass.reach_run.Statement.{statement}
@@ -44,7 +44,7 @@ enum-told : tie.Need-enum-told Inv-loop μ-loop
 enum-told c = search needs
 
 returns : tie.Need-returns Inv-loop μ-loop
-returns c = sym (c .before .before .before .before .loop .inv .1 ∙ run-end (c .before .before .before .before .before .before .args .way) (c .before .before .before .before .before .before .args .support) (c .before .before .before .before .before .before .args .by) (now (c .before .before .before .before .before .before .args .part)) (c .before .before .before .before .loop .at) (To (c .before .before .before .before .loop .reached)) (c .before .before .before .before .loop .left) (c .before .before .before .loop-test .taken) (sym (c .before .before .box-at .ensures) ∙ c .enum-told .given .1))
+returns c = sym (c .before .before .before .before .loop .inv .1 ∙ run-end (c .before .before .before .before .before .before .args .way) (c .before .before .before .before .before .before .args .support) (c .before .before .before .before .before .before .args .by) (now (c .before .before .before .before .before .before .args .part)) (c .before .before .before .before .loop .at) (To (c .before .before .before .before .loop .reached)) (c .before .before .before .before .loop .left) (sym (c .before .before .box-at .ensures) ∙ c .enum-told .given .1))
 
 offset-requires : tie.Need-offset-requires Inv-loop μ-loop
 offset-requires c κs = search needs
@@ -76,7 +76,7 @@ loop-again : tie.Need-loop-again Inv-loop μ-loop
 loop-again c = (
   box-room (now (c .before .before .before .before .before .before .before .before .before .before .before .before .args .part)) (c .before .before .before .before .before .before .before .before .before .before .loop .at) _ (here (c .before .before .before .before .before .before)),
   c .before .before .before .before .before .before .before .before .before .before .loop .inv .1
-  ∙ run-on (c .before .before .before .before .before .before .before .before .before .before .before .before .args .way) (c .before .before .before .before .before .before .before .before .before .before .before .before .args .support) (c .before .before .before .before .before .before .before .before .before .before .before .before .args .by) (now (c .before .before .before .before .before .before .before .before .before .before .before .before .args .part)) (c .before .before .before .before .before .before .before .before .before .before .loop .at) (To (c .before .before .before .before .before .before .before .before .before .before .loop .reached)) _ (c .before .before .before .before .before .before .before .before .before .before .loop .left) _ (c .before .before .before .before .before .before .before .before .before .loop-test .taken) (here (c .before .before .before .before .before .before)) (stepped (c .before .before .before) ∙ c .before .next .given .1),
+      ∙ run-on (c .before .before .before .before .before .before .before .before .before .before .before .before .args .way) (c .before .before .before .before .before .before .before .before .before .before .before .before .args .support) (c .before .before .before .before .before .before .before .before .before .before .before .before .args .by) (now (c .before .before .before .before .before .before .before .before .before .before .before .before .args .part)) (c .before .before .before .before .before .before .before .before .before .before .loop .at) (To (c .before .before .before .before .before .before .before .before .before .before .loop .reached)) _ (c .before .before .before .before .before .before .before .before .before .before .loop .left) _ (c .before .before .before .before .before .before .before .before .before .loop-test .taken) (here (c .before .before .before .before .before .before)) (stepped (c .before .before .before) ∙ c .before .next .given .1),
 )
 
 returns-3 : tie.Need-returns-3 Inv-loop μ-loop

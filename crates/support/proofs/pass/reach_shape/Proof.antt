@@ -1,6 +1,6 @@
 -- `support::pass::reach_shape` meets its contract. Assumes nothing.
 use mathlib.Core.Option.{Option}
-use mathlib.Core.Path.{_≡_, sym, ap, _∙_}
+use mathlib.Core.Path.{sym, ap, _∙_}
 use borrow.Author.Needs.{needs}
 use borrow.Author.Tests.{not-true, not-false}
 use Rattle.support.specs.declared.Interval.{Interval}

@@ -1,10 +1,11 @@
 -- `support::pass::reach_table` meets its contract. Assumes nothing.
 use Prim.Native.Nat.{_*_}
-use mathlib.Core.Path.{sym, _∙_}
+use mathlib.Core.Path.{sym}
 use denote.Ref.{now}
 use borrow.Author.Needs.{needs}
+use Rattle.world.specs.Laws.{part-is}
 use Rattle.support.specs.declared.Reach.the-variants.{To}
-use Rattle.support.specs.PassLaws.{part-is, past}
+use Rattle.support.specs.PassLaws.{past}
 use Rattle.support.proofs.pass.reach_table.Statement.{statement}
 use Rattle.support.proofs.pass.reach_table.Tie as tie
 

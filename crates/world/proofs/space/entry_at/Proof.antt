@@ -1,6 +1,10 @@
 -- `world::space::entry_at` meets its contract. Assumes nothing.
-use mathlib.Core.Path.{sym, ap, _∙_}
-use Rattle.world.specs.Laws.{no-entry, an-entry}
+use denote.Ref.{now}
+use Prim.Native.Nat.{_+_, _*_, _≤_, _<_}
+use native.Mathlib.Omega.{arith}
+use mathlib.Core.Path.{sym}
+use lib.ListN.{length, getD}
+use Rattle.world.specs.Laws.{no-entry, an-entry, low-half, high-half}
 use borrow.Author.Needs.{needs}
 use Rattle.world.proofs.space.entry_at.Statement.{statement}
 use Rattle.world.proofs.space.entry_at.Tie as tie
@@ -8,32 +12,29 @@ use Rattle.world.proofs.space.entry_at.Tie as tie
 returns : tie.Need-returns
 returns c = sym (no-entry _ _ (c .if1 .taken))
 
-mul-u32-at : tie.Need-mul-u32-at
-mul-u32-at c = search needs
+mul-u64-at : tie.Need-mul-u64-at
+mul-u64-at c = search needs
 
-u32-at-requires : tie.Need-u32-at-requires
-u32-at-requires c κs = search needs
+u64-at-requires : tie.Need-u64-at-requires
+u64-at-requires c κs = search needs
 
-mul-u32-at-2 : tie.Need-mul-u32-at-2
-mul-u32-at-2 c = search needs
+cast-low : tie.Need-cast-low
+cast-low c = search needs
 
-add-u32-at : tie.Need-add-u32-at
-add-u32-at c = search needs
-
-u32-at-requires-2 : tie.Need-u32-at-requires-2
-u32-at-requires-2 c κs = search needs
+cast-high : tie.Need-cast-high
+cast-high c = search needs
 
 returns-2 : tie.Need-returns-2
-returns-2 c = cc (an-entry _ _ (c .before .before .if1 .left))
+returns-2 c =
+    let s = c .before .before .before in
+    let bytes : (j : _) → getD (now (s .args .s)) j 0 < 256 = λ j. omega (arith, c .before .before .shared-slice-known .given j) in
+    let room : 8 * s .args .i + 8 ≤ length (now (s .args .s)) = omega arith in
+    cc (
+      an-entry (now (s .args .s)) (s .args .i) (c .before .if1 .left),
+      low-half (now (s .args .s)) (8 * s .args .i) room bytes,
+      high-half (now (s .args .s)) (8 * s .args .i) room bytes,
+    )
 
 pub entry-at-spec : {M : Type 1} → statement M
 entry-at-spec =
-    tie.close
-    (tie.spec
-    returns
-    mul-u32-at
-    u32-at-requires
-    mul-u32-at-2
-    add-u32-at
-    u32-at-requires-2
-    returns-2)
+    tie.close (tie.spec returns mul-u64-at u64-at-requires cast-low cast-high returns-2)

@@ -8,7 +8,7 @@ use borrow.Author.Tests.{eq-eqb, ne-eqb}
 use denote.Ref.{now}
 use lib.ListN.{length, take, drop, length-set}
 use Rattle.policy.specs.Permission.{permission}
-use Rattle.policy.specs.Laws.{maps-more, maps-all}
+use Rattle.policy.specs.PermissionLaws.{maps-more, maps-all}
 use Rattle.policy.proofs.policy.WalkPolicy.fill_permissions.Statement.{statement}
 use Rattle.policy.proofs.policy.WalkPolicy.fill_permissions.Tie as tie
 

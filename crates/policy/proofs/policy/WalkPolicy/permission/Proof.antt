@@ -4,7 +4,7 @@ use mathlib.Core.Bool.{Bool}
 use Rattle.policy.specs.declared.doors.Passage.{Passage}
 use Rattle.policy.specs.Answers.{passageNumber}
 use Rattle.policy.specs.Permission.{permission}
-use Rattle.policy.specs.Laws.{byteOf, byte}
+use Rattle.policy.specs.PermissionLaws.{byteOf, byte}
 use borrow.Author.Needs.{needs}
 use Rattle.policy.proofs.policy.WalkPolicy.permission.Statement.{statement}
 use Rattle.policy.proofs.policy.WalkPolicy.permission.Tie as tie

@@ -1,0 +1,19 @@
+-- `scene_records::layout::box_of` meets its contract. Assumes nothing.
+use Rattle.world.specs.Space.{boxAt}
+use Rattle.scene_records.specs.Layout.{boxOf, pointAt}
+use borrow.Author.Needs.{needs}
+use Rattle.scene_records.proofs.layout.box_of.Statement.{statement}
+use Rattle.scene_records.proofs.layout.box_of.Tie as tie
+
+point-at-requires : tie.Need-point-at-requires
+point-at-requires c κs = search needs
+
+point-at-requires-2 : tie.Need-point-at-requires-2
+point-at-requires-2 c κs = search needs
+
+returns : tie.Need-returns
+unfolding boxOf boxAt pointAt
+returns c = cc
+
+pub box-of-spec : {M : Type 1} → statement M
+box-of-spec = tie.close (tie.spec point-at-requires point-at-requires-2 returns)

@@ -1,0 +1,29 @@
+-- `scene_records::layout::point_at` meets its contract. Assumes nothing.
+use Rattle.scene_records.specs.Layout.{pointAt}
+use borrow.Author.Needs.{needs}
+use Rattle.scene_records.proofs.layout.point_at.Statement.{statement}
+use Rattle.scene_records.proofs.layout.point_at.Tie as tie
+
+f64-at-requires : tie.Need-f64-at-requires
+f64-at-requires c κs = search needs
+
+add-f64-at : tie.Need-add-f64-at
+add-f64-at c = search needs
+
+f64-at-requires-2 : tie.Need-f64-at-requires-2
+f64-at-requires-2 c κs = search needs
+
+add-f64-at-2 : tie.Need-add-f64-at-2
+add-f64-at-2 c = search needs
+
+f64-at-requires-3 : tie.Need-f64-at-requires-3
+f64-at-requires-3 c κs = search needs
+
+returns : tie.Need-returns
+unfolding pointAt
+returns c = cc
+
+pub point-at-spec : {M : Type 1} → statement M
+point-at-spec =
+    tie.close
+    (tie.spec f64-at-requires add-f64-at f64-at-requires-2 add-f64-at-2 f64-at-requires-3 returns)

@@ -1,0 +1,137 @@
+// The fields of a scene record.
+ghost use mathlib.Core.Path.{_≡_};
+ghost use Prim.Native.Nat.{_≤_};
+ghost use lib.ListN.{getD, drop};
+ghost use Rattle.tables.specs.BadWorld.{Sizes, sizeAbove};
+ghost use Rattle.scene_records.specs.Layout.{numberOf, zeros, threeZeros, unusedFrom, pointAt, bodyOf, windowOf, cellCount, volume, boxOf};
+use world::Aabb;
+use world::Body;
+use world::Point;
+use world::Window;
+
+// The byte at an offset.
+pub fn byte_at(bytes: &[u8], at: usize) -> u8
+    ensures { λ r. ⌜ r ≡ getD (now (bytes .entry)) at 0 ⌝ }
+{
+    if bytes.len() <= at {
+        return 0;
+    }
+    bytes[at]
+}
+
+// The number n.
+pub fn number_of(bytes: &[u8]) -> u32
+    ensures { λ r. ⌜ r ≡ numberOf (now (bytes .entry)) ⌝ }
+{
+    fields::u32_at(bytes, 4)
+}
+
+// Whether the three bytes behind the kind are zero.
+pub(crate) fn three_zeros(bytes: &[u8]) -> bool
+    ensures { λ r. ⌜ r ≡ threeZeros (now (bytes .entry)) ⌝ }
+{
+    let a = byte_at(bytes, 1);
+    let b = byte_at(bytes, 2);
+    let c = byte_at(bytes, 3);
+    (a == 0) & (b == 0) & (c == 0)
+}
+
+// Whether every byte from an offset on is zero.
+pub(crate) fn zeros_from(bytes: &[u8], from: usize) -> bool
+    ensures { λ r. ⌜ r ≡ zeros (drop from (now (bytes .entry))) ⌝ }
+{
+    let mut i = from;
+    while i < bytes.len() {
+        if bytes[i] != 0 {
+            return false;
+        }
+        i += 1;
+    }
+    true
+}
+
+// Where the bytes begin that a kind does not use.
+pub(crate) fn unused_from(kind: u8) -> usize
+    ensures { λ r. ⌜ r ≡ unusedFrom kind ⌝ }
+{
+    match kind {
+        1 => 64,
+        2 => 56,
+        3 => 32,
+        4 => 56,
+        5 => 9,
+        _ => 40,
+    }
+}
+
+// Three f64 from an offset on.
+pub fn point_at(bytes: &[u8], at: u32) -> Point
+    ensures { λ r. ⌜ r ≡ pointAt (now (bytes .entry)) at ⌝ }
+{
+    let x = at as usize;
+    Point {
+        x: fields::f64_at(bytes, x),
+        y: fields::f64_at(bytes, x + 8),
+        z: fields::f64_at(bytes, x + 16),
+    }
+}
+
+// The body of kind 2.
+pub fn body_of(bytes: &[u8]) -> Body
+    ensures { λ r. ⌜ r ≡ bodyOf (now (bytes .entry)) ⌝ }
+{
+    Body {
+        width: fields::f64_at(bytes, 32),
+        height: fields::f64_at(bytes, 40),
+        step_height: fields::f64_at(bytes, 48),
+    }
+}
+
+// The window of kind 3.
+pub fn window_of(bytes: &[u8]) -> Window
+    ensures { λ r. ⌜ r ≡ windowOf (now (bytes .entry)) ⌝ }
+{
+    Window {
+        x: fields::i32_at(bytes, 8),
+        y: fields::i32_at(bytes, 12),
+        z: fields::i32_at(bytes, 16),
+        sx: fields::u32_at(bytes, 20),
+        sy: fields::u32_at(bytes, 24),
+        sz: fields::u32_at(bytes, 28),
+    }
+}
+
+// Whether a size is above 256.
+pub fn size_above(w: Window) -> bool
+    ensures { λ r. ⌜ r ≡ sizeAbove w ⌝ }
+{
+    (256 < w.sx) | (256 < w.sy) | (256 < w.sz)
+}
+
+// How many cells a window has whose sizes are no larger.
+fn product(w: Window) -> u32
+    requires { ⌜ Sizes w ⌝ }
+    ensures { λ r. ⌜ r ≡ volume w ⌝ }
+{
+    w.sx * w.sy * w.sz
+}
+
+// How many cells a window has; one with a size above 256 has none.
+pub fn cell_count(w: Window) -> u32
+    ensures { λ r. ⌜ r ≡ cellCount w ⌝ }
+{
+    if size_above(w) {
+        return 0;
+    }
+    product(w)
+}
+
+// The box of kind 4.
+pub fn box_of(bytes: &[u8]) -> Aabb
+    ensures { λ r. ⌜ r ≡ boxOf (now (bytes .entry)) ⌝ }
+{
+    Aabb {
+        min: point_at(bytes, 8),
+        max: point_at(bytes, 32),
+    }
+}

@@ -1,0 +1,59 @@
+-- `scene_tables::entries::empty_shapes` meets its contract. Assumes nothing.
+use Rattle.scene_tables.specs.Laws.{turn-done, turn-more}
+use Rattle.scene_tables.specs.Made.{inTurn, withEntry, emptyShapes}
+use lib.ListN.{length}
+use mathlib.Core.List.{List}
+use Prim.Native.Nat.{ℕ, _-_, _+_}
+use mathlib.Core.Path.{_≡_, refl, sym, ap, _∙_}
+use borrow.Author.Needs.{needs}
+use native.Mathlib.Omega.{arith}
+use Rattle.scene_tables.proofs.entries.empty_shapes.Statement.{statement}
+use Rattle.scene_tables.proofs.entries.empty_shapes.Tie as tie
+
+abbrev Inv-loop : tie.InvT-loop
+Inv-loop shapes₀ from end first i₀ shapes i = (length shapes ≡ length shapes₀) × (inTurn (withEntry first 0) from (end - from) shapes₀ ≡ inTurn (withEntry first 0) i (end - i) shapes)
+
+abbrev μ-loop : tie.MeasureT-loop
+μ-loop shapes₀ from end first i₀ shapes i = end - i
+
+loop-holds : tie.Need-loop-holds Inv-loop μ-loop
+loop-holds c = (refl, refl)
+
+put-entry-requires : tie.Need-put-entry-requires Inv-loop μ-loop
+put-entry-requires c κs = omega (arith, c .before .before .before .before .pre)
+
+add-i : tie.Need-add-i Inv-loop μ-loop
+add-i c = omega (arith, c .before .before .before .before .before .before .before .pre)
+
+loop-less : tie.Need-loop-less Inv-loop μ-loop
+loop-less c = omega arith
+
+loop-again : tie.Need-loop-again Inv-loop μ-loop
+loop-again c =
+    let a = c .before .before .before .before .before .before .before .args in let l = c .before .before .before .before .before .loop in (
+      omega (arith, c .before .before .put-entry .kept, l .inv .0),
+      l .inv .1 ∙ turn-more (withEntry (a .first) 0) (l .i) (a .end) (l .shapes) (omega arith)
+      ∙ ap (λ (t : List ℕ). inTurn (withEntry (a .first) 0) (l .i + 1) (a .end - (l .i + 1)) t) (sym (c .before .before .put-entry .ensures)),
+    )
+
+same-length : tie.Need-same-length Inv-loop μ-loop
+same-length c = omega arith
+
+returns : tie.Need-returns Inv-loop μ-loop
+unfolding emptyShapes
+returns c =
+    let a = c .before .before .before .args in let l = c .before .loop in sym (l .inv .1 ∙ turn-done (withEntry (a .first) 0) (l .i) (a .end) (l .shapes) (omega arith))
+
+pub empty-shapes-spec : {M : Type 1} → statement M
+empty-shapes-spec =
+    tie.close
+    (tie.spec
+    Inv-loop
+    μ-loop
+    loop-holds
+    put-entry-requires
+    add-i
+    loop-less
+    loop-again
+    same-length
+    returns)

@@ -1,0 +1,46 @@
+-- `scene_tables::entries::put_shape` meets its contract. Assumes nothing.
+use Rattle.scene_tables.specs.Made.{withShape}
+use Rattle.fields.specs.Little.{withField}
+use Prim.Native.Nat.{ℕ, _+_, _*_}
+use mathlib.Core.List.{List}
+use mathlib.Core.Path.{ap, _∙_}
+use native.Mathlib.Omega.{arith}
+use borrow.Author.Needs.{needs}
+use Rattle.scene_tables.proofs.entries.put_shape.Statement.{statement}
+use Rattle.scene_tables.proofs.entries.put_shape.Tie as tie
+
+add-empty-shapes : tie.Need-add-empty-shapes
+add-empty-shapes c = search needs
+
+empty-shapes-requires : tie.Need-empty-shapes-requires
+empty-shapes-requires c κs = search needs
+
+mul-put-u32 : tie.Need-mul-put-u32
+mul-put-u32 c = search needs
+
+add-put-u32 : tie.Need-add-put-u32
+add-put-u32 c = search needs
+
+put-u32-requires : tie.Need-put-u32-requires
+put-u32-requires c κs = search needs
+
+same-length : tie.Need-same-length
+same-length c = search needs
+
+returns : tie.Need-returns
+unfolding withShape
+returns c =
+    let a = c .before .before .before .before .before .before .before .before .before .args in
+    c .before .before .put-u32 .ensures ∙ ap (λ (l : List ℕ). withField 4 l (8 * a .n + 4) (a .count)) (c .before .before .before .before .before .before .empty-shapes .ensures)
+
+pub put-shape-spec : {M : Type 1} → statement M
+put-shape-spec =
+    tie.close
+    (tie.spec
+    add-empty-shapes
+    empty-shapes-requires
+    mul-put-u32
+    add-put-u32
+    put-u32-requires
+    same-length
+    returns)

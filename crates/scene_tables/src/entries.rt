@@ -1,0 +1,46 @@
+// Records of 8 bytes: cells and shapes.
+ghost use mathlib.Core.Path.{_≡_};
+ghost use Prim.Native.Nat.{_^_, _<_};
+ghost use Rattle.scene_tables.specs.Made.{withEntry, unfilled, emptyShapes, withShape};
+
+// Record i set to two numbers.
+pub(crate) fn put_entry(table: &mut [u8], i: usize, a: u32, b: u32)
+    requires { ⌜ i < 2 ^ 40 ⌝ }
+    ensures { λ _. ⌜ now (table .exit) ≡ withEntry a b i (now (table .entry)) ⌝ }
+{
+    fields::put_u32(table, 8 * i, a);
+    fields::put_u32(table, 8 * i + 4, b);
+}
+
+// The first n cells, unfilled.
+pub fn clear_cells(cells: &mut [u8], n: u32)
+    ensures { λ _. ⌜ now (cells .exit) ≡ unfilled n (now (cells .entry)) ⌝ }
+{
+    let end = n as usize;
+    let mut i: usize = 0;
+    while i < end {
+        put_entry(cells, i, 4294967295, 0);
+        i += 1;
+    }
+}
+
+// The empty shapes from one to n, each with a first box.
+fn empty_shapes(shapes: &mut [u8], from: u32, end: usize, first: u32)
+    requires { ⌜ end < 2 ^ 40 ⌝ }
+    ensures { λ _. ⌜ now (shapes .exit) ≡ emptyShapes from end first (now (shapes .entry)) ⌝ }
+{
+    let mut i = from as usize;
+    while i < end {
+        put_entry(shapes, i, first, 0);
+        i += 1;
+    }
+}
+
+// The shapes from one to n, empty, and then the count of shape n.
+pub fn put_shape(shapes: &mut [u8], from: u32, n: u32, first: u32, count: u32)
+    ensures { λ _. ⌜ now (shapes .exit) ≡ withShape from n first count (now (shapes .entry)) ⌝ }
+{
+    let at = n as usize;
+    empty_shapes(shapes, from, at + 1, first);
+    fields::put_u32(shapes, 8 * at + 4, count);
+}

@@ -1,0 +1,156 @@
+//! The table: for each variant the scenes that tell it from the reading.
+
+use std::path::Path;
+
+use reading::{ASKED, Graph, VARIANTS, Variant, search};
+use scene::{Scene, Verdict};
+
+use crate::compare::{parting, same, shown_by};
+use crate::draft::{draft, scene_of};
+
+/// A scene with its name, its text and the reading's answer.
+struct Judged {
+    name: String,
+    text: String,
+    scene: Scene,
+    right: Verdict,
+}
+
+impl Judged {
+    fn new(name: String, text: String, scene: Scene) -> Self {
+        let right = search(&scene, Variant::ReadAsWritten);
+        Self {
+            name,
+            text,
+            scene,
+            right,
+        }
+    }
+
+    fn tells(&self, variant: Variant) -> bool {
+        !same(&self.right, &search(&self.scene, variant))
+    }
+
+    /// Whether the segment from start to goal is supported, by this variant.
+    fn supported(&self, edit: Variant) -> bool {
+        let scene = &self.scene;
+        Graph { scene, edit }.supported(scene.request.start, scene.request.goal)
+    }
+
+    /// Whether the original answers as the reading; says so if not.
+    fn agrees(&self) -> bool {
+        let original = original::judge(&self.scene);
+        let agrees = same(&self.right, &original);
+        if !agrees {
+            let [ours, theirs] = parting(&self.right, &original);
+            let name = &self.name;
+            println!("{name}: the reading says {ours}, the original {theirs}");
+        }
+        agrees
+    }
+
+    /// Whether the head of a variant's own scene gives the lines on which the
+    /// answers part; says so if not.
+    fn headed(&self, variant: Variant) -> bool {
+        let [right, wrong] = parting(&self.right, &search(&self.scene, variant));
+        let headed = [format!("# Right: {right}"), format!("# Wrong: {wrong}")]
+            .iter()
+            .all(|line| self.text.lines().any(|other| other == line));
+        if !headed {
+            let name = &self.name;
+            println!("{name}: its head should say\n# Right: {right}\n# Wrong: {wrong}");
+        }
+        headed
+    }
+}
+
+/// The good scenes of the folder, by name.
+fn directed(folder: &Path) -> Vec<Judged> {
+    let entries = std::fs::read_dir(folder).expect("the folder of scenes");
+    let mut files: Vec<_> = entries
+        .map(|entry| entry.expect("an entry").path())
+        .filter(|path| path.extension().is_some_and(|end| end == "txt"))
+        .collect();
+    files.sort();
+    files
+        .into_iter()
+        .filter_map(|file| {
+            let name = file.file_stem()?.to_string_lossy().into_owned();
+            let text = std::fs::read_to_string(&file).expect("a scene's text");
+            let bytes = scene::from_text(&text).unwrap_or_else(|error| panic!("{name}: {error}"));
+            Some(Judged::new(name, text, scene::read(&bytes).ok()?))
+        })
+        .collect()
+}
+
+/// The variants that no directed scene tells from the reading by its own name.
+pub fn survivors(folder: &Path) -> Vec<Variant> {
+    let scenes = directed(folder);
+    let own = |variant: Variant| scenes.iter().find(|judged| judged.name == variant.name());
+    VARIANTS
+        .iter()
+        .copied()
+        .filter(|&variant| !own(variant).is_some_and(|judged| judged.tells(variant)))
+        .collect()
+}
+
+/// Prints the table; false if a variant survives the directed scenes, the
+/// reading and the original part on one of them, or a scene's head is wrong.
+pub fn table(folder: &Path, seed: u64, count: u64) -> bool {
+    let scenes = directed(folder);
+    let (directed, variants) = (scenes.len(), VARIANTS.len());
+    println!("{directed} directed scenes, {variants} variants");
+    let random: Vec<Judged> = (seed..seed + count)
+        .filter_map(|seed| scene_of(&draft(seed)))
+        .map(|scene| Judged::new(String::new(), String::new(), scene))
+        .collect();
+    let mut good = scenes.iter().filter(|judged| !judged.agrees()).count() == 0;
+    let mut survivors = 0;
+    for &variant in VARIANTS {
+        let (line, survives, headed) = row(variant, &scenes, &random);
+        println!("{line}");
+        survivors += u32::from(survives);
+        good &= headed;
+    }
+    for &variant in ASKED {
+        let name = variant.name();
+        let own = scenes.iter().find(|judged| judged.name == name);
+        let tells = own.is_some_and(|judged| {
+            judged.supported(variant) != judged.supported(Variant::ReadAsWritten)
+        });
+        if tells {
+            println!("{name}: scenes/{name}.txt by asking whether start to goal is supported");
+        } else {
+            println!("{name}: SURVIVES");
+            survivors += 1;
+        }
+    }
+    println!("{survivors} survive the directed scenes");
+    good && survivors == 0
+}
+
+/// A variant's line, whether it survives, and whether its scene's head is
+/// right.
+fn row(variant: Variant, scenes: &[Judged], random: &[Judged]) -> (String, bool, bool) {
+    let name = variant.name();
+    let killers: Vec<&Judged> = scenes
+        .iter()
+        .filter(|judged| judged.tells(variant))
+        .collect();
+    let own = killers.iter().find(|judged| judged.name == name);
+    let verdict = match own.or(killers.first()) {
+        Some(judged) => {
+            let shown = shown_by(&judged.right, &search(&judged.scene, variant));
+            format!("scenes/{}.txt by {shown}", judged.name)
+        }
+        None => "SURVIVES".to_string(),
+    };
+    let chance = random.iter().filter(|judged| judged.tells(variant)).count();
+    let line = format!(
+        "{name}: {verdict}; {} directed, {chance} of {} random",
+        killers.len(),
+        random.len()
+    );
+    let headed = own.is_none_or(|judged| judged.headed(variant));
+    (line, killers.is_empty(), headed)
+}

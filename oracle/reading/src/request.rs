@@ -1,0 +1,156 @@
+//! What 01 judges before a search: the order of its checks, `valid_request`,
+//! number 3, the limits and the rooms.
+
+use scene::{Answer, Outcome, Refusal, Scene, Verdict};
+
+use crate::Variant::{self, *};
+use crate::boxes::Point;
+use crate::graph::{Graph, same_point};
+use crate::search::Search;
+
+/// Bytes of the rooms that a caller lends.
+#[derive(Debug, Clone, Copy, PartialEq, Eq)]
+pub struct Rooms {
+    pub nodes: u64,
+    pub frontier: u64,
+    pub output: u64,
+}
+
+impl Rooms {
+    /// "Node or frontier room under node_budget records, output under
+    /// node_budget + 1" are too small: these are just large enough.
+    pub fn least(node_budget: u64) -> Self {
+        Self {
+            nodes: 56 * node_budget,
+            frontier: 24 * node_budget,
+            output: 40 * (node_budget + 1),
+        }
+    }
+
+    fn too_small(&self, node_budget: u64) -> bool {
+        self.nodes / 56 < node_budget
+            || self.frontier / 24 < node_budget
+            || self.output / 40 < node_budget + 1
+    }
+}
+
+/// The answer to a scene whose caller lends enough room.
+pub fn search(scene: &Scene, edit: Variant) -> Verdict {
+    search_in(
+        scene,
+        &Rooms::least(scene.request.node_budget.min(4096)),
+        edit,
+    )
+}
+
+/// "Search order: 3; `valid_request` (else 1); 4; 5; goal in range, start
+/// standable, goal standable (else 1); budget 0 (2); search."
+pub fn search_in(scene: &Scene, rooms: &Rooms, edit: Variant) -> Verdict {
+    let request = &scene.request;
+    let refused = |number| Err(Refusal { number, record: 0 });
+    let without_search = |outcome| Ok(Answer::unbegun(outcome));
+    if bad_world(scene) {
+        return refused(3);
+    }
+    if edit == LimitsBeforeRequest && too_large(scene, edit) {
+        return refused(4);
+    }
+    if !valid_request(scene, edit) {
+        return without_search(Outcome::Unreachable);
+    }
+    if too_large(scene, edit) {
+        return refused(4);
+    }
+    if rooms.too_small(request.node_budget) {
+        return refused(5);
+    }
+    if edit == BudgetZeroFirst && request.node_budget == 0 {
+        return without_search(Outcome::BudgetExceeded);
+    }
+    let graph = Graph { scene, edit };
+    if !(edit == GoalRangeUnread || graph.in_range(request.goal))
+        || !(edit == StartUnread || graph.standable(request.start))
+        || !(edit == GoalUnread || graph.standable(request.goal))
+    {
+        return without_search(Outcome::Unreachable);
+    }
+    let at_goal = same_point(request.start, request.goal, edit);
+    if request.node_budget == 0 && !(edit == StartAtGoalBeforeBudget && at_goal) {
+        return without_search(match edit {
+            BudgetZeroUnreachable => Outcome::Unreachable,
+            _ => Outcome::BudgetExceeded,
+        });
+    }
+    Ok(Search::begin(graph).run())
+}
+
+/// Number 3 for tables that are numbers: "a size above 256, cell table not 8
+/// bytes a cell, .. count above 16, first + count above the boxes, a box off
+/// its rule".
+pub fn bad_world(scene: &Scene) -> bool {
+    let tables = &scene.tables;
+    let sizes = tables.window.sizes.map(u64::from);
+    let boxes = tables.boxes.len() as u64;
+    sizes.iter().any(|&size| size > 256)
+        || tables.cells.len() as u64 != sizes.iter().product::<u64>()
+        || tables
+            .shapes
+            .iter()
+            .any(|&(first, count)| count > 16 || u64::from(first) + u64::from(count) > boxes)
+        || tables.boxes.iter().any(|numbers| {
+            // "Finite, min ≤ max, each from -16 to 16."
+            !numbers.iter().all(|n| (-16.0..=16.0).contains(n))
+                || !(0..3).all(|axis| numbers[axis] <= numbers[axis + 3])
+        })
+}
+
+/// "`valid_request`: all numbers finite; width and height above 0; range, both
+/// steps, jump and drop at least 0; every start and goal coordinate smaller in
+/// size than 2147483647 - (max_range + width + height + 4), itself above 0."
+pub fn valid_request(scene: &Scene, edit: Variant) -> bool {
+    let (request, body) = (&scene.request, &scene.body);
+    let above_zero = |n: f64, unread: Variant| n.is_finite() && (edit == unread || n > 0.0);
+    let at_least_zero = |n: f64, sign_unread: Variant, finity_unread: Variant| {
+        (n.is_finite() || edit == finity_unread && n == f64::INFINITY)
+            && (edit == sign_unread || n >= 0.0)
+    };
+    let ends = [request.start, request.goal].concat();
+    if !ends.iter().all(|n| n.is_finite())
+        || !above_zero(body.width, WidthSignUnread)
+        || !above_zero(body.height, HeightSignUnread)
+        || !(request.max_range.is_finite() && (edit == RangeSignUnread || request.max_range >= 0.0))
+        || !at_least_zero(request.step_height, StepSignUnread, StepFinityUnread)
+        || !at_least_zero(body.step_height, BodyStepSignUnread, BodyStepFinityUnread)
+        || !at_least_zero(request.jump_height, JumpSignUnread, JumpFinityUnread)
+        || !at_least_zero(request.max_drop, DropSignUnread, DropFinityUnread)
+    {
+        return false;
+    }
+    let margin = match edit {
+        MarginWithoutFour => request.max_range + body.width + body.height,
+        MarginFromFour => 4.0 + body.height + body.width + request.max_range,
+        _ => request.max_range + body.width + body.height + 4.0,
+    };
+    let limit = 2147483647.0 - margin;
+    let small = |n: f64| match edit {
+        LimitIncluded => n.abs() <= limit,
+        SizeWithSign => n < limit,
+        _ => n.abs() < limit,
+    };
+    let near = |[x, y, z]: Point| small(x) && small(y) && (edit == SizeOfZUnread || small(z));
+    limit > 0.0
+        && (edit == StartSizeUnread || near(request.start))
+        && (edit == GoalSizeUnread || near(request.goal))
+}
+
+/// Number 4: "max_range > 64, width > 8, height > 16 or node_budget > 4,096".
+pub fn too_large(scene: &Scene, edit: Variant) -> bool {
+    let (request, body) = (&scene.request, &scene.body);
+    request.max_range > 64.0
+        || body.width > 8.0
+        || body.height > 16.0
+        || request.node_budget > 4096
+        || edit == RangeOf64TooLarge && request.max_range == 64.0
+        || edit == WidthOf8TooLarge && body.width == 8.0
+        || edit == HeightOf16TooLarge && body.height == 16.0
+}

@@ -1,0 +1,443 @@
+//! The variants: each misreads one sentence of 01 and is switched at the place
+//! of that sentence.
+//!
+//! Left out, because no answer can show them: the order of the lift, crossing
+//! and settle tests (all must hold); the start's estimate (it waits alone); an
+//! occupiable unknown cell (its cube fills the voxel); a voxel that touches in
+//! x or z (the cells that are looked at never only touch there); a re-push
+//! whose estimate is equal (a cost lower by E lowers every estimate below
+//! 4.5e8, and range 64 keeps them there); a node other than the start at the
+//! goal (whatever discovers it has a connector); halving by 2 or by 0.5;
+//! finiteness other than that of steps, jump and drop, and a limit of 0 or less
+//! (no coordinate is smaller than such a limit); 1 -
+//! covered ≤ E instead of covered ≥ 1 - E (the same, for this E).
+//!
+//! Three misreadings show only where `supported` is asked by itself: in a search
+//! the body stands at the segment's start and the target is standable, so that
+//! some interval begins at 0 and one ends at 1.
+
+macro_rules! variants {
+    (
+        searched { $($part:literal { $($sentence:literal { $($name:ident: $edit:literal,)* })* })* }
+        asked { $($part_asked:literal { $($sentence_asked:literal { $($asked:ident: $edit_asked:literal,)* })* })* }
+    ) => {
+        /// A way to read 01: as written, or with one sentence misread.
+        #[derive(Debug, Clone, Copy, PartialEq, Eq, Hash)]
+        pub enum Variant {
+            /// Nothing misread.
+            ReadAsWritten,
+            $($($(#[doc = $edit] $name,)*)*)*
+            $($($(#[doc = $edit_asked] $asked,)*)*)*
+        }
+
+        /// Every variant that a search can show, in 01's order.
+        pub const VARIANTS: &[Variant] = &[$($($(Variant::$name,)*)*)*];
+
+        /// The variants that only a question to `supported` shows.
+        pub const ASKED: &[Variant] = &[$($($(Variant::$asked,)*)*)*];
+
+        impl Variant {
+            /// The part of 01, the sentence, and what the variant does instead.
+            pub fn about(self) -> [&'static str; 3] {
+                match self {
+                    Variant::ReadAsWritten => ["", "", "nothing is misread"],
+                    $($($(Variant::$name => [$part, $sentence, $edit],)*)*)*
+                    $($($(Variant::$asked => [$part_asked, $sentence_asked, $edit_asked],)*)*)*
+                }
+            }
+        }
+    };
+}
+
+impl Variant {
+    /// The name of the variant, and of the scene that tells it apart:
+    /// `BoxTouchingX` is `box-touching-x`.
+    pub fn name(self) -> String {
+        let mut name = String::new();
+        let mut digits = false;
+        for letter in format!("{self:?}").chars() {
+            let starts = letter.is_uppercase() || letter.is_ascii_digit() && !digits;
+            if starts && !name.is_empty() {
+                name.push('-');
+            }
+            digits = letter.is_ascii_digit();
+            name.extend(letter.to_lowercase());
+        }
+        name
+    }
+}
+
+variants! {
+    searched {
+        "Tables" {
+            "x runs fastest, then z, then y" {
+                CellsRunYBeforeZ: "y runs before z",
+            }
+            "1 occupied, 2 support, 4 collides" {
+                OccupiedAndSupportSwapped: "bits 1 and 2 are swapped",
+            }
+            "A cell's boxes are its run of box records inside the box table" {
+                LastBoxOfRunMissing: "the last box of the run is not read",
+            }
+            "A cell is unknown outside the window, or with no permission byte for its state, or no such shape: one full unit cube, neither occupiable nor a support" {
+                UnknownIsAir: "an unknown cell is air",
+                UnknownHasNoCube: "an unknown cell has no cube",
+                UnknownSupports: "an unknown cell is a support",
+                StateWithoutByteIsAir: "a state without a permission byte is air",
+                MissingShapeIsEmpty: "a shape past the table is empty",
+                WindowEndWraps: "the window's end, origin + size, wraps at the largest i32",
+            }
+            "A known state without bit 4 has no boxes" {
+                CollidesUnread: "bit 4 is not read",
+            }
+        }
+        "Numbers given back" {
+            "Search order: 3; valid_request (else 1); 4; 5; goal in range, start standable, goal standable (else 1); budget 0 (2); search" {
+                LimitsBeforeRequest: "4 comes before valid_request",
+                GoalRangeUnread: "the goal's range is not judged first",
+                StartUnread: "the start need not be standable",
+                GoalUnread: "the goal's standing is not judged first",
+                BudgetZeroFirst: "budget 0 comes before the endpoints",
+                BudgetZeroUnreachable: "budget 0 is Unreachable",
+                StartAtGoalBeforeBudget: "a start at the goal is found with budget 0 too",
+            }
+            "max_range > 64, width > 8, height > 16 or node_budget > 4,096" {
+                RangeOf64TooLarge: "a range of 64 is too large",
+                WidthOf8TooLarge: "a width of 8 is too large",
+                HeightOf16TooLarge: "a height of 16 is too large",
+            }
+            "all numbers finite" {
+                JumpFinityUnread: "an infinite jump is valid",
+                DropFinityUnread: "an infinite drop is valid",
+                StepFinityUnread: "an infinite step of the request is valid",
+                BodyStepFinityUnread: "an infinite step of the body is valid",
+            }
+            "width and height above 0" {
+                WidthSignUnread: "the width's sign is not read",
+                HeightSignUnread: "the height's sign is not read",
+            }
+            "range, both steps, jump and drop at least 0" {
+                RangeSignUnread: "the range's sign is not read",
+                StepSignUnread: "the request's step's sign is not read",
+                BodyStepSignUnread: "the body's step's sign is not read",
+                JumpSignUnread: "the jump's sign is not read",
+                DropSignUnread: "the drop's sign is not read",
+            }
+            "every start and goal coordinate smaller in size than 2147483647 - (max_range + width + height + 4), itself above 0" {
+                GoalSizeUnread: "the goal's size is not read",
+                StartSizeUnread: "the start's size is not read",
+                SizeOfZUnread: "z's size is not read",
+                SizeWithSign: "a coordinate far below 0 is small",
+                LimitIncluded: "a coordinate at the limit is valid",
+                MarginWithoutFour: "the margin has no 4",
+                MarginFromFour: "the margin is added from right to left",
+            }
+        }
+        "In range" {
+            "each coordinate differs from the start's by at most max_range + E" {
+                RangeWithoutE: "at most max_range",
+                RangeAtEOut: "less than max_range + E",
+                RangeEOnTheDifference: "the difference less E is at most max_range",
+                RangeFlat: "y is not read",
+                RangeRound: "the straight distance is read",
+            }
+        }
+        "Clear" {
+            "the cells from floor(min) to ceil(max) - 1 on each axis" {
+                ClearFromCeilX: "from ceil(min) in x",
+                ClearFromCeilZ: "from ceil(min) in z",
+                ClearToFloorX: "to floor(max) in x",
+                ClearToFloorY: "to floor(max) in y",
+                ClearToFloorZ: "to floor(max) in z",
+                ClearTopLayerMissing: "to ceil(max) - 2 in y",
+            }
+            "and one layer below" {
+                ClearLowerLayerMissing: "no layer below",
+                ClearTwoLowerLayers: "two layers below",
+                ClearLowerLayerOnlyUnderLayers: "no layer below an area that has no layer",
+            }
+            "none has a box that intersects the area" {
+                BoxTouchingX: "touching in x intersects",
+                BoxTouchingY: "touching in y intersects",
+                BoxTouchingZ: "touching in z intersects",
+                ClearBoxesOfOccupiableUnread: "a cell with bit 1 is clear whatever its boxes",
+            }
+            "and none whose voxel does lacks bit 1" {
+                VoxelTouchingY: "a voxel that touches in y counts",
+                OccupiedOfEveryCell: "every cell needs bit 1",
+                OccupiedUnread: "bit 1 is not read",
+            }
+        }
+        "Supported segment" {
+            "the footprint is both feet's span widened by half the width" {
+                FootprintWholeWidth: "widened by the width",
+                FootprintBare: "not widened",
+            }
+            "cells run from floor(low y) - 2 to floor(high y)" {
+                SupportLayersFromMinusOne: "from floor(low y) - 1",
+                SupportLayersFromMinusThree: "from floor(low y) - 3",
+                SupportTopLayerMissing: "to floor(high y) - 1",
+                SupportLayerAbove: "to floor(high y) + 1",
+            }
+            "in x and z from its floor(min) to ceil(max) - 1" {
+                SupportOneCellBeforeX: "from floor(min) - 1 in x",
+                SupportOneCellBeforeZ: "from floor(min) - 1 in z",
+                SupportToFloorX: "to floor(max) in x",
+                SupportToFloorZ: "to floor(max) in z",
+            }
+            "A shape counts if its top is within E of the span" {
+                SpanOfTargetOnly: "the span is the target's y",
+                SupportLowWithoutE: "no E below the span",
+                SupportLowAtEOut: "exactly E below the span does not count",
+                SupportLowByDifference: "low - top is compared with E",
+                SupportHighWithoutE: "no E above the span",
+                SupportHighAtEOut: "exactly E above the span does not count",
+                SupportHighByDifference: "top - high is compared with E",
+            }
+            "and it overlaps the footprint strictly in x and z" {
+                FootprintTouchingX: "touching in x counts",
+                FootprintTouchingZ: "touching in z counts",
+            }
+            "One that counts and lacks bit 2 refuses the segment" {
+                ForbiddenSupportIgnored: "it is passed over",
+                ForbiddenSupportCarries: "it carries as any other",
+            }
+            "The centre-line intervals, borders included" {
+                IntervalBordersOut: "a border does not carry a line along it",
+                IntervalPointsOut: "an interval of one point is none",
+                IntervalAlongXOnly: "only x is read",
+                IntervalByReciprocal: "times 1 / delta instead of by delta",
+                IntervalSplit: "border / delta - from / delta",
+            }
+            "must cover 0 to 1, each joint within E" {
+                JointWithoutE: "joints without E",
+                JointAtEOut: "a joint of exactly E is a gap",
+                JointWithinTwoE: "joints within 2 E",
+                JointByDifference: "begin - covered is compared with E",
+                CoveredToLastEnd: "covered up to the last interval's end, not the largest",
+                CoverInCellOrder: "intervals are joined in cell order",
+            }
+        }
+        "Edge" {
+            "step = the smaller step height" {
+                StepOfRequestOnly: "the request's step height",
+                StepOfBodyOnly: "the body's step height",
+            }
+            "Rise above E" {
+                RiseWithoutE: "any rise",
+                RiseAtE: "a rise of E too",
+            }
+            "Step with lift dy if dy ≤ step + E" {
+                StepWithoutE: "dy ≤ step",
+                StepAtEOut: "dy < step + E",
+                StepEOnTheRise: "dy - E ≤ step",
+                StepLiftedByStep: "the lift is the step height",
+            }
+            "else Jump with lift jump_height if dy ≤ jump_height + E, else none" {
+                JumpBeforeStep: "Jump is tried before Step",
+                JumpWithoutE: "dy ≤ jump_height",
+                JumpAtEOut: "dy < jump_height + E",
+                JumpEOnTheRise: "dy - E ≤ jump_height",
+                JumpLiftedByDy: "the lift is dy",
+            }
+            "Fall beyond E" {
+                FallWithoutE: "any fall",
+                FallAtE: "a fall of E too",
+            }
+            "Drop, lift 0, if at most max_drop + E, else none" {
+                DropWithoutE: "at most max_drop",
+                DropAtEOut: "less than max_drop + E",
+                DropEOnTheFall: "the fall less E is at most max_drop",
+                DropLiftedByFall: "the lift is the fall",
+            }
+            "Otherwise Walk, lift the larger of dy and 0" {
+                WalkLiftZero: "the lift is 0",
+                WalkLiftDy: "the lift is dy",
+                WalkLiftKeepsZeroSign: "the larger of -0.0 and 0 is -0.0",
+            }
+            "target and raised point in range" {
+                TargetRangeUnread: "the target's range is not read",
+                RaisedRangeUnread: "the raised point's range is not read",
+                StepRaisedToTarget: "a Step's raised y is the target's y",
+            }
+            "target standable" {
+                TargetStandableUnread: "the target need not be standable",
+            }
+            "the lift, crossing and settle areas clear" {
+                LiftUnread: "the lift is not looked at",
+                LiftByDifference: "grown by raised y - y instead of by the lift",
+                CrossingUnread: "the crossing is not looked at",
+                CrossingAtFeet: "the crossing is at the height of the feet",
+                SettleUnread: "the settling is not looked at",
+                SweepBetweenBodies: "to ± half instead of (feet ± half) + difference",
+            }
+            "the segment supported" {
+                SegmentUnread: "the segment need not be supported",
+            }
+        }
+        "Graph step" {
+            "the nine column offsets in this order" {
+                OwnColumnMissing: "the own column is not visited",
+                OwnColumnLast: "the own column comes last",
+                SidesZBeforeX: "sides in z come before those in x",
+                SidesReversed: "sides in the reverse order",
+                DiagonalsReversed: "diagonals in the reverse order",
+                DiagonalsMissing: "no diagonals",
+            }
+            "Diagonals need two sides: (0,1), (2,1), (2,3), (0,3), numbered from 0 at (1,0)" {
+                DiagonalSidesTurned: "(0,3), (0,1), (2,1), (2,3)",
+                DiagonalSidesSwapped: "(0,1), (2,3), (2,1), (0,3)",
+                DiagonalByOneSide: "one of the two suffices",
+                DiagonalByFirstSide: "the first of the two decides",
+                DiagonalBySecondSide: "the second of the two decides",
+                DiagonalFree: "diagonals need no side",
+            }
+            "whether that side has an edge to a y at most this y + E" {
+                SideWithoutE: "at most this y",
+                SideAtEOut: "below this y + E",
+                SideByDifference: "y - this y is compared with E",
+                SideBelow: "below this y",
+                SideNotByDrop: "within E of this y",
+                SideByAnyHeight: "to any y",
+            }
+            "a closed side still answers" {
+                ClosedSideSilent: "a closed side is skipped",
+                RetainedSideSilent: "a side that was retained before is skipped",
+                DroppedSideSilent: "a side that has no room is skipped",
+            }
+            "The column is the floor of x and z plus the offset" {
+                ColumnTruncated: "x and z are cut towards 0",
+                ColumnRounded: "x and z are rounded",
+            }
+            "Low is the larger of y - max_drop and start y - range" {
+                LowWithoutRange: "y - max_drop",
+                LowIsStartMinusRange: "start y - range",
+            }
+            "high the smaller of y + max(step, jump) and start y + range" {
+                HighByStepOnly: "y + step for y + max(step, jump)",
+                HighByJumpOnly: "y + jump for y + max(step, jump)",
+                HighWithoutRange: "y + max(step, jump)",
+                HighIsStartPlusRange: "start y + range",
+            }
+            "Heights are box tops from low to high, E allowed" {
+                LowWithoutE: "no E below low",
+                LowAtEOut: "exactly E below low is out",
+                LowByDifference: "low - top is compared with E",
+                HighWithoutE: "no E above high",
+                HighAtEOut: "exactly E above high is out",
+                HighByDifference: "top - high is compared with E",
+            }
+            "of that column's cells with bit 2 from floor(low) - 2 to floor(high)" {
+                HeightsSupportUnread: "bit 2 is not read",
+                HeightsOfCellsAround: "of the cells around the column's too",
+                HeightsLayersFromMinusOne: "from floor(low) - 1",
+                HeightsLayersFromMinusThree: "from floor(low) - 3",
+                HeightsTopLayerMissing: "to floor(high) - 1",
+                HeightsLayerAbove: "to floor(high) + 1",
+            }
+            "whose box spans the centre, borders included" {
+                CentreBordersOutX: "without borders in x",
+                CentreBordersOutZ: "without borders in z",
+            }
+            "sorted" {
+                HeightsUnsorted: "in cell order",
+                HeightsFalling: "sorted from the top",
+            }
+            "one within E of the last kept is dropped" {
+                ThinnedInAChain: "one within E of the one before is dropped",
+                ThinnedEqualOnly: "only an equal one is dropped",
+                ThinnedAtEKept: "one at exactly E is kept",
+                ThinnedByLimit: "compared with the last kept + E",
+                ThinnedKeepsLater: "the one before is dropped instead",
+            }
+            "A step goes to any kept height with an edge" {
+                LowestHeightOnly: "only to the lowest with an edge",
+            }
+        }
+        "Connector" {
+            "an edge to the goal with both horizontal differences at most 1.5" {
+                ConnectorBelow: "below 1.5",
+                ConnectorWithinOne: "at most 1",
+                ConnectorWithE: "at most 1.5 + E",
+                ConnectorXUnread: "x is not read",
+                ConnectorZUnread: "z is not read",
+                ConnectorAlsoVertical: "y too",
+                ConnectorRound: "the straight horizontal distance at most 1.5",
+                ConnectorAlwaysWalk: "the last point is always a Walk",
+            }
+        }
+        "Same point" {
+            "equal bits, with -0.0 as 0" {
+                ZeroSignCounts: "-0.0 is not 0",
+                SamePointWithinE: "within E",
+                SamePointByColumn: "y is not read",
+            }
+        }
+        "Search" {
+            "lowest estimate first, then earliest push" {
+                TiesByNode: "then the lowest node",
+                TiesByLatestPush: "then the latest push",
+            }
+            "Estimate = cost + 1.5 × distance to goal" {
+                WeightOne: "1 × distance",
+                WeightTwo: "2 × distance",
+                EstimateWithoutCost: "no cost",
+                EstimateWithoutDistance: "no distance",
+                DistanceFlat: "the distance without y",
+                DistanceAlongAxes: "the distance along the axes",
+                DistanceFromZToX: "the squares are summed from z to x",
+                CostOfLiftAndSettle: "the cost is that of lift, crossing and settle",
+            }
+            "Pop, close, try the connector, then the columns" {
+                ClosedAfterConnector: "close after the connector",
+                ConnectorAfterColumns: "the connector after the columns",
+                ConnectorNotAtStart: "no connector at the start",
+                ConnectorRetained: "the connector's point takes a node",
+            }
+            "a start equal to the goal needs none: its list is the start alone" {
+                StartAtGoalTwice: "the list is start and goal",
+                StartAtGoalByBits: "-0.0 is not 0 there",
+            }
+            "An open point is re-parented" {
+                ReparentNever: "never",
+                ClosedReparented: "a closed one too",
+                ClosedReopened: "a closed one too, and it is open again",
+            }
+            "with the new edge's movement and lift" {
+                ReparentKeepsMovement: "the movement stays",
+                ReparentKeepsLift: "the lift stays",
+                ReparentKeepsParent: "the parent stays",
+                ReparentKeepsCost: "the cost stays",
+            }
+            "and pushed again" {
+                ReparentNotPushed: "not pushed again",
+                ReparentKeepsPush: "pushed again with its old number",
+            }
+            "only if new cost + E < old cost" {
+                ReparentAtEqualCost: "new cost ≤ old cost",
+                ReparentWithoutE: "new cost < old cost",
+                ReparentEOnTheOld: "new cost < old cost - E",
+                ReparentByDifference: "old cost - new cost > E",
+                ReparentWithinE: "new cost < old cost + E",
+            }
+            "2 BudgetExceeded: search ended after a new point was dropped" {
+                BudgetOneMore: "one node more is retained",
+                BudgetOneLess: "one node less is retained",
+                DropsUncounted: "Unreachable all the same",
+                DropsCountKnown: "a known point counts as dropped",
+                StopAtFirstDrop: "the search ends there",
+            }
+        }
+    }
+    asked {
+        "Supported segment" {
+            "must cover 0 to 1, each joint within E" {
+                AskedFirstJointWithoutE: "the first interval begins at 0",
+            }
+            "1 - E suffices" {
+                AskedCoverToOne: "1 is needed",
+                AskedCoverAtEOut: "exactly 1 - E does not suffice",
+            }
+        }
+    }
+}
