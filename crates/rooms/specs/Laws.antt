@@ -2,3 +2,4 @@
 pub mod Writes
 pub mod Scans
 pub mod Rooms
+pub mod Lists

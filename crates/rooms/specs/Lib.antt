@@ -3,4 +3,5 @@ pub mod Waypoints
 pub mod Records
 pub mod Scans
 pub mod Rooms
+pub mod Lists
 pub mod Laws

@@ -3,10 +3,12 @@
 // The types stand here, as the raw words of the records, so that whatever bytes a room holds are read and written back as they were. `records` reads and
 // writes one record, `scans` looks through a room, `lists` writes the found list. Every public function answers for every room: a record past the room's
 // end is read as zeros, and a write past it changes nothing.
-
+pub mod lists;
 pub mod records;
 pub mod scans;
 
+pub use lists::list_at;
+pub use lists::list_by;
 pub use records::get_entry;
 pub use records::get_node;
 pub use records::put_entry;
