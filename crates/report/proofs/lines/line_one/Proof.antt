@@ -1,0 +1,54 @@
+-- `report::lines::line_one` meets its contract. Assumes nothing.
+use native.Mathlib.Omega.{arith}
+use Rattle.report.specs.Digits.{decimal}
+use Rattle.report.specs.Lines.{outcomeWord, lineOne}
+use Rattle.report.specs.LineLaws.{then, whole}
+use borrow.Author.Needs.{needs}
+use Rattle.report.proofs.lines.line_one.Statement.{statement}
+use Rattle.report.proofs.lines.line_one.Tie as tie
+
+put-outcome-requires : tie.Need-put-outcome-requires
+put-outcome-requires c κs = search needs
+
+put-decimal-requires : tie.Need-put-decimal-requires
+put-decimal-requires c κs = search needs
+
+put-decimal-requires-2 : tie.Need-put-decimal-requires-2
+put-decimal-requires-2 c κs = search needs
+
+put-decimal-requires-3 : tie.Need-put-decimal-requires-3
+put-decimal-requires-3 c κs = search needs
+
+put-hex-requires : tie.Need-put-hex-requires
+put-hex-requires c κs = search needs
+
+same-length : tie.Need-same-length
+same-length c = search needs
+
+returns : tie.Need-returns
+unfolding lineOne
+returns c = 
+    let a = c .before .before .before .before .before .before .before .before .before .before .before .before .before .before .before .before .before .before .before .before .before .args in
+    let outcome = c .before .before .before .before .before .before .before .before .before .before .before .before .before .before .before .before .before .before .put-outcome .ensures in
+    let waypoints = c .before .before .before .before .before .before .before .before .before .before .before .before .before .before .put-decimal .ensures in
+    let retained = c .before .before .before .before .before .before .before .before .before .before .put-decimal2 .ensures in
+    let closed = c .before .before .before .before .before .before .put-decimal3 .ensures in
+    let bits = c .before .before .put-hex .ensures in
+    whole
+    (then (outcomeWord (a .number)) 32 (outcome .wrote)
+    (then (decimal (a .waypoints)) 32 (waypoints .wrote)
+    (then (decimal (a .retained)) 32 (retained .wrote)
+    (then (decimal (a .closed)) 32 (closed .wrote) (bits .wrote)))))
+    (omega (arith, c .before .before .before .before .before .before .before .before .before .before .before .before .before .before .before .before .before .before .before .before .before .pre, outcome .short, waypoints .short, retained .short, closed .short, bits .short))
+
+pub line-one-spec : {M : Type 1} → statement M
+line-one-spec =
+    tie.close
+    (tie.spec
+    put-outcome-requires
+    put-decimal-requires
+    put-decimal-requires-2
+    put-decimal-requires-3
+    put-hex-requires
+    same-length
+    returns)

@@ -1,0 +1,123 @@
+-- Laws of digits and of decimal places.
+use Prim.Native.Nat.{ℕ, zero, suc, _+_, _-_, _*_, _/_, _%_, _^_, _<_, _≤_}
+use native.Mathlib.Omega.{arith}
+use native.Mathlib.Nat.{pow-suc, pow-zero, div-lt-iff-lt-mul}
+use mathlib.Core.Path.{_≡_, refl, sym, ap, _∙_}
+use mathlib.Core.Bool.{Bool, true, false, cond}
+use mathlib.Core.List.{List, [], _∷_, _++_}
+use borrow.Author.Tests.{lt-ltb, le-ltb, ltb-true, ltb-false}
+use lib.Dec.{ltb}
+use lib.ListN.{length, set, length-append}
+use lib.Seq.{sets, set-comm}
+use Rattle.report.specs.Digits.{digit, digits, placesBy, places, hex, decimal}
+use Rattle.report.specs.Writing.{Field}
+use Rattle.report.specs.LineLaws.{sets-append, field-is}
+
+-- ---- a digit's byte
+
+pub low-digit : (d : ℕ) → d < 10 → 48 + d ≡ digit d
+unfolding digit
+low-digit d h = rw (lt-ltb d 10 h)
+
+pub high-digit : (d : ℕ) → 10 ≤ d → 87 + d ≡ digit d
+unfolding digit
+high-digit d h = rw (le-ltb d 10 h)
+
+-- ---- digits
+
+pub length-digits : (base n v : ℕ) → length (digits base n v) ≡ n
+length-digits base zero v = refl
+length-digits base (suc n) v = length-append (digits base n (v / base)) (digit (v % base) ∷ []) ∙ omega (arith, length-digits base n (v / base))
+
+-- a store behind a run of stores may come first
+sets-behind : (d s : List ℕ) (at i x : ℕ) → at + length d ≤ i → sets (set s i x) at d ≡ set (sets s at d) i x
+sets-behind [] s at i x h = refl
+sets-behind (v ∷ d) s at i x h =
+    ap (λ (l : List ℕ). sets l (suc at) d) (set-comm s i at x v (λ e. omega arith)) ∙ sets-behind d (set s at v) (suc at) i x (omega arith)
+
+-- the last digit first, and then the digits of what is left
+last-digit : (s : List ℕ) (at base n v : ℕ) →
+    sets (set s (at + n) (digit (v % base))) at (digits base n (v / base)) ≡ sets s at (digits base (suc n) v)
+last-digit s at base n v =
+    let d = digits base n (v / base) in
+    let x = digit (v % base) in
+    let e : length d ≡ n = length-digits base n (v / base) in
+    sets-behind d s at (at + n) x (omega arith)
+    ∙ ap (λ (k : ℕ). set (sets s at d) (at + k) x) (sym e)
+    ∙ sym (sets-append d (x ∷ []) s at)
+
+pub one-digit : (s : List ℕ) (at base k v x : ℕ) → 0 < k → x ≡ digit (v % base) →
+    sets (set s (at + (k - 1)) x) at (digits base (k - 1) (v / base)) ≡ sets s at (digits base k v)
+one-digit s at base k v x h e =
+    let n : suc (k - 1) ≡ k = omega arith in
+    rw e (last-digit s at base (k - 1) v ∙ ap (λ (j : ℕ). sets s at (digits base j v)) n)
+
+-- ---- decimal places
+
+-- more tenths than are needed change nothing
+enough : (f g v : ℕ) → v ≤ f → v ≤ g → placesBy f v ≡ placesBy g v
+enough zero zero v h k = refl
+enough zero (suc g) v h k = rw (lt-ltb v 10 (omega arith))
+enough (suc f) zero v h k = rw (lt-ltb v 10 (omega arith))
+enough (suc f) (suc g) v h k = go (ltb v 10) refl (λ l. enough f g (v / 10) (omega arith) (omega arith))
+  where
+    go : (t : Bool) → ltb v 10 ≡ t → (10 ≤ v → placesBy f (v / 10) ≡ placesBy g (v / 10)) → placesBy (suc f) v ≡ placesBy (suc g) v
+    go true p rest = rw p
+    go false p rest = rw p (ap suc (rest (ltb-false v 10 p)))
+
+pub one-place : (v : ℕ) → v < 10 → places v ≡ 1
+unfolding places
+one-place zero h = refl
+one-place (suc v) h = rw (lt-ltb (suc v) 10 h)
+
+pub more-places : (v : ℕ) → 10 ≤ v → places v ≡ suc (places (v / 10))
+unfolding places
+more-places zero h = absurd (omega arith)
+more-places (suc v) h = rw (le-ltb (suc v) 10 h) (ap suc (enough v (suc v / 10) (suc v / 10) (omega arith) (omega arith)))
+
+-- a number below 10 ^ n has at most n places
+most-by : (f n v : ℕ) → v < 10 ^ suc n → placesBy f v ≤ suc n
+most-by zero n v h = omega arith
+most-by (suc f) zero v h = rw (lt-ltb v 10 (omega arith)) (omega arith)
+most-by (suc f) (suc n) v h =
+    go (ltb v 10) (most-by f n (v / 10) (div-lt-iff-lt-mul {k = 10} {x = v} {y = 10 ^ suc n} (omega arith) .1 (rw pow-suc at h)))
+  where
+    go : (t : Bool) → placesBy f (v / 10) ≤ suc n → cond t 1 (suc (placesBy f (v / 10))) ≤ suc (suc n)
+    go true l = omega arith
+    go false l = omega arith
+
+-- so one of 64 bits has at most 20
+pub most-places : (v : ℕ) → v < 2 ^ 64 → places v ≤ 20
+unfolding places
+most-places v h = most-by v 19 v (omega arith)
+
+pub some-place : (v : ℕ) → 1 ≤ places v
+unfolding places
+some-place v = go v v
+  where
+    go : (f v : ℕ) → 1 ≤ placesBy f v
+    go zero v = omega arith
+    go (suc f) v = pick (ltb v 10)
+      where
+        pick : (t : Bool) → 1 ≤ cond t 1 (suc (placesBy f (v / 10)))
+        pick true = omega arith
+        pick false = omega arith
+
+-- ---- numbers as fields of a line
+
+-- digits that were stored, and the byte behind them
+digits-field : (s u : List ℕ) (at base n v end : ℕ) → u ≡ sets s at (digits base n v) → n ≤ 20 → Field s (set u (at + n) end) at (at + n + 1) (digits base n v) end
+digits-field s u at base n v end e h =
+    let size : length (digits base n v) ≡ n = length-digits base n v in
+    field-is s (set u (at + n) end) (digits base n v) at (at + n + 1) end
+    (ap (λ (l : List ℕ). set l (at + n) end) e ∙ ap (λ (k : ℕ). set (sets s at (digits base n v)) (at + k) end) (sym size))
+    (omega arith) (omega arith)
+
+pub hex-field : (s u : List ℕ) (at v end : ℕ) → u ≡ sets s at (digits 16 16 v) → Field s (set u (at + 16) end) at (at + 16 + 1) (hex v) end
+unfolding hex
+hex-field s u at v end e = digits-field s u at 16 16 v end e (omega arith)
+
+pub decimal-field : (s u : List ℕ) (at n v end : ℕ) → u ≡ sets s at (digits 10 n v) → n ≡ places v → n ≤ 20 →
+    Field s (set u (at + n) end) at (at + n + 1) (decimal v) end
+unfolding decimal
+decimal-field s u at n v end e p h = rw (← p) (digits-field s u at 10 n v end e h)

@@ -1,0 +1,112 @@
+-- Laws of writing: a line is its fields, written one behind another.
+use Prim.Native.Nat.{ℕ, zero, suc, _+_, _*_, _/_, _<_, _≤_}
+use native.Mathlib.Omega.{arith}
+use native.Mathlib.Nat.{add-zero, zero-add}
+use native.Mathlib.Numerals.{add-one}
+use mathlib.Core.Path.{_≡_, refl, sym, ap, _∙_}
+use mathlib.Core.Bool.{Bool, true, false, cond}
+use mathlib.Core.List.{List, [], _∷_, _++_, append-assoc}
+use borrow.Author.Tests.{lt-ltb, le-ltb, le-leb, lt-leb, eq-eqb, ne-eqb}
+use lib.Dec.{ltb}
+use lib.ListN.{length, getD, take, drop, set, length-append, drop-of-length-le}
+use lib.Seq.{sets, sets-eq, length-sets, drop-cons}
+use lib.Ieee.{Float, binary64, toBits}
+use Rattle.fields.specs.Little.{field}
+use Rattle.report.specs.Lines.{recordOf, lineOne, refusedLine, firstLine, waypointFields, waypointLine, inBuffer, countIn}
+use Rattle.report.specs.Writing.{Wrote, Field, Whole}
+
+-- a run of stores in two parts
+pub sets-append : (a b s : List ℕ) (i : ℕ) → sets s i (a ++ b) ≡ sets (sets s i a) (i + length a) b
+sets-append [] b s i = rw (add-zero i)
+sets-append (x ∷ a) b s i = let there : i + suc (length a) ≡ suc i + length a = omega arith in rw there (sets-append a b (set s i x) (suc i))
+
+-- a field, once its bytes and the one that ends it are stored
+pub field-is : (s t f : List ℕ) (at r end : ℕ) → t ≡ set (sets s at f) (at + length f) end → r ≡ at + length f + 1 → length f ≤ 20 → Field s t at r f end
+field-is s t f at r end e n h =
+    let is : t ≡ sets s at (f ++ (end ∷ [])) = e ∙ sym (sets-append f (end ∷ []) s at) in
+    let size : length (f ++ (end ∷ [])) ≡ length f + 1 = length-append f (end ∷ []) in
+    record { wrote = record { is = is; next = omega arith }; short = omega arith; size = ap length is ∙ length-sets s at (f ++ (end ∷ [])) }
+
+-- a word, byte by byte: the whole is what is left to write
+pub one-byte : (s w : List ℕ) (at k : ℕ) → k < length w → sets s (at + k) (drop k w) ≡ sets (set s (at + k) (getD w k 0)) (at + (k + 1)) (drop (k + 1) w)
+one-byte s w at k h = let e : at + (k + 1) ≡ suc (at + k) = omega arith in rw (e, add-one k, drop-cons w k 0)
+
+pub no-byte : (s w : List ℕ) (at k : ℕ) → length w ≤ k → sets s (at + k) (drop k w) ≡ s
+no-byte s w at k h = rw (drop-of-length-le w h)
+
+-- a field and what is written behind it
+pub then : {s t u g : List ℕ} {at m r : ℕ} (f : List ℕ) (b : ℕ) → Wrote s t at m (f ++ (b ∷ [])) → Wrote t u m r g → Wrote s u at r (f ++ (b ∷ g))
+then {s} {t} {u} {g} {at} {m} {r} f b first rest =
+    let both : (f ++ (b ∷ [])) ++ g ≡ f ++ (b ∷ g) = append-assoc f (b ∷ []) g in
+    let is : u ≡ sets s at ((f ++ (b ∷ [])) ++ g) =
+    rest .is ∙ ap (λ (l : List ℕ). sets l m g) (first .is)
+    ∙ ap (λ (k : ℕ). sets (sets s at (f ++ (b ∷ []))) k g) (first .next)
+    ∙ sym (sets-append (f ++ (b ∷ [])) g s at) in
+    record {
+      is = is ∙ ap (sets s at) both;
+      next = omega (arith, rest .next, first .next, length-append (f ++ (b ∷ [])) g, ap length both);
+    }
+
+-- a line from the buffer's start
+pub whole : {s t l : List ℕ} {r : ℕ} → Wrote s t 0 r l → r ≤ length s → Whole s t r l
+whole {s} {t} {l} {r} w h =
+    let n : r ≡ length l = w .next ∙ zero-add (length l) in
+    record {
+      is = w .is ∙ sets-eq l s 0 (omega arith) ∙ ap (λ (k : ℕ). l ++ drop k s) (zero-add (length l));
+      count = n;
+    }
+
+-- ---- in a buffer
+
+-- a whole line that was written, under whatever name the definitions have for it
+pub shown : {old new l m : List ℕ} {r : ℕ} → 128 ≤ length old → Whole old new r m → l ≡ m → (r ≡ countIn l old) × (new ≡ inBuffer l old)
+unfolding inBuffer countIn
+shown {old} h w e = rw (e, le-ltb (length old) 128 h) (w .count, w .is)
+
+-- a buffer that is too short, and an empty line: nothing was written
+pub too-short : (l old : List ℕ) → length old < 128 → (0 ≡ countIn l old) × (old ≡ inBuffer l old)
+unfolding inBuffer countIn
+too-short l old h = rw (lt-ltb (length old) 128 h) (refl, refl)
+
+pub nothing-shown : (l old : List ℕ) → l ≡ [] → (0 ≡ countIn l old) × (old ≡ inBuffer l old)
+unfolding inBuffer countIn
+nothing-shown l old e = rw e (go (ltb (length old) 128))
+  where
+    go : (t : Bool) → (_≡_ {A = ℕ} 0 (cond t 0 0)) × (old ≡ cond t old old)
+    go true = (refl, refl)
+    go false = (refl, refl)
+
+-- ---- the lines by the code's tests
+
+pub names-record : (number bad : ℕ) → number ≡ 7 → bad ≡ recordOf number bad
+unfolding recordOf
+names-record number bad e = rw (eq-eqb number 7 e)
+
+pub names-none : (number bad : ℕ) → (number ≡ 7 → ⊥) → 0 ≡ recordOf number bad
+unfolding recordOf
+names-none number bad d = rw (ne-eqb number 7 d)
+
+module _ (number bad waypoints retained closed : ℕ) (total : Float) where
+  pub outcome-first : (bits : ℕ) → number < 3 → bits ≡ toBits binary64 total →
+      firstLine number bad waypoints retained closed total ≡ lineOne number waypoints retained closed bits
+  unfolding firstLine
+  outcome-first bits h e = rw (lt-ltb number 3 h, e)
+
+  pub refusal-first : 3 ≤ number → firstLine number bad waypoints retained closed total ≡ refusedLine number bad
+  unfolding firstLine
+  refusal-first h = rw (le-ltb number 3 h)
+
+module _ (list : List ℕ) (place : ℕ) where
+  pub no-record : length list / 40 ≤ place → waypointLine list place ≡ []
+  unfolding waypointLine
+  no-record h = rw (le-ltb place (length list / 40) h)
+
+  pub no-movement : (m : ℕ) → m ≡ field 8 list (40 * place + 32) → 3 < m → place < length list / 40 → waypointLine list place ≡ []
+  unfolding waypointLine
+  no-movement m e h p = rw (lt-ltb place (length list / 40) p, ← e, lt-leb m 3 h)
+
+  pub a-record : (m x y z lift : ℕ) → place < length list / 40 → m ≤ 3 → m ≡ field 8 list (40 * place + 32) →
+      x ≡ field 8 list (40 * place) → y ≡ field 8 list (40 * place + 8) → z ≡ field 8 list (40 * place + 16) → lift ≡ field 8 list (40 * place + 24) →
+      waypointLine list place ≡ waypointFields place m x y z lift
+  unfolding waypointLine
+  a-record m x y z lift p h em ex ey ez el = rw (lt-ltb place (length list / 40) p, ← em, le-leb m 3 h, ← ex, ← ey, ← ez, ← el)
