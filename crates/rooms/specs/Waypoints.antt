@@ -18,3 +18,7 @@ samePoint p q = sameWord (p .x) (q .x) && sameWord (p .y) (q .y) && sameWord (p 
 -- 01, Modules 5: "lifts compare as numbers": equal bits, with -0.0 as 0, for no edge's lift is a NaN
 unfoldable pub alike : Label → Label → Bool
 alike a b = eqb (a .movement) (b .movement) && sameWord (a .lift) (b .lift)
+
+-- the start's label: "the start first (Walk, lift 0)"
+abbrev pub standing : Label
+standing = record { lift = 0; movement = 0 }

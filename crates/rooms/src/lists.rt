@@ -1,8 +1,8 @@
 // The found list (01: "Waypoint record 40 bytes"): the nodes back from the last one over their parents, written from its end.
-use crate::records::get_node;
-use crate::records::put_waypoint;
 use crate::Feet;
 use crate::Label;
+use crate::records::get_node;
+use crate::records::put_waypoint;
 ghost use mathlib.Core.Path.{_≡_};
 ghost use mathlib.Core.List.{[], _∷_, _++_, reverseAux};
 ghost use Prim.Native.Nat.{_*_, _≤_};

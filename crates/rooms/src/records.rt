@@ -38,8 +38,17 @@ pub fn get_node(nodes: &[u8], k: usize) -> NodeRecord
 {
     if nodes.len() / 56 < k {
         let feet = Feet { x: 0, y: 0, z: 0 };
-        let label = Label { lift: 0, movement: 0 };
-        return NodeRecord { feet, label, cost: 0, parent: 0, closed: 0 };
+        let label = Label {
+            lift: 0,
+            movement: 0,
+        };
+        return NodeRecord {
+            feet,
+            label,
+            cost: 0,
+            parent: 0,
+            closed: 0,
+        };
     }
     let at = 56 * k;
     let feet = feet_at(nodes, at);
@@ -47,7 +56,13 @@ pub fn get_node(nodes: &[u8], k: usize) -> NodeRecord
     let cost = fields::u64_at(nodes, at + 40);
     let parent = fields::u32_at(nodes, at + 48);
     let closed = fields::u32_at(nodes, at + 52);
-    NodeRecord { feet, label, cost, parent, closed }
+    NodeRecord {
+        feet,
+        label,
+        cost,
+        parent,
+        closed,
+    }
 }
 
 // The frontier record of node k.
@@ -55,13 +70,21 @@ pub fn get_entry(front: &[u8], k: usize) -> Entry
     ensures { λ r. ⌜ r ≡ entryAt (now (front .entry)) k ⌝ }
 {
     if front.len() / 24 < k {
-        return Entry { estimate: 0, order: 0, waiting: 0 };
+        return Entry {
+            estimate: 0,
+            order: 0,
+            waiting: 0,
+        };
     }
     let at = 24 * k;
     let estimate = fields::u64_at(front, at);
     let order = fields::u64_at(front, at + 8);
     let waiting = fields::u64_at(front, at + 16);
-    Entry { estimate, order, waiting }
+    Entry {
+        estimate,
+        order,
+        waiting,
+    }
 }
 
 // A word written, and that it is one.

@@ -1,8 +1,8 @@
 // Scans of the rooms (01, "Shapes to change": "`HashMap`: a scan of the node room. `BinaryHeap`: one waiting entry a node").
-use crate::records::feet_at;
-use crate::records::get_entry;
 use crate::Entry;
 use crate::Feet;
+use crate::records::feet_at;
+use crate::records::get_entry;
 ghost use mathlib.Core.Path.{_≡_};
 ghost use Prim.Native.Nat.{_+_, _≤_, _<_};
 ghost use lib.ListN.{length, replicate};

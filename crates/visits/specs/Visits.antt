@@ -13,6 +13,7 @@ use Rattle.rooms.specs.declared.Feet.{Feet}
 use Rattle.rooms.specs.declared.Label.{Label}
 use Rattle.rooms.specs.declared.NodeRecord.{NodeRecord}
 use Rattle.rooms.specs.declared.Counts.{Counts}
+use Rattle.rooms.specs.Waypoints.{standing}
 use Rattle.rooms.specs.Records.{nodeAt}
 use Rattle.rooms.specs.Rooms.{Note, nobody, nodeIn, stateOf}
 use Rattle.rooms.specs.Laws.Rooms.{BySamePoint}
@@ -85,10 +86,6 @@ pub record ClosedIf (aim : Aim) (k : ℕ) (c : Counts) (r : Closing) (a f b g : 
   pub node : r .node ≡ nodeAt a k
   pub done : ready (length a) (length f) (aim .budget) k c ≡ true → Closed aim k c (r .counts) a f b g
   pub left : ready (length a) (length f) (aim .budget) k c ≡ false → Untouched c (r .counts) a f b g
-
--- "the start first (Walk, lift 0)"
-abbrev pub standing : Label
-standing = record { lift = 0; movement = 0 }
 
 abbrev pub startRecord : Feet → NodeRecord
 startRecord p = record { feet = p; label = standing; cost = 0; parent = nobody; closed = 0 }

@@ -42,8 +42,16 @@ pub fn lowered(e: u64, old: Entry, order: u64) -> Entry
     ensures { λ r. ⌜ r ≡ lowered e old order ⌝ }
 {
     if floats::float_of(e) < floats::float_of(old.estimate) {
-        Entry { estimate: e, order, waiting: 1 }
+        Entry {
+            estimate: e,
+            order,
+            waiting: 1,
+        }
     } else {
-        Entry { estimate: old.estimate, order: old.order, waiting: 1 }
+        Entry {
+            estimate: old.estimate,
+            order: old.order,
+            waiting: 1,
+        }
     }
 }

@@ -5,11 +5,11 @@
 pub mod costs;
 mod steps;
 
+use rooms::Counts;
+use rooms::NodeRecord;
 pub use steps::begin;
 pub use steps::close;
 pub use steps::visit;
-use rooms::Counts;
-use rooms::NodeRecord;
 
 // What is searched: how many nodes may be retained, and the goal.
 pub struct Aim {

@@ -1,10 +1,10 @@
 // One step from a node that is expanded, a node closed, and the start retained, on the rooms.
+use crate::Aim;
+use crate::Closing;
 use crate::costs::cheaper;
 use crate::costs::cost_by;
 use crate::costs::estimate;
 use crate::costs::lowered;
-use crate::Aim;
-use crate::Closing;
 use rooms::Counts;
 use rooms::Entry;
 use rooms::Feet;
@@ -29,7 +29,17 @@ fn is_ready(nodes: usize, front: usize, budget: usize, k: usize, c: Counts) -> b
 }
 
 // A step to a point that is retained already, as node j.
-fn again(nodes: &mut [u8], front: &mut [u8], aim: Aim, k: usize, c: Counts, j: usize, cost: u64, to: Feet, label: Label) -> Counts
+fn again(
+    nodes: &mut [u8],
+    front: &mut [u8],
+    aim: Aim,
+    k: usize,
+    c: Counts,
+    j: usize,
+    cost: u64,
+    to: Feet,
+    label: Label,
+) -> Counts
     requires { ⌜ Ready (now nodes) (now front) (aim .budget) 1 c ⌝ }
     requires { ⌜ (j < c .retained) × (k < c .retained) ⌝ }
     ensures { λ r. ⌜ Seen aim k c j cost to label r (now (nodes .entry)) (now (front .entry)) (now (nodes .exit)) (now (front .exit)) ⌝ }
@@ -46,14 +56,34 @@ fn again(nodes: &mut [u8], front: &mut [u8], aim: Aim, k: usize, c: Counts, j: u
     let e = estimate(aim.goal, cost, to);
     let entry = lowered(e, waiting, c.pushed);
     let feet = old.feet;
-    let node = NodeRecord { feet, label, cost, parent: k as u32, closed: 0 };
+    let node = NodeRecord {
+        feet,
+        label,
+        cost,
+        parent: k as u32,
+        closed: 0,
+    };
     rooms::put_node(nodes, j, node);
     rooms::put_entry(front, j, entry);
-    Counts { retained: c.retained, closed: c.closed, pushed: c.pushed + 1, dropped: c.dropped }
+    Counts {
+        retained: c.retained,
+        closed: c.closed,
+        pushed: c.pushed + 1,
+        dropped: c.dropped,
+    }
 }
 
 // A step from node k, which is `from`.
-fn step(nodes: &mut [u8], front: &mut [u8], aim: Aim, k: usize, from: NodeRecord, c: Counts, to: Feet, label: Label) -> Counts
+fn step(
+    nodes: &mut [u8],
+    front: &mut [u8],
+    aim: Aim,
+    k: usize,
+    from: NodeRecord,
+    c: Counts,
+    to: Feet,
+    label: Label,
+) -> Counts
     requires { ⌜ Ready (now nodes) (now front) (aim .budget) 1 c ⌝ }
     requires { ⌜ k < c .retained ⌝ }
     ensures { λ r. ⌜ Visited aim k from c to label r (now (nodes .entry)) (now (front .entry)) (now (nodes .exit)) (now (front .exit)) ⌝ }
@@ -65,19 +95,48 @@ fn step(nodes: &mut [u8], front: &mut [u8], aim: Aim, k: usize, from: NodeRecord
         return again(nodes, front, aim, k, c, j, cost, to, label);
     }
     if aim.budget <= n {
-        return Counts { retained: n, closed: c.closed, pushed: c.pushed, dropped: c.dropped + 1 };
+        return Counts {
+            retained: n,
+            closed: c.closed,
+            pushed: c.pushed,
+            dropped: c.dropped + 1,
+        };
     }
     let e = estimate(aim.goal, cost, to);
-    let node = NodeRecord { feet: to, label, cost, parent: k as u32, closed: 0 };
-    let entry = Entry { estimate: e, order: c.pushed, waiting: 1 };
+    let node = NodeRecord {
+        feet: to,
+        label,
+        cost,
+        parent: k as u32,
+        closed: 0,
+    };
+    let entry = Entry {
+        estimate: e,
+        order: c.pushed,
+        waiting: 1,
+    };
     rooms::put_node(nodes, n, node);
     rooms::put_entry(front, n, entry);
-    Counts { retained: n + 1, closed: c.closed, pushed: c.pushed + 1, dropped: c.dropped }
+    Counts {
+        retained: n + 1,
+        closed: c.closed,
+        pushed: c.pushed + 1,
+        dropped: c.dropped,
+    }
 }
 
 // A step that an expansion of node k, which is `from`, found: to a known point it may re-parent, a new point is retained while there is room, and else
 // counted as dropped.
-pub fn visit(nodes: &mut [u8], front: &mut [u8], aim: Aim, k: usize, from: NodeRecord, c: Counts, to: Feet, label: Label) -> Counts
+pub fn visit(
+    nodes: &mut [u8],
+    front: &mut [u8],
+    aim: Aim,
+    k: usize,
+    from: NodeRecord,
+    c: Counts,
+    to: Feet,
+    label: Label,
+) -> Counts
     ensures { λ r. ⌜ VisitedIf aim k from c to label r (now (nodes .entry)) (now (front .entry)) (now (nodes .exit)) (now (front .exit)) ⌝ }
 {
     let ready = is_ready(nodes.len(), front.len(), aim.budget, k, c);
@@ -98,11 +157,26 @@ pub fn close(nodes: &mut [u8], front: &mut [u8], aim: Aim, k: usize, c: Counts) 
     }
     let feet = node.feet;
     let label = node.label;
-    let shut = NodeRecord { feet, label, cost: node.cost, parent: node.parent, closed: 1 };
-    let idle = Entry { estimate: 0, order: 0, waiting: 0 };
+    let shut = NodeRecord {
+        feet,
+        label,
+        cost: node.cost,
+        parent: node.parent,
+        closed: 1,
+    };
+    let idle = Entry {
+        estimate: 0,
+        order: 0,
+        waiting: 0,
+    };
     rooms::put_node(nodes, k, shut);
     rooms::put_entry(front, k, idle);
-    let counts = Counts { retained: c.retained, closed: c.closed + 1, pushed: c.pushed, dropped: c.dropped };
+    let counts = Counts {
+        retained: c.retained,
+        closed: c.closed + 1,
+        pushed: c.pushed,
+        dropped: c.dropped,
+    };
     Closing { node, counts }
 }
 
@@ -111,12 +185,35 @@ pub fn begin(nodes: &mut [u8], front: &mut [u8], budget: usize, start: Feet) -> 
     ensures { λ r. ⌜ Started budget start r (now (nodes .entry)) (now (front .entry)) (now (nodes .exit)) (now (front .exit)) ⌝ }
 {
     if budget == 0 {
-        return Counts { retained: 0, closed: 0, pushed: 1, dropped: 1 };
+        return Counts {
+            retained: 0,
+            closed: 0,
+            pushed: 1,
+            dropped: 1,
+        };
     }
-    let label = Label { lift: 0, movement: 0 };
-    let node = NodeRecord { feet: start, label, cost: 0, parent: rooms::NOBODY, closed: 0 };
-    let entry = Entry { estimate: 0, order: 0, waiting: 1 };
+    let label = Label {
+        lift: 0,
+        movement: 0,
+    };
+    let node = NodeRecord {
+        feet: start,
+        label,
+        cost: 0,
+        parent: rooms::NOBODY,
+        closed: 0,
+    };
+    let entry = Entry {
+        estimate: 0,
+        order: 0,
+        waiting: 1,
+    };
     rooms::put_node(nodes, 0, node);
     rooms::put_entry(front, 0, entry);
-    Counts { retained: 1, closed: 0, pushed: 1, dropped: 0 }
+    Counts {
+        retained: 1,
+        closed: 0,
+        pushed: 1,
+        dropped: 0,
+    }
 }

@@ -58,16 +58,16 @@ module _ (a fr : List ℕ) (n : ℕ) (small : n ≤ nobody) where
   unfolding nodeOf
   walk-trace zero k = refl
   walk-trace (suc f) k = ⊎-elim
-    (λ h. ap (trace (suc f) (nodesOf n a fr)) (some-parent k (omega arith)) ∙ ap (traceAt (trace f (nodesOf n a fr))) (nth-firsts n (nodeIn a fr) k h) ∙ ap (λ (l : List (Feet × Label)). waypointAt a k ∷ l) (walk-trace f (nodeAt a k .parent)) ∙ sym (walk-on (suc f) f a n k refl h))
-    (λ h. off f k h (eqb k nobody) refl ∙ sym (walk-off (suc f) a n k h))
-    (in-or-out k n)
+      (λ h. ap (trace (suc f) (nodesOf n a fr)) (some-parent k (omega arith)) ∙ ap (traceAt (trace f (nodesOf n a fr))) (nth-firsts n (nodeIn a fr) k h) ∙ ap (λ (l : List (Feet × Label)). waypointAt a k ∷ l) (walk-trace f (nodeAt a k .parent)) ∙ sym (walk-on (suc f) f a n k refl h))
+      (λ h. off f k h (eqb k nobody) refl ∙ sym (walk-off (suc f) a n k h))
+      (in-or-out k n)
 
   walk-some : (f k : ℕ) → trace f (nodesOf n a fr) (some k) ≡ walk f a n k
   walk-some zero k = refl
   walk-some (suc f) k = ⊎-elim
-    (λ h. ap (trace (suc f) (nodesOf n a fr)) (sym (some-parent k (omega arith))) ∙ walk-trace (suc f) k)
-    (λ h. (let z = nth-none (nodesOf n a fr) k (rw length-firsts h) in rw z) ∙ sym (walk-off (suc f) a n k h))
-    (in-or-out k n)
+      (λ h. ap (trace (suc f) (nodesOf n a fr)) (sym (some-parent k (omega arith))) ∙ walk-trace (suc f) k)
+      (λ h. (let z = nth-none (nodesOf n a fr) k (rw length-firsts h) in rw z) ∙ sym (walk-off (suc f) a n k h))
+      (in-or-out k n)
 
 -- the list that the theory's search finds at node k is the list of the room
 pub arrive-list : (a fr : List ℕ) (c : Counts) (k : ℕ) (t : List (Feet × Label)) → c .retained ≤ nobody → 56 * c .retained ≤ length a → arrive (stateOf a fr c) k t .found ≡ some (listOf a (c .retained) k t)
@@ -114,10 +114,12 @@ module _ (a : List ℕ) (n k m : ℕ) (old : List ℕ) (room : 40 * m ≤ length
       out ≡ take (40 * (j + 1)) old ++ (listBytes done ++ drop (40 * m) old) → new ≡ take (40 * j) out ++ (waypointBytes (waypointAt a at) ++ drop (40 * j + 40) out) → Backed a n k m old j (nodeAt a at .parent) new
   more zero done h i s l b w = absurd (omega arith)
   more (suc f) {j} {at} {out} {new} done h i s l b w = record {
-      fuel = f; done = waypointAt a at ∷ done;
-      split = s ∙ ap (λ (x : List (Feet × Label)). reverseAux x done) step;
-      left = omega (arith, l, ap length step);
-      bytes = w ∙ ap (λ (x : List ℕ). x ++ (waypointBytes (waypointAt a at) ++ drop (40 * j + 40) out)) front ∙ ap (λ (x : List ℕ). take (40 * j) old ++ (waypointBytes (waypointAt a at) ++ x)) past ∙ ap (λ (x : List ℕ). take (40 * j) old ++ x) (sym (append-assoc (waypointBytes (waypointAt a at)) (listBytes done) (drop (40 * m) old))) }
+    fuel = f;
+    done = waypointAt a at ∷ done;
+    split = s ∙ ap (λ (x : List (Feet × Label)). reverseAux x done) step;
+    left = omega (arith, l, ap length step);
+    bytes = w ∙ ap (λ (x : List ℕ). x ++ (waypointBytes (waypointAt a at) ++ drop (40 * j + 40) out)) front ∙ ap (λ (x : List ℕ). take (40 * j) old ++ (waypointBytes (waypointAt a at) ++ x)) past ∙ ap (λ (x : List ℕ). take (40 * j) old ++ x) (sym (append-assoc (waypointBytes (waypointAt a at)) (listBytes done) (drop (40 * m) old)));
+  }
     where
       step : walk (suc f) a n at ≡ waypointAt a at ∷ walk f a n (nodeAt a at .parent)
       step = walk-on (suc f) f a n at refl i

@@ -41,17 +41,25 @@ apart (suc k) (suc j) h = ⊎-elim (λ l. inl (omega arith)) (λ l. inr (omega a
 
 pub put-node : (a : List ℕ) (k : ℕ) (r : NodeRecord) → Fill nodeLayout (nodeWords r) → PutNode a k r (withNode a k r)
 unfolding nodeAt withNode
-put-node a k r fill = record { is = refl; wrote = λ room. record {
+put-node a k r fill = record {
+  is = refl;
+  wrote = λ room. record {
     here = ap nodeFrom (record-back nodeLayout a (56 * k) 0 (nodeWords r) fill (omega arith));
     there = λ j h. ap nodeFrom (record-apart nodeLayout a (56 * k) 0 (nodeWords r) nodeLayout (56 * j) 0 (⊎-elim (λ l. inl (omega arith)) (λ l. inr (omega arith)) (apart k j h)));
-    past = λ m h. drop-record nodeLayout a (56 * k) 0 (nodeWords r) (56 * m) (omega arith) } }
+    past = λ m h. drop-record nodeLayout a (56 * k) 0 (nodeWords r) (56 * m) (omega arith);
+  };
+}
 
 pub put-entry : (a : List ℕ) (k : ℕ) (e : Entry) → Fill entryLayout (entryWords e) → PutEntry a k e (withEntry a k e)
 unfolding entryAt withEntry
-put-entry a k e fill = record { is = refl; wrote = λ room. record {
+put-entry a k e fill = record {
+  is = refl;
+  wrote = λ room. record {
     here = ap entryFrom (record-back entryLayout a (24 * k) 0 (entryWords e) fill (omega arith));
     there = λ j h. ap entryFrom (record-apart entryLayout a (24 * k) 0 (entryWords e) entryLayout (24 * j) 0 (⊎-elim (λ l. inl (omega arith)) (λ l. inr (omega arith)) (apart k j h)));
-    past = λ m h. drop-record entryLayout a (24 * k) 0 (entryWords e) (24 * m) (omega arith) } }
+    past = λ m h. drop-record entryLayout a (24 * k) 0 (entryWords e) (24 * m) (omega arith);
+  };
+}
 
 -- ---- past its end: a read gives zeros, a write changes nothing
 

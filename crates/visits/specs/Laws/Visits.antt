@@ -29,7 +29,7 @@ use Rattle.visits.specs.declared.Aim.{Aim}
 use Rattle.visits.specs.declared.Closing.{Closing}
 use Rattle.visits.specs.Costs.{costBy, estimateBy, cheaper, pushedAs, lowered}
 use Rattle.visits.specs.Best.{opened, idle, given, relaxed, best}
-use Rattle.visits.specs.Visits.{Ready, ready, Kept, Untouched, Near, Seen, Visited, VisitedIf, Closed, ClosedIf, standing, startRecord, counted, Started, Begun}
+use Rattle.visits.specs.Visits.{Ready, ready, Kept, Untouched, Near, Seen, Visited, VisitedIf, Closed, ClosedIf, startRecord, counted, Started, Begun}
 
 -- ---- the bytes that stay, and the counts
 
@@ -112,9 +112,10 @@ module _ (aim : Aim) (k : ℕ) (c : Counts) (a f : List ℕ) (few : c .retained 
         WroteNode a j (childRecord k (nodeAt a j .feet) label cost) b → WroteEntry f j (lowered (estimateBy (aim .goal) cost to) (entryAt f j) (c .pushed)) g → Seen aim k c j cost to label pushed a f b g
     unfolding nodeOf relaxed stateOf
     seen-lower {b} {g} hk hj h l p w = record {
-        state = (let e = eq-eqb (nodeAt a j .closed) 0 h in rw (e, l) (λ i. record { nodes = ns i; book = c .pushed + 1; closings = c .closed; dropped = c .dropped; found = none }));
-        kept = kept-wrote (c .retained) hj p w;
-        near = record { more = omega arith; few = few; pushes = omega arith; drops = omega arith; closes = omega arith } }
+      state = (let e = eq-eqb (nodeAt a j .closed) 0 h in rw (e, l) (λ i. record { nodes = ns i; book = c .pushed + 1; closings = c .closed; dropped = c .dropped; found = none }));
+      kept = kept-wrote (c .retained) hj p w;
+      near = record { more = omega arith; few = few; pushes = omega arith; drops = omega arith; closes = omega arith };
+    }
       where
         ns : nodesOf (c .retained) b g ≡ set (nodesOf (c .retained) a f) j (child k (nodeAt a j .feet) label (opened cost (lowered (estimateBy (aim .goal) cost to) (entryAt f j) (c .pushed))))
         ns = nodes-set p w (c .retained) hj ∙ ap (set (nodesOf (c .retained) a f) j) (child-node k (nodeAt a j .feet) label cost _ hk)
@@ -137,8 +138,10 @@ module _ (aim : Aim) (k : ℕ) (c : Counts) (a f : List ℕ) (few : c .retained 
     pub visited-known : {r : Counts} {b g : List ℕ} (j cost : ℕ) → j ≡ first → cost ≡ costBy (from .cost) (from .feet) to → j < c .retained → Seen aim k c j cost to label r a f b g → Visited aim k from c to label r a f b g
     unfolding best
     visited-known j cost i e l s = record {
-        state = λ 𝓖 same n p q. (let z : costBy (n .note .cost) (n .point) to ≡ cost = rw (p, q) (sym e) in sym (visit-some 𝓖 same n (rw (← i) l) ∙ rw (z, ← i) (sym (s .state))));
-        kept = s .kept; near = s .near }
+      state = λ 𝓖 same n p q. (let z : costBy (n .note .cost) (n .point) to ≡ cost = rw (p, q) (sym e) in sym (visit-some 𝓖 same n (rw (← i) l) ∙ rw (z, ← i) (sym (s .state))));
+      kept = s .kept;
+      near = s .near;
+    }
 
     abbrev pub dropped : Counts
     dropped = record { retained = c .retained; closed = c .closed; pushed = c .pushed; dropped = c .dropped + 1 }
@@ -146,8 +149,10 @@ module _ (aim : Aim) (k : ℕ) (c : Counts) (a f : List ℕ) (few : c .retained 
     pub visited-drop : c .retained ≤ first → aim .budget ≤ c .retained → Visited aim k from c to label dropped a f a f
     unfolding stateOf
     visited-drop l m = record {
-        state = λ 𝓖 same n p q. sym (visit-none 𝓖 same n l ∙ (let z = le-ltb (length (nodesOf (c .retained) a f)) (aim .budget) (rw length-firsts m) in rw (z, ← add-one)));
-        kept = kept-none _ a f; near = record { more = omega arith; few = few; pushes = omega arith; drops = omega arith; closes = omega arith } }
+      state = λ 𝓖 same n p q. sym (visit-none 𝓖 same n l ∙ (let z = le-ltb (length (nodesOf (c .retained) a f)) (aim .budget) (rw length-firsts m) in rw (z, ← add-one)));
+      kept = kept-none _ a f;
+      near = record { more = omega arith; few = few; pushes = omega arith; drops = omega arith; closes = omega arith };
+    }
 
     abbrev pub grown : Counts
     grown = record { retained = c .retained + 1; closed = c .closed; pushed = c .pushed + 1; dropped = c .dropped }
@@ -156,9 +161,10 @@ module _ (aim : Aim) (k : ℕ) (c : Counts) (a f : List ℕ) (few : c .retained 
         WroteNode a (c .retained) (childRecord k to label cost) b → WroteEntry f (c .retained) (pushedAs (estimateBy (aim .goal) cost to) (c .pushed)) g → Visited aim k from c to label grown a f b g
     unfolding stateOf best
     visited-new {b} {g} cost e l m hk p w = record {
-        state = λ 𝓖 same n x y. (let z : costBy (n .note .cost) (n .point) to ≡ cost = rw (x, y) (sym e) in let t = lt-ltb (length (nodesOf (c .retained) a f)) (aim .budget) (rw length-firsts m) in sym (visit-none 𝓖 same n l ∙ rw (t, z) (λ i. record { nodes = sym ns i; book = c .pushed + 1; closings = c .closed; dropped = c .dropped; found = none })));
-        kept = kept-wrote (c .retained + 1) (omega arith) p w;
-        near = record { more = omega arith; few = omega arith; pushes = omega arith; drops = omega arith; closes = omega arith } }
+      state = λ 𝓖 same n x y. (let z : costBy (n .note .cost) (n .point) to ≡ cost = rw (x, y) (sym e) in let t = lt-ltb (length (nodesOf (c .retained) a f)) (aim .budget) (rw length-firsts m) in sym (visit-none 𝓖 same n l ∙ rw (t, z) (λ i. record { nodes = sym ns i; book = c .pushed + 1; closings = c .closed; dropped = c .dropped; found = none })));
+      kept = kept-wrote (c .retained + 1) (omega arith) p w;
+      near = record { more = omega arith; few = omega arith; pushes = omega arith; drops = omega arith; closes = omega arith };
+    }
       where
         ns : nodesOf (c .retained + 1) b g ≡ nodesOf (c .retained) a f ++ (child k to label (opened cost (pushedAs (estimateBy (aim .goal) cost to) (c .pushed))) ∷ [])
         ns = ap (λ (i : ℕ). nodesOf i b g) (add-one (c .retained)) ∙ nodes-more p w ∙ ap (λ (x : Node Feet Label Note). nodesOf (c .retained) a f ++ (x ∷ [])) (child-node k to label cost _ hk)
@@ -174,9 +180,10 @@ shutCounts c = record { retained = c .retained; closed = c .closed + 1; pushed =
 pub closes : (aim : Aim) (k : ℕ) (c : Counts) (a f : List ℕ) {b g : List ℕ} → k < c .retained → c .retained ≤ aim .budget → WroteNode a k (shutRecord (nodeAt a k)) b → WroteEntry f k idle g → Closed aim k c (shutCounts c) a f b g
 unfolding stateOf nodeOf best
 closes aim k c a f h few p w = record {
-    state = λ 𝓖. (let e = nodes-set p w (c .retained) h in let o = add-one (c .closed) in λ i. record { nodes = e i; book = c .pushed; closings = o i; dropped = c .dropped; found = none });
-    kept = kept-wrote (c .retained) h p w;
-    near = record { more = omega arith; few = few; pushes = omega arith; drops = omega arith; closes = omega arith } }
+  state = λ 𝓖. (let e = nodes-set p w (c .retained) h in let o = add-one (c .closed) in λ i. record { nodes = e i; book = c .pushed; closings = o i; dropped = c .dropped; found = none });
+  kept = kept-wrote (c .retained) h p w;
+  near = record { more = omega arith; few = few; pushes = omega arith; drops = omega arith; closes = omega arith };
+}
 
 -- ---- the start
 
@@ -190,6 +197,7 @@ begun (suc m) start {r} a f {b} {g} x y s = let t = s .some (λ e. omega arith) 
   where
     go : r ≡ counted 1 0 → WroteNode a 0 (startRecord start) b → WroteEntry f 0 (pushedAs 0 0) g → Begun (suc m) start r a f b g
     go e p w = rw e (record {
-        state = λ 𝓖 i j goal. (let t = lt-ltb 0 (suc m) (omega arith) in rw (i, j, t) (let n = nodes-more p w in λ i. record { nodes = n i; book = 1; closings = 0; dropped = 0; found = none }));
-        kept = kept-wrote 1 (omega arith) p w;
-        near = record { more = omega arith; few = omega arith; pushes = omega arith; drops = omega arith; closes = omega arith } })
+      state = λ 𝓖 i j goal. (let t = lt-ltb 0 (suc m) (omega arith) in rw (i, j, t) (let n = nodes-more p w in λ i. record { nodes = n i; book = 1; closings = 0; dropped = 0; found = none }));
+      kept = kept-wrote 1 (omega arith) p w;
+      near = record { more = omega arith; few = omega arith; pushes = omega arith; drops = omega arith; closes = omega arith };
+    })
