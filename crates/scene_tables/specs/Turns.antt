@@ -37,10 +37,9 @@ turn-keeps f h (suc n) k t e = turn-keeps f h n (suc k) (f k t) (λ j u a b. e j
 
 -- turn j sets slot j to a value, and no other slot
 module _ (f : ℕ → List ℕ → List ℕ) (g : ℕ → List ℕ → ℕ) (v : ℕ → ℕ) (bound long : ℕ)
-  (keeps : (j : ℕ) (t : List ℕ) → length (f j t) ≡ length t)
-  (same : (j : ℕ) (t : List ℕ) → j < bound → long ≤ length t → g j (f j t) ≡ v j)
-  (other : (i j : ℕ) (t : List ℕ) → (i ≡ j → ⊥) → g i (f j t) ≡ g i t) where
-
+    (keeps : (j : ℕ) (t : List ℕ) → length (f j t) ≡ length t)
+    (same : (j : ℕ) (t : List ℕ) → j < bound → long ≤ length t → g j (f j t) ≡ v j)
+    (other : (i j : ℕ) (t : List ℕ) → (i ≡ j → ⊥) → g i (f j t) ≡ g i t) where
   pub turn-in : (n k i : ℕ) (t : List ℕ) → k ≤ i → i < k + n → k + n ≤ bound → long ≤ length t → g i (inTurn f k n t) ≡ v i
   unfolding inTurn
   turn-in zero k i t a b c l = absurd (omega arith)
