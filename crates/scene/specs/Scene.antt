@@ -33,7 +33,13 @@ empty = record {
   number = 0;
   kind = 0;
   request = record {
-    start = noPoint; goal = noPoint; «max_range» = zero; «node_budget» = 0; «step_height» = zero; «jump_height» = zero; «max_drop» = zero;
+    start = noPoint;
+    goal = noPoint;
+    «max_range» = zero;
+    «node_budget» = 0;
+    «step_height» = zero;
+    «jump_height» = zero;
+    «max_drop» = zero;
   };
   body = record { width = zero; height = zero; «step_height» = zero };
   window = record { x = pos 0; y = pos 0; z = pos 0; sx = 0; sy = 0; sz = 0 };
@@ -47,13 +53,23 @@ unfoldable pub requestAfter : ℕ → Request → List ℕ → Request
 requestAfter k r s =
     cond (eqb k 1)
     (record {
-      start = startOf s; goal = goalOf s; «max_range» = rangeOf s; «node_budget» = numberOf s;
-      «step_height» = r .«step_height»; «jump_height» = r .«jump_height»; «max_drop» = r .«max_drop»;
+      start = startOf s;
+      goal = goalOf s;
+      «max_range» = rangeOf s;
+      «node_budget» = numberOf s;
+      «step_height» = r .«step_height»;
+      «jump_height» = r .«jump_height»;
+      «max_drop» = r .«max_drop»;
     })
     (cond (eqb k 2)
     (record {
-      start = r .start; goal = r .goal; «max_range» = r .«max_range»; «node_budget» = r .«node_budget»;
-      «step_height» = floatField s 8; «jump_height» = floatField s 16; «max_drop» = floatField s 24;
+      start = r .start;
+      goal = r .goal;
+      «max_range» = r .«max_range»;
+      «node_budget» = r .«node_budget»;
+      «step_height» = floatField s 8;
+      «jump_height» = floatField s 16;
+      «max_drop» = floatField s 24;
     })
     r)
 

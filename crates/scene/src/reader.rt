@@ -87,7 +87,14 @@ fn is_good(state: Reading, bytes: &[u8]) -> bool
 }
 
 // One record taken in. A bad one writes nothing.
-pub fn read_record(state: Reading, bytes: &[u8], cells: &mut [u8], perms: &mut [u8], shapes: &mut [u8], boxes: &mut [u8]) -> Step
+pub fn read_record(
+    state: Reading,
+    bytes: &[u8],
+    cells: &mut [u8],
+    perms: &mut [u8],
+    shapes: &mut [u8],
+    boxes: &mut [u8],
+) -> Step
     ensures answer { λ r. ⌜ stepAnswer r ≡ step state (now (bytes .entry)) ⌝ }
     ensures cells { λ _. ⌜ now (cells .exit) ≡ cellsRead state (now (bytes .entry)) (now (cells .entry)) ⌝ }
     ensures permissions { λ _. ⌜ now (perms .exit) ≡ permsRead state (now (bytes .entry)) (now (perms .entry)) ⌝ }

@@ -24,12 +24,27 @@ fn record_end(at: usize, len: usize) -> usize
 // What stands at the end of the input.
 fn ended(state: Reading, made: u64) -> Answer {
     match scene::end(state) {
-        Ended::Whole(_) => Answer { number: 0, record: 0, digest: made },
-        Ended::Bad(k) => Answer { number: 7, record: k, digest: made },
+        Ended::Whole(_) => Answer {
+            number: 0,
+            record: 0,
+            digest: made,
+        },
+        Ended::Bad(k) => Answer {
+            number: 7,
+            record: k,
+            digest: made,
+        },
     }
 }
 
-fn read_from(first: Reading, bytes: &[u8], cells: &mut [u8], perms: &mut [u8], shapes: &mut [u8], boxes: &mut [u8]) -> Answer {
+fn read_from(
+    first: Reading,
+    bytes: &[u8],
+    cells: &mut [u8],
+    perms: &mut [u8],
+    shapes: &mut [u8],
+    boxes: &mut [u8],
+) -> Answer {
     let mut state = first;
     let mut at: usize = 0;
     while at < bytes.len() {
@@ -40,7 +55,11 @@ fn read_from(first: Reading, bytes: &[u8], cells: &mut [u8], perms: &mut [u8], s
             }
             Step::Bad(k) => {
                 let made = digest::of_scene(state, cells, perms, shapes, boxes);
-                return Answer { number: 7, record: k, digest: made };
+                return Answer {
+                    number: 7,
+                    record: k,
+                    digest: made,
+                };
             }
         }
         at = e;
@@ -50,9 +69,20 @@ fn read_from(first: Reading, bytes: &[u8], cells: &mut [u8], perms: &mut [u8], s
 }
 
 // The scene of the first n bytes, or of all.
-pub(crate) fn read_front(bytes: &[u8], n: usize, cells: &mut [u8], perms: &mut [u8], shapes: &mut [u8], boxes: &mut [u8]) -> Answer {
+pub(crate) fn read_front(
+    bytes: &[u8],
+    n: usize,
+    cells: &mut [u8],
+    perms: &mut [u8],
+    shapes: &mut [u8],
+    boxes: &mut [u8],
+) -> Answer {
     let Begun::Ready(first) = scene::begin(cells, perms, shapes, boxes) else {
-        return Answer { number: 5, record: 0, digest: 0 };
+        return Answer {
+            number: 5,
+            record: 0,
+            digest: 0,
+        };
     };
     if bytes.len() < n {
         return read_from(first, bytes, cells, perms, shapes, boxes);

@@ -58,11 +58,21 @@ fn signed(d: u64, x: i32) -> u64 {
 
 fn of_window(d: u64, w: Window) -> u64 {
     let origin = signed(signed(signed(d, w.x), w.y), w.z);
-    number(number(number(origin, w.sx as u64, 4), w.sy as u64, 4), w.sz as u64, 4)
+    number(
+        number(number(origin, w.sx as u64, 4), w.sy as u64, 4),
+        w.sz as u64,
+        4,
+    )
 }
 
 // Request, body, window, and each table as far as it is in use.
-pub(crate) fn of_scene(state: Reading, cells: &[u8], perms: &[u8], shapes: &[u8], boxes: &[u8]) -> u64 {
+pub(crate) fn of_scene(
+    state: Reading,
+    cells: &[u8],
+    perms: &[u8],
+    shapes: &[u8],
+    boxes: &[u8],
+) -> u64 {
     let used = scene::in_use(state.counts);
     let asked = of_body(of_request(0, state.request), state.body);
     let a = table(of_window(asked, state.window), cells, used.cells);

@@ -31,7 +31,13 @@ fn line(a: Answer) {
 }
 
 // The base scene with 8 bytes written over it, cut to a length; then it is mended.
-fn damage(scene: &mut [u8], cells: &mut [u8], perms: &mut [u8], shapes: &mut [u8], boxes: &mut [u8]) {
+fn damage(
+    scene: &mut [u8],
+    cells: &mut [u8],
+    perms: &mut [u8],
+    shapes: &mut [u8],
+    boxes: &mut [u8],
+) {
     let mut d = [0u8; 28];
     io::read_full(STDIN_FILENO, &mut d);
     let n = fields::u32_at(&d, 0) as usize;
@@ -42,7 +48,13 @@ fn damage(scene: &mut [u8], cells: &mut [u8], perms: &mut [u8], shapes: &mut [u8
     fields::put_u64(scene, place, old);
 }
 
-fn damages(scene: &mut [u8], cells: &mut [u8], perms: &mut [u8], shapes: &mut [u8], boxes: &mut [u8]) {
+fn damages(
+    scene: &mut [u8],
+    cells: &mut [u8],
+    perms: &mut [u8],
+    shapes: &mut [u8],
+    boxes: &mut [u8],
+) {
     let count = word();
     for _ in 0..count {
         damage(scene, cells, perms, shapes, boxes);
@@ -50,7 +62,13 @@ fn damages(scene: &mut [u8], cells: &mut [u8], perms: &mut [u8], shapes: &mut [u
 }
 
 // A whole scene: its length, its stored answer, which is passed over, and its bytes.
-fn whole(scene: &mut [u8], cells: &mut [u8], perms: &mut [u8], shapes: &mut [u8], boxes: &mut [u8]) {
+fn whole(
+    scene: &mut [u8],
+    cells: &mut [u8],
+    perms: &mut [u8],
+    shapes: &mut [u8],
+    boxes: &mut [u8],
+) {
     let mut d = [0u8; 16];
     io::read_full(STDIN_FILENO, &mut d);
     let n = fields::u32_at(&d, 0) as usize;
@@ -58,7 +76,13 @@ fn whole(scene: &mut [u8], cells: &mut [u8], perms: &mut [u8], shapes: &mut [u8]
     line(case::read_front(scene, n, cells, perms, shapes, boxes));
 }
 
-fn wholes(scene: &mut [u8], cells: &mut [u8], perms: &mut [u8], shapes: &mut [u8], boxes: &mut [u8]) {
+fn wholes(
+    scene: &mut [u8],
+    cells: &mut [u8],
+    perms: &mut [u8],
+    shapes: &mut [u8],
+    boxes: &mut [u8],
+) {
     let count = word();
     for _ in 0..count {
         whole(scene, cells, perms, shapes, boxes);

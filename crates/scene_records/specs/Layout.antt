@@ -64,8 +64,12 @@ bodyOf s = record { width = floatField s 32; height = floatField s 40; «step_he
 -- kind 3: "window origin, sizes"
 unfoldable pub windowOf : List ℕ → Window
 windowOf s = record {
-  x = signedField s 8; y = signedField s 12; z = signedField s 16;
-  sx = field 4 s 20; sy = field 4 s 24; sz = field 4 s 28;
+  x = signedField s 8;
+  y = signedField s 12;
+  z = signedField s 16;
+  sx = field 4 s 20;
+  sy = field 4 s 24;
+  sz = field 4 s 28;
 }
 
 -- a window's cells; one with a size above 256, which no scene has, has none

@@ -33,7 +33,11 @@ fn room_in_shape(counts: Counts, n: u32) -> bool
     ensures { λ r. ⌜ r ≡ roomInShape counts n ⌝ }
 {
     let last = counts.last;
-    if n + 1 == counts.shapes { last < 16 } else { true }
+    if n + 1 == counts.shapes {
+        last < 16
+    } else {
+        true
+    }
 }
 
 fn shape_good(counts: Counts, bytes: &[u8]) -> bool

@@ -1,2 +1,3 @@
 pub mod Made
 pub mod Laws
+pub mod Turns

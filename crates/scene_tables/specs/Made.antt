@@ -60,9 +60,13 @@ axisOf s at origin size = spanOf origin size (signedField s at) (signedField s (
 
 unfoldable pub fillOf : Window → List ℕ → Fill
 fillOf w s = record {
-  xs = axisOf s 8 (w .x) (w .sx); ys = axisOf s 12 (w .y) (w .sy); zs = axisOf s 16 (w .z) (w .sz);
-  sx = w .sx; sz = w .sz;
-  state = field 4 s 32; shape = field 4 s 36;
+  xs = axisOf s 8 (w .x) (w .sx);
+  ys = axisOf s 12 (w .y) (w .sy);
+  zs = axisOf s 16 (w .z) (w .sz);
+  sx = w .sx;
+  sz = w .sz;
+  state = field 4 s 32;
+  shape = field 4 s 36;
 }
 
 -- f of each cell of a span; of one that ends before it begins, of none

@@ -33,10 +33,7 @@ fn span(origin: i32, size: u32, min: i32, max: i32) -> Span
     let last = past(origin, max);
     let cells = size as usize;
     if last < cells {
-        Span {
-            low,
-            end: last + 1,
-        }
+        Span { low, end: last + 1 }
     } else {
         Span { low, end: cells }
     }

@@ -25,7 +25,11 @@ with-box-counted-requires c κs = rw (c .number-of .ensures) (c .before .before 
 returns-2 : tie.Need-returns-2
 unfolding countsAfter
 returns-2 c = rw (
-    ne-eqb _ _ (c .before .before .before .if1 .left), eq-eqb _ _ (c .before .before .if2 .taken), c .with-box-counted .ensures, c .before .number-of .ensures)
+  ne-eqb _ _ (c .before .before .before .if1 .left),
+  eq-eqb _ _ (c .before .before .if2 .taken),
+  c .with-box-counted .ensures,
+  c .before .number-of .ensures,
+)
 
 number-of-requires-2 : tie.Need-number-of-requires-2
 number-of-requires-2 c κs = search needs
@@ -36,7 +40,11 @@ add-t9 c = record { fits = omega (arith, c .number-of2 .ensures, c .before .befo
 returns-3 : tie.Need-returns-3
 unfolding countsAfter
 returns-3 c = rw (
-    ne-eqb _ _ (c .before .before .before .if1 .left), ne-eqb _ _ (c .before .before .if2 .left), eq-eqb _ _ (c .before .if3 .taken), c .number-of2 .ensures)
+  ne-eqb _ _ (c .before .before .before .if1 .left),
+  ne-eqb _ _ (c .before .before .if2 .left),
+  eq-eqb _ _ (c .before .if3 .taken),
+  c .number-of2 .ensures,
+)
 
 returns-4 : tie.Need-returns-4
 unfolding countsAfter

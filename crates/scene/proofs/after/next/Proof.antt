@@ -22,7 +22,12 @@ next-number-requires c κs = search needs
 returns : tie.Need-returns
 unfolding next
 returns c = rw (
-    c .next-number .ensures, c .before .counts-after .ensures, c .before .before .window-after .ensures, c .before .before .before .body-after .ensures, c .before .before .before .before .request-after .ensures)
+  c .next-number .ensures,
+  c .before .counts-after .ensures,
+  c .before .before .window-after .ensures,
+  c .before .before .before .body-after .ensures,
+  c .before .before .before .before .request-after .ensures,
+)
 
 pub next-spec : {M : Type 1} → statement M
 next-spec =

@@ -23,7 +23,12 @@ cast-t11 c = search needs
 returns : tie.Need-returns
 unfolding requestAfter
 returns c = rw (
-    eq-eqb _ _ (c .before .before .before .before .if1 .taken), c .before .before .before .point-at .ensures, c .before .before .point-at2 .ensures, c .before .f64-at .ensures, c .number-of .ensures)
+  eq-eqb _ _ (c .before .before .before .before .if1 .taken),
+  c .before .before .before .point-at .ensures,
+  c .before .before .point-at2 .ensures,
+  c .before .f64-at .ensures,
+  c .number-of .ensures,
+)
 
 f64-at-requires-2 : tie.Need-f64-at-requires-2
 f64-at-requires-2 c κs = search needs
@@ -37,7 +42,12 @@ f64-at-requires-4 c κs = search needs
 returns-2 : tie.Need-returns-2
 unfolding requestAfter
 returns-2 c = rw (
-    ne-eqb _ _ (c .before .before .before .before .before .before .if1 .left), eq-eqb _ _ (c .before .before .before .before .before .if2 .taken), c .before .before .f64-at2 .ensures, c .before .f64-at3 .ensures, c .f64-at4 .ensures)
+  ne-eqb _ _ (c .before .before .before .before .before .before .if1 .left),
+  eq-eqb _ _ (c .before .before .before .before .before .if2 .taken),
+  c .before .before .f64-at2 .ensures,
+  c .before .f64-at3 .ensures,
+  c .f64-at4 .ensures,
+)
 
 returns-3 : tie.Need-returns-3
 unfolding requestAfter

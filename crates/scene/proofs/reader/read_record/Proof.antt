@@ -62,10 +62,16 @@ returns-2 c =
     let q : goodIn (s .args .state) (now (s .args .bytes)) ≡ true = sym (c .before .before .before .before .before .before .before .before .before .before .before .before .before .before .before .before .before .before .before .is-good .ensures) ∙ not-false _ (c .before .before .before .before .before .before .before .before .before .before .before .before .before .before .before .before .before .before .if1 .left) in
     let k = c .before .before .before .before .before .before .before .before .before .before .before .before .before .before .before .before .before .byte-at .ensures in (
       rw (q, ← k) (ap given (c .next .ensures)),
-      (rw (q, ← k) (c .before .before .before .before .before .before .before .before .before .before .before .before .before .before .before .write-cells .ensures),
-      (rw (q, ← k) (c .before .before .before .before .before .before .before .before .before .before .before .write-permission .ensures),
-      (rw (q, ← k) (c .before .before .before .before .before .before .before .write-shape .ensures),
-      rw (q, ← k) (c .before .before .before .write-box .ensures)))),
+      (
+        rw (q, ← k) (c .before .before .before .before .before .before .before .before .before .before .before .before .before .before .before .write-cells .ensures),
+        (
+          rw (q, ← k) (c .before .before .before .before .before .before .before .before .before .before .before .write-permission .ensures),
+          (
+            rw (q, ← k) (c .before .before .before .before .before .before .before .write-shape .ensures),
+            rw (q, ← k) (c .before .before .before .write-box .ensures),
+          ),
+        ),
+      ),
     )
 
 pub read-record-spec : {M : Type 1} → statement M

@@ -27,13 +27,21 @@ u32-at-requires-3 c κs = search needs
 
 returns : tie.Need-returns
 unfolding windowOf
-returns c = 
+returns c =
     let x : SFits w32 (c .before .before .before .before .before .i32-at .result) = record { sfits = c .before .before .before .before .before .i32-at .ok } in
     let y : SFits w32 (c .before .before .before .before .i32-at2 .result) = record { sfits = c .before .before .before .before .i32-at2 .ok } in
     let z : SFits w32 (c .before .before .before .i32-at3 .result) = record { sfits = c .before .before .before .i32-at3 .ok } in
     rw (
-    toZ-ofZ x, toZ-ofZ y, toZ-ofZ z, c .before .before .before .before .before .i32-at .ensures, c .before .before .before .before .i32-at2 .ensures, c .before .before .before .i32-at3 .ensures,
-    c .before .before .u32-at .ensures, c .before .u32-at2 .ensures, c .u32-at3 .ensures)
+      toZ-ofZ x,
+      toZ-ofZ y,
+      toZ-ofZ z,
+      c .before .before .before .before .before .i32-at .ensures,
+      c .before .before .before .before .i32-at2 .ensures,
+      c .before .before .before .i32-at3 .ensures,
+      c .before .before .u32-at .ensures,
+      c .before .u32-at2 .ensures,
+      c .u32-at3 .ensures,
+    )
 
 pub window-of-spec : {M : Type 1} → statement M
 window-of-spec =

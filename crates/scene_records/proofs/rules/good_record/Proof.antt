@@ -30,8 +30,14 @@ rule-kept-requires c κs = search needs
 returns-2 : tie.Need-returns-2
 unfolding good
 returns-2 c = rw (
-    eq-eqb _ _ (c .before .before .before .before .before .before .if1 .left), ← c .before .before .before .before .before .byte-at .ensures, c .rule-kept .ensures, c .before .zeros-from .ensures, c .before .before .unused-from .ensures,
-    c .before .before .before .three-zeros .ensures, c .before .before .before .before .in-order .ensures)
+  eq-eqb _ _ (c .before .before .before .before .before .before .if1 .left),
+  ← c .before .before .before .before .before .byte-at .ensures,
+  c .rule-kept .ensures,
+  c .before .zeros-from .ensures,
+  c .before .before .unused-from .ensures,
+  c .before .before .before .three-zeros .ensures,
+  c .before .before .before .before .in-order .ensures,
+)
 
 pub good-record-spec : {M : Type 1} → statement M
 good-record-spec =

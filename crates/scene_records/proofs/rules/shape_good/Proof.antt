@@ -30,8 +30,12 @@ add-result c = search needs
 returns-2 : tie.Need-returns-2
 unfolding shapeRule
 returns-2 c = rw (
-    ← c .before .before .before .before .before .before .number-of .ensures, le-leb _ _ (c .before .before .before .before .before .if1 .left), c .before .before .box-good .ensures, c .before .before .before .box-of .ensures,
-    c .before .before .before .before .room-in-shape .ensures)
+  ← c .before .before .before .before .before .before .number-of .ensures,
+  le-leb _ _ (c .before .before .before .before .before .if1 .left),
+  c .before .before .box-good .ensures,
+  c .before .before .before .box-of .ensures,
+  c .before .before .before .before .room-in-shape .ensures,
+)
 
 pub shape-good-spec : {M : Type 1} → statement M
 shape-good-spec =

@@ -55,7 +55,7 @@ loop-again c =
       l .inv .1,
       omega (arith, c .before .before .put-u64 .kept, l .inv .2),
       l .inv .3 ∙ turn-more (boxNumber (now (a .bytes)) (a .k)) (l .j) 6 (l .boxes) (omega arith)
-      ∙ ap (λ (t : List ℕ). inTurn (boxNumber (now (a .bytes)) (a .k)) (l .j + 1) (6 - (l .j + 1)) t) (sym (rw (c .before .before .before .before .u64-at .ensures, l .inv .1) at (c .before .before .put-u64 .ensures))),
+          ∙ ap (λ (t : List ℕ). inTurn (boxNumber (now (a .bytes)) (a .k)) (l .j + 1) (6 - (l .j + 1)) t) (sym (rw (c .before .before .before .before .u64-at .ensures, l .inv .1) at (c .before .before .put-u64 .ensures))),
     )
 
 same-length : tie.Need-same-length Inv-loop μ-loop

@@ -34,7 +34,7 @@ loop-again c =
     let n = c .before .before .before .before .before .before .before .args .n in let l = c .before .before .before .before .before .loop in (
       omega (arith, c .before .before .put-entry .kept, l .inv .0),
       l .inv .1 ∙ turn-more (withEntry 4294967295 0) (l .i) n (l .cells) (omega arith)
-      ∙ ap (λ (t : List ℕ). inTurn (withEntry 4294967295 0) (l .i + 1) (n - (l .i + 1)) t) (sym (c .before .before .put-entry .ensures)),
+          ∙ ap (λ (t : List ℕ). inTurn (withEntry 4294967295 0) (l .i + 1) (n - (l .i + 1)) t) (sym (c .before .before .put-entry .ensures)),
     )
 
 same-length : tie.Need-same-length Inv-loop μ-loop

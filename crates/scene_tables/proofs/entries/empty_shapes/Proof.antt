@@ -33,7 +33,7 @@ loop-again c =
     let a = c .before .before .before .before .before .before .before .args in let l = c .before .before .before .before .before .loop in (
       omega (arith, c .before .before .put-entry .kept, l .inv .0),
       l .inv .1 ∙ turn-more (withEntry (a .first) 0) (l .i) (a .end) (l .shapes) (omega arith)
-      ∙ ap (λ (t : List ℕ). inTurn (withEntry (a .first) 0) (l .i + 1) (a .end - (l .i + 1)) t) (sym (c .before .before .put-entry .ensures)),
+          ∙ ap (λ (t : List ℕ). inTurn (withEntry (a .first) 0) (l .i + 1) (a .end - (l .i + 1)) t) (sym (c .before .before .put-entry .ensures)),
     )
 
 same-length : tie.Need-same-length Inv-loop μ-loop

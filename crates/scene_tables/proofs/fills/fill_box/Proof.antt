@@ -33,7 +33,7 @@ loop-again c =
     let a = c .before .before .before .before .before .before .before .before .args in let l = c .before .before .before .before .before .loop in (
       omega (arith, c .before .before .fill-layer .kept, l .inv .0),
       l .inv .1 ∙ turn-more (layerOf (a .f)) (l .y) (a .f .ys .end) (l .cells) (omega arith)
-      ∙ ap (λ (t : List ℕ). inTurn (layerOf (a .f)) (l .y + 1) (a .f .ys .end - (l .y + 1)) t) (sym (c .before .before .fill-layer .ensures)),
+          ∙ ap (λ (t : List ℕ). inTurn (layerOf (a .f)) (l .y + 1) (a .f .ys .end - (l .y + 1)) t) (sym (c .before .before .fill-layer .ensures)),
     )
 
 same-length : tie.Need-same-length Inv-loop μ-loop

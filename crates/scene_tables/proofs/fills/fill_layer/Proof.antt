@@ -40,7 +40,7 @@ loop-again c =
     let a = c .before .before .before .before .before .before .before .before .before .args in let l = c .before .before .before .before .before .before .loop in (
       omega (arith, c .before .before .fill-row .kept, l .inv .0),
       l .inv .1 ∙ turn-more (rowAt (a .f) (a .y)) (l .z) (a .f .zs .end) (l .cells) (omega arith)
-      ∙ ap (λ (t : List ℕ). inTurn (rowAt (a .f) (a .y)) (l .z + 1) (a .f .zs .end - (l .z + 1)) t) (sym (rw (c .before .before .before .before .row-start .ensures) at (c .before .before .fill-row .ensures))),
+          ∙ ap (λ (t : List ℕ). inTurn (rowAt (a .f) (a .y)) (l .z + 1) (a .f .zs .end - (l .z + 1)) t) (sym (rw (c .before .before .before .before .row-start .ensures) at (c .before .before .fill-row .ensures))),
     )
 
 same-length : tie.Need-same-length Inv-loop μ-loop

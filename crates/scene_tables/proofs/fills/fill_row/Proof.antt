@@ -37,7 +37,7 @@ loop-again c =
     let a = c .before .before .before .before .before .before .before .before .args in let l = c .before .before .before .before .before .loop in (
       omega (arith, c .before .before .put-entry .kept, l .inv .0),
       l .inv .1 ∙ turn-more (cellOf (a .f) (a .start)) (l .x) (a .f .xs .end) (l .cells) (omega arith)
-      ∙ ap (λ (t : List ℕ). inTurn (cellOf (a .f) (a .start)) (l .x + 1) (a .f .xs .end - (l .x + 1)) t) (sym (c .before .before .put-entry .ensures)),
+          ∙ ap (λ (t : List ℕ). inTurn (cellOf (a .f) (a .start)) (l .x + 1) (a .f .xs .end - (l .x + 1)) t) (sym (c .before .before .put-entry .ensures)),
     )
 
 same-length : tie.Need-same-length Inv-loop μ-loop
