@@ -1,8 +1,11 @@
-// The graph over the words of records: what an expansion reads of a node's feet, and writes of an edge.
+// The graph over the words of records: what an expansion reads of a node's feet, and what it writes of an edge.
 ghost use mathlib.Core.Path.{_≡_};
 ghost use Rattle.edges.specs.Edges.{movementNumber};
-ghost use Rattle.steps.specs.Words.{coordinate, pointOf};
+ghost use Rattle.steps.specs.Words.{coordinate, pointOf, feetOf, labelOf};
 use edges::Movement;
+use edges::Waypoint;
+use rooms::Feet;
+use rooms::Label;
 use world::Point;
 
 // The number of a pattern, with -0.0 as 0.
@@ -15,19 +18,30 @@ fn coordinate(n: u64) -> f64
     floats::float_of(n)
 }
 
-// The point of three patterns.
-pub fn point_of(x: u64, y: u64, z: u64) -> Point
-    ensures { λ r. ⌜ r ≡ pointOf (record { x = x; y = y; z = z }) ⌝ }
+// The point that feet stand for.
+pub fn point_of(p: Feet) -> Point
+    ensures { λ r. ⌜ r ≡ pointOf p ⌝ }
 {
     Point {
-        x: coordinate(x),
-        y: coordinate(y),
-        z: coordinate(z),
+        x: coordinate(p.x),
+        y: coordinate(p.y),
+        z: coordinate(p.z),
+    }
+}
+
+// The feet at a point, with its own bits.
+pub fn feet_of(p: Point) -> Feet
+    ensures { λ r. ⌜ r ≡ feetOf p ⌝ }
+{
+    Feet {
+        x: floats::bits_of(p.x),
+        y: floats::bits_of(p.y),
+        z: floats::bits_of(p.z),
     }
 }
 
 // 01's number of a movement.
-pub fn movement_number(m: Movement) -> u64
+fn movement_number(m: Movement) -> u64
     ensures { λ r. ⌜ r ≡ movementNumber m ⌝ }
 {
     match m {
@@ -35,5 +49,16 @@ pub fn movement_number(m: Movement) -> u64
         Movement::Step => 1,
         Movement::Jump => 2,
         Movement::Drop => 3,
+    }
+}
+
+// What an edge says of the point that it leads to.
+pub fn label_of(w: Waypoint) -> Label
+    ensures { λ r. ⌜ r ≡ labelOf w ⌝ }
+{
+    let m = w.movement;
+    Label {
+        lift: floats::bits_of(w.lift),
+        movement: movement_number(m),
     }
 }

@@ -1,7 +1,8 @@
 -- `steps::words::coordinate` meets its contract. Assumes nothing.
 use borrow.Author.Tests.{eq-eqb, ne-eqb}
 use borrow.Author.Needs.{needs}
-use Rattle.steps.specs.Words.{canonicalWord, coordinate}
+use Rattle.rooms.specs.Waypoints.{canonicalWord}
+use Rattle.steps.specs.Words.{coordinate}
 use Rattle.steps.proofs.words.coordinate.Statement.{statement}
 use Rattle.steps.proofs.words.coordinate.Tie as tie
 

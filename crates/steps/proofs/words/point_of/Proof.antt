@@ -15,8 +15,7 @@ coordinate-requires-3 c κs = search needs
 
 returns : tie.Need-returns
 unfolding pointOf
-returns c = rw (c .coordinate3 .ensures, c .before .coordinate2 .ensures, c .before .before .coordinate .ensures)
+returns c = cc
 
 pub point-of-spec : {M : Type 1} → statement M
-point-of-spec =
-    tie.close (tie.spec coordinate-requires coordinate-requires-2 coordinate-requires-3 returns)
+point-of-spec = tie.close (tie.spec coordinate-requires coordinate-requires-2 coordinate-requires-3 returns)
