@@ -103,6 +103,19 @@ some-place v = go v v
         pick true = omega arith
         pick false = omega arith
 
+-- no digit of v is cut off
+holds-by : (f v : ℕ) → v ≤ f → v < 10 ^ placesBy f v
+holds-by zero v h = omega arith
+holds-by (suc f) v h = go (ltb v 10) refl (λ l. holds-by f (v / 10) (omega arith))
+  where
+    go : (t : Bool) → ltb v 10 ≡ t → (10 ≤ v → v / 10 < 10 ^ placesBy f (v / 10)) → v < 10 ^ cond t 1 (suc (placesBy f (v / 10)))
+    go true p rest = omega (arith, ltb-true v 10 p)
+    go false p rest = rw pow-suc (div-lt-iff-lt-mul {k = 10} {x = v} {y = 10 ^ placesBy f (v / 10)} (omega arith) .0 (rest (ltb-false v 10 p)))
+
+pub holds-places : (v : ℕ) → v < 10 ^ places v
+unfolding places
+holds-places v = holds-by v v (omega arith)
+
 -- ---- numbers as fields of a line
 
 -- digits that were stored, and the byte behind them

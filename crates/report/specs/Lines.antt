@@ -10,27 +10,35 @@ use Rattle.report.specs.Digits.{hex, decimal}
 
 -- ---- words
 
+-- "found"
 abbrev pub found : List ℕ
 found = 102 ∷ 111 ∷ 117 ∷ 110 ∷ 100 ∷ []
 
+-- "unreachable"
 abbrev pub unreachable : List ℕ
 unreachable = 117 ∷ 110 ∷ 114 ∷ 101 ∷ 97 ∷ 99 ∷ 104 ∷ 97 ∷ 98 ∷ 108 ∷ 101 ∷ []
 
+-- "budgetexceeded"
 abbrev pub budgetexceeded : List ℕ
 budgetexceeded = 98 ∷ 117 ∷ 100 ∷ 103 ∷ 101 ∷ 116 ∷ 101 ∷ 120 ∷ 99 ∷ 101 ∷ 101 ∷ 100 ∷ 101 ∷ 100 ∷ []
 
+-- "refused"
 abbrev pub refused : List ℕ
 refused = 114 ∷ 101 ∷ 102 ∷ 117 ∷ 115 ∷ 101 ∷ 100 ∷ []
 
+-- "walk"
 abbrev pub walk : List ℕ
 walk = 119 ∷ 97 ∷ 108 ∷ 107 ∷ []
 
+-- "step"
 abbrev pub step : List ℕ
 step = 115 ∷ 116 ∷ 101 ∷ 112 ∷ []
 
+-- "jump"
 abbrev pub jump : List ℕ
 jump = 106 ∷ 117 ∷ 109 ∷ 112 ∷ []
 
+-- "drop"
 abbrev pub drops : List ℕ
 drops = 100 ∷ 114 ∷ 111 ∷ 112 ∷ []
 

@@ -11,7 +11,11 @@ fn digit_of(d: u64) -> u8
     requires { ⌜ d < 16 ⌝ }
     ensures { λ r. ⌜ r ≡ digit d ⌝ }
 {
-    if d < 10 { (48 + d) as u8 } else { (87 + d) as u8 }
+    if d < 10 {
+        (48 + d) as u8
+    } else {
+        (87 + d) as u8
+    }
 }
 
 // The last `width` digits of a number, from an offset on: written from the last one to the first.

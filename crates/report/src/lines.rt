@@ -1,9 +1,8 @@
-// walkprint's lines (01, "Scenes and walkprint"), each written at the start of a lent buffer. A line has at most 128 bytes: a buffer that is shorter
-// is left as it was, and the answer is 0.
+// walkprint's lines (01, "Scenes and walkprint"), each written at the start of a lent buffer. A line has at most 128 bytes: a buffer that is
+// shorter is left as it was, and the answer is 0.
 ghost use mathlib.Core.Path.{_≡_};
-ghost use Prim.Native.Nat.{_+_, _*_, _/_, _≤_, _<_};
+ghost use Prim.Native.Nat.{_+_, _≤_, _<_};
 ghost use lib.ListN.{length};
-ghost use lib.Ieee.{binary64, toBits};
 ghost use Rattle.report.specs.Lines.{outcomeWord, movementWord, lineOne, recordOf, refusedLine, firstLine, waypointFields, waypointLine, inBuffer, countIn};
 ghost use Rattle.report.specs.Writing.{Field, Whole};
 use crate::digits;
@@ -61,7 +60,14 @@ fn put_movement(out: &mut [u8], at: usize, movement: u64) -> usize
 }
 
 // Line 1 of a search that was not refused.
-fn line_one(out: &mut [u8], number: u64, waypoints: u64, retained: u64, closed: u64, bits: u64) -> usize
+fn line_one(
+    out: &mut [u8],
+    number: u64,
+    waypoints: u64,
+    retained: u64,
+    closed: u64,
+    bits: u64,
+) -> usize
     requires { ⌜ (128 ≤ length (now out)) × (number < 3) ⌝ }
     ensures { λ r. ⌜ Whole (now (out .entry)) (now (out .exit)) r (lineOne number waypoints retained closed bits) ⌝ }
 {
@@ -91,7 +97,15 @@ fn refused_line(out: &mut [u8], number: u64, bad: u64) -> usize
 }
 
 // The first line, by the number given back: line 1 for 0 to 2, and else a refusal's, which is all that is printed then.
-pub fn first_line(out: &mut [u8], number: u64, bad: u64, waypoints: u64, retained: u64, closed: u64, total: f64) -> usize
+pub fn first_line(
+    out: &mut [u8],
+    number: u64,
+    bad: u64,
+    waypoints: u64,
+    retained: u64,
+    closed: u64,
+    total: f64,
+) -> usize
     ensures count { λ r. ⌜ r ≡ countIn (firstLine number bad waypoints retained closed total) (now (out .entry)) ⌝ }
     ensures bytes { λ _. ⌜ now (out .exit) ≡ inBuffer (firstLine number bad waypoints retained closed total) (now (out .entry)) ⌝ }
 {
@@ -99,13 +113,28 @@ pub fn first_line(out: &mut [u8], number: u64, bad: u64, waypoints: u64, retaine
         return 0;
     }
     if number < 3 {
-        return line_one(out, number, waypoints, retained, closed, floats::bits_of(total));
+        return line_one(
+            out,
+            number,
+            waypoints,
+            retained,
+            closed,
+            floats::bits_of(total),
+        );
     }
     refused_line(out, number, bad)
 }
 
 // The fields of a waypoint's line.
-fn waypoint_fields(out: &mut [u8], place: u64, movement: u64, x: u64, y: u64, z: u64, lift: u64) -> usize
+fn waypoint_fields(
+    out: &mut [u8],
+    place: u64,
+    movement: u64,
+    x: u64,
+    y: u64,
+    z: u64,
+    lift: u64,
+) -> usize
     requires { ⌜ (128 ≤ length (now out)) × (movement ≤ 3) ⌝ }
     ensures { λ r. ⌜ Whole (now (out .entry)) (now (out .exit)) r (waypointFields place movement x y z lift) ⌝ }
 {

@@ -26,7 +26,7 @@ loop-again : tie.Need-loop-again Inv-loop μ-loop
 loop-again c = omega (arith, more-places (c .before .loop .rest) (c .loop-test .taken))
 
 returns : tie.Need-returns Inv-loop μ-loop
-returns c = 
+returns c =
     let one = one-place (c .before .loop .rest) (c .loop-test .left) in
     let most = most-places (c .before .before .args .v) (c .before .before .fits .v .fits) in
     (omega arith, omega arith)

@@ -24,7 +24,7 @@ same-length : tie.Need-same-length
 same-length c = search needs
 
 returns : tie.Need-returns
-returns c = 
+returns c =
     let a = c .before .before .before .before .before .before .args in
     let p = c .before .before .before .before .places-of .ensures in
     decimal-field (now (a .out)) _ (a .at) _ (a .v) (a .end) (c .before .before .put-digits .ensures) (p .0) (p .1)

@@ -42,10 +42,9 @@ loop-less : tie.Need-loop-less Inv-loop μ-loop
 loop-less c = search needs
 
 loop-again : tie.Need-loop-again Inv-loop μ-loop
-loop-again c = 
+loop-again c =
     let at-loop = c .before .before in
-    let a = at-loop .before .before .args in
-    (
+    let a = at-loop .before .before .args in (
       one-digit (at-loop .loop .out) (a .at) (a .base) (at-loop .loop .k) (at-loop .loop .rest) _ (c .before .loop-test .taken) (c .digit-of .ensures) ∙ at-loop .loop .inv .0,
       simp length-set (at-loop .loop .inv .1),
       omega arith,

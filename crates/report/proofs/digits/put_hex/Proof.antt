@@ -21,7 +21,7 @@ same-length : tie.Need-same-length
 same-length c = search needs
 
 returns : tie.Need-returns
-returns c = 
+returns c =
     let a = c .before .before .before .before .before .args in
     hex-field (now (a .out)) _ (a .at) (a .v) (a .end) (c .before .before .put-digits .ensures)
 

@@ -35,17 +35,16 @@ loop-less : tie.Need-loop-less Inv-loop μ-loop
 loop-less c = search needs
 
 loop-again : tie.Need-loop-again Inv-loop μ-loop
-loop-again c = 
+loop-again c =
     let at-loop = c .before .before .before in
-    let list = now (at-loop .before .before .before .args .list) in
-    (
+    let list = now (at-loop .before .before .before .args .list) in (
       rw (c .apart .ensures, c .before .feet-at2 .ensures)
-      (at-loop .loop .inv .0 ∙ goes-on list (length list / 40) (at-loop .loop .k) (at-loop .loop .total) (at-loop .loop .from) (c .before .before .loop-test .taken)),
+          (at-loop .loop .inv .0 ∙ goes-on list (length list / 40) (at-loop .loop .k) (at-loop .loop .total) (at-loop .loop .from) (c .before .before .loop-test .taken)),
       refl,
     )
 
 returns : tie.Need-returns Inv-loop μ-loop
-returns c = 
+returns c =
     let at-loop = c .before in
     let list = now (at-loop .before .before .before .args .list) in
     sym (at-loop .loop .inv .0 ∙ ends list (length list / 40) (at-loop .loop .k) (at-loop .loop .total) (at-loop .loop .from) (c .loop-test .left))

@@ -17,7 +17,7 @@ same-length : tie.Need-same-length
 same-length c = search needs
 
 returns-2 : tie.Need-returns-2
-returns-2 c = 
+returns-2 c =
     let a = c .before .before .before .before .before .before .before .before .args in
     shown (c .before .before .before .before .before .before .if1 .left) (c .before .before .line-one .ensures)
     (outcome-first (a .number) (a .bad) (a .waypoints) (a .retained) (a .closed) (a .total) _ (c .before .before .before .before .before .if2 .taken) (c .before .before .before .bits-of .ensures))
@@ -29,7 +29,7 @@ same-length-2 : tie.Need-same-length-2
 same-length-2 c = search needs
 
 returns-3 : tie.Need-returns-3
-returns-3 c = 
+returns-3 c =
     let a = c .before .before .before .before .before .before .before .args in
     shown (c .before .before .before .before .before .if1 .left) (c .before .before .refused-line .ensures)
     (refusal-first (a .number) (a .bad) (a .waypoints) (a .retained) (a .closed) (a .total) (c .before .before .before .before .if2 .left))

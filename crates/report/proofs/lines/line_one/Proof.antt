@@ -27,19 +27,25 @@ same-length c = search needs
 
 returns : tie.Need-returns
 unfolding lineOne
-returns c = 
-    let a = c .before .before .before .before .before .before .before .before .before .before .before .before .before .before .before .before .before .before .before .before .before .args in
-    let outcome = c .before .before .before .before .before .before .before .before .before .before .before .before .before .before .before .before .before .before .put-outcome .ensures in
-    let waypoints = c .before .before .before .before .before .before .before .before .before .before .before .before .before .before .put-decimal .ensures in
-    let retained = c .before .before .before .before .before .before .before .before .before .before .put-decimal2 .ensures in
-    let closed = c .before .before .before .before .before .before .put-decimal3 .ensures in
-    let bits = c .before .before .put-hex .ensures in
+returns c =
+    let bits-call = c .before .before in
+    let closed-call = bits-call .before .before .before .before in
+    let retained-call = closed-call .before .before .before .before in
+    let waypoints-call = retained-call .before .before .before .before in
+    let outcome-call = waypoints-call .before .before .before .before in
+    let start = outcome-call .before .before .before in
+    let a = start .args in
+    let outcome = outcome-call .put-outcome .ensures in
+    let waypoints = waypoints-call .put-decimal .ensures in
+    let retained = retained-call .put-decimal2 .ensures in
+    let closed = closed-call .put-decimal3 .ensures in
+    let bits = bits-call .put-hex .ensures in
     whole
     (then (outcomeWord (a .number)) 32 (outcome .wrote)
     (then (decimal (a .waypoints)) 32 (waypoints .wrote)
     (then (decimal (a .retained)) 32 (retained .wrote)
     (then (decimal (a .closed)) 32 (closed .wrote) (bits .wrote)))))
-    (omega (arith, c .before .before .before .before .before .before .before .before .before .before .before .before .before .before .before .before .before .before .before .before .before .pre, outcome .short, waypoints .short, retained .short, closed .short, bits .short))
+    (omega (arith, start .pre, outcome .short, waypoints .short, retained .short, closed .short, bits .short))
 
 pub line-one-spec : {M : Type 1} → statement M
 line-one-spec =

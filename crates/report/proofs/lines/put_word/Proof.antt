@@ -37,10 +37,9 @@ loop-less : tie.Need-loop-less Inv-loop μ-loop
 loop-less c = search needs
 
 loop-again : tie.Need-loop-again Inv-loop μ-loop
-loop-again c = 
+loop-again c =
     let at-loop = c .before .before in
-    let a = at-loop .before .args in
-    (
+    let a = at-loop .before .args in (
       sym (one-byte (at-loop .loop .out) (now (a .word)) (a .at) (at-loop .loop .k) (c .before .loop-test .taken)) ∙ at-loop .loop .inv .0,
       simp length-set (at-loop .loop .inv .1),
       omega arith,
@@ -62,7 +61,7 @@ same-length : tie.Need-same-length Inv-loop μ-loop
 same-length c = simp length-set (c .before .loop .inv .1)
 
 returns : tie.Need-returns Inv-loop μ-loop
-returns c = 
+returns c =
     let a = c .before .before .args in
     let k = c .before .loop .k in
     let out = c .before .loop .out in

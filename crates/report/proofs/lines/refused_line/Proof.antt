@@ -27,16 +27,20 @@ same-length c = search needs
 
 returns : tie.Need-returns
 unfolding refusedLine
-returns c = 
-    let a = c .before .before .before .before .before .before .before .before .before .before .before .before .before .before .before .args in
-    let word = c .before .before .before .before .before .before .before .before .before .before .before .put-word .ensures in
-    let number = c .before .before .before .before .before .before .before .put-decimal .ensures in
-    let named = c .before .before .put-decimal2 .ensures in
-    rw (← c .before .before .before .before .record-of .ensures)
+returns c =
+    let named-call = c .before .before in
+    let number-call = named-call .before .before .before .before .before in
+    let word-call = number-call .before .before .before .before in
+    let start = word-call .before .before .before .before in
+    let a = start .args in
+    let word = word-call .put-word .ensures in
+    let number = number-call .put-decimal .ensures in
+    let named = named-call .put-decimal2 .ensures in
+    rw (← named-call .before .before .record-of .ensures)
     (whole
     (then refused 32 (word .wrote)
     (then (decimal (a .number)) 32 (number .wrote) (named .wrote)))
-    (omega (arith, c .before .before .before .before .before .before .before .before .before .before .before .before .before .before .before .pre, word .short, number .short, named .short)))
+    (omega (arith, start .pre, word .short, number .short, named .short)))
 
 pub refused-line-spec : {M : Type 1} → statement M
 refused-line-spec =

@@ -30,21 +30,28 @@ same-length c = search needs
 
 returns : tie.Need-returns
 unfolding waypointFields
-returns c = 
-    let a = c .before .before .before .before .before .before .before .before .before .before .before .before .before .before .before .before .before .before .before .before .before .before .before .before .before .args in
-    let place = c .before .before .before .before .before .before .before .before .before .before .before .before .before .before .before .before .before .before .before .before .before .before .put-decimal .ensures in
-    let movement = c .before .before .before .before .before .before .before .before .before .before .before .before .before .before .before .before .before .before .put-movement .ensures in
-    let x = c .before .before .before .before .before .before .before .before .before .before .before .before .before .before .put-hex .ensures in
-    let y = c .before .before .before .before .before .before .before .before .before .before .put-hex2 .ensures in
-    let z = c .before .before .before .before .before .before .put-hex3 .ensures in
-    let lift = c .before .before .put-hex4 .ensures in
+returns c =
+    let lift-call = c .before .before in
+    let z-call = lift-call .before .before .before .before in
+    let y-call = z-call .before .before .before .before in
+    let x-call = y-call .before .before .before .before in
+    let movement-call = x-call .before .before .before .before in
+    let place-call = movement-call .before .before .before .before in
+    let start = place-call .before .before .before in
+    let a = start .args in
+    let place = place-call .put-decimal .ensures in
+    let movement = movement-call .put-movement .ensures in
+    let x = x-call .put-hex .ensures in
+    let y = y-call .put-hex2 .ensures in
+    let z = z-call .put-hex3 .ensures in
+    let lift = lift-call .put-hex4 .ensures in
     whole
     (then (decimal (a .place)) 32 (place .wrote)
     (then (movementWord (a .movement)) 32 (movement .wrote)
     (then (hex (a .x)) 32 (x .wrote)
     (then (hex (a .y)) 32 (y .wrote)
     (then (hex (a .z)) 32 (z .wrote) (lift .wrote))))))
-    (omega (arith, c .before .before .before .before .before .before .before .before .before .before .before .before .before .before .before .before .before .before .before .before .before .before .before .before .before .pre, place .short, movement .short, x .short, y .short, z .short, lift .short))
+    (omega (arith, start .pre, place .short, movement .short, x .short, y .short, z .short, lift .short))
 
 pub waypoint-fields-spec : {M : Type 1} → statement M
 waypoint-fields-spec =

@@ -51,11 +51,14 @@ same-length : tie.Need-same-length
 same-length c = search needs
 
 returns-4 : tie.Need-returns-4
-returns-4 c = 
-    let a = c .before .before .before .before .before .before .before .before .before .before .before .before .before .before .args in
-    shown (c .before .before .before .before .before .before .before .before .before .before .before .if1 .left) (c .before .before .waypoint-fields .ensures)
-    (a-record (now (a .list)) (a .place) _ _ _ _ _ (c .before .before .before .before .before .before .before .before .before .before .if2 .left) (c .before .before .before .before .before .before .before .before .if3 .left)
-    (c .before .before .before .before .before .before .before .before .before .u64-at .ensures) (c .before .before .before .before .before .before .before .u64-at2 .ensures) (c .before .before .before .before .before .before .u64-at3 .ensures) (c .before .before .before .before .before .u64-at4 .ensures) (c .before .before .before .before .u64-at5 .ensures))
+returns-4 c =
+    let read = c .before .before .before .before in
+    let judged = read .before .before .before .before in
+    let found = judged .before .before in
+    let a = found .before .before .before .before .args in
+    shown (found .before .if1 .left) (c .before .before .waypoint-fields .ensures)
+    (a-record (now (a .list)) (a .place) _ _ _ _ _ (found .if2 .left) (judged .if3 .left) (judged .before .u64-at .ensures)
+    (read .before .before .before .u64-at2 .ensures) (read .before .before .u64-at3 .ensures) (read .before .u64-at4 .ensures) (read .u64-at5 .ensures))
 
 pub waypoint-line-spec : {M : Type 1} → statement M
 waypoint-line-spec =
