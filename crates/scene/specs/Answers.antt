@@ -76,9 +76,9 @@ readFrom r t [] = record { answer = ended r; tables = t }
 readFrom r t (s ∷ ss) =
     cond (goodIn r s) (readFrom (next (kindOf s) r s) (tablesRead r s t) ss) (record { answer = refused 7 (r .number); tables = t })
 
+unfoldable pub onward : Answer Reading → Tables → List (List ℕ) → Read
+onward (given r) t ss = readFrom r t ss
+onward (refused n k) t ss = record { answer = refused n k; tables = t }
+
 unfoldable pub readAll : Tables → List (List ℕ) → Read
-readAll t ss = goOn (begun (t .cells) (t .perms) (t .shapes) (t .boxes))
-  where
-    goOn : Answer Reading → Read
-    goOn (given r) = readFrom r t ss
-    goOn (refused n k) = record { answer = refused n k; tables = t }
+readAll t ss = onward (begun (t .cells) (t .perms) (t .shapes) (t .boxes)) t ss

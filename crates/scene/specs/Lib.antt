@@ -1,3 +1,4 @@
 pub mod Scene
 pub mod Answers
 pub mod Laws
+pub mod Good
