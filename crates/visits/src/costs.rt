@@ -2,7 +2,7 @@
 use rooms::Entry;
 use rooms::Feet;
 ghost use mathlib.Core.Path.{_≡_};
-ghost use Rattle.visits.specs.Costs.{apart, costBy, estimateBy, cheaper, lowered};
+ghost use Rattle.visits.specs.Costs.{apart, costBy, estimateBy, cheaper, pushedAs, lowered};
 
 // How far apart two points are.
 fn apart(p: Feet, q: Feet) -> f64
@@ -37,21 +37,24 @@ pub fn cheaper(new: u64, old: u64) -> bool
     floats::float_of(new) + floats::E < floats::float_of(old)
 }
 
-// The waiting entry of a node that is pushed again.
+// The entry of a node that is pushed.
+pub fn pushed_as(estimate: u64, order: u64) -> Entry
+    ensures { λ r. ⌜ r ≡ pushedAs estimate order ⌝ }
+{
+    Entry {
+        estimate,
+        order,
+        waiting: 1,
+    }
+}
+
+// The entry of a node that is pushed again.
 pub fn lowered(e: u64, old: Entry, order: u64) -> Entry
     ensures { λ r. ⌜ r ≡ lowered e old order ⌝ }
 {
     if floats::float_of(e) < floats::float_of(old.estimate) {
-        Entry {
-            estimate: e,
-            order,
-            waiting: 1,
-        }
+        pushed_as(e, order)
     } else {
-        Entry {
-            estimate: old.estimate,
-            order: old.order,
-            waiting: 1,
-        }
+        pushed_as(old.estimate, old.order)
     }
 }

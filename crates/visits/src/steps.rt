@@ -5,14 +5,18 @@ use crate::costs::cheaper;
 use crate::costs::cost_by;
 use crate::costs::estimate;
 use crate::costs::lowered;
+use crate::costs::pushed_as;
 use rooms::Counts;
 use rooms::Entry;
 use rooms::Feet;
 use rooms::Label;
 use rooms::NodeRecord;
 ghost use mathlib.Core.Path.{_≡_};
-ghost use Prim.Native.Nat.{_<_};
+ghost use Prim.Native.Nat.{_+_, _*_, _≤_, _<_};
 ghost use lib.ListN.{length};
+ghost use Rattle.rooms.specs.Rooms.{nobody};
+ghost use Rattle.rooms.specs.Laws.Writes.{WroteNode, WroteEntry};
+ghost use Rattle.visits.specs.Laws.Visits.{childRecord};
 ghost use Rattle.visits.specs.Visits.{Ready, ready, Seen, Visited, VisitedIf, ClosedIf, Started};
 
 // Half of what a u64 can count: counts below it can grow.
@@ -26,6 +30,31 @@ fn is_ready(nodes: usize, front: usize, budget: usize, k: usize, c: Counts) -> b
     let there = (c.retained <= budget) & (k < c.retained);
     let grows = (c.pushed < FAR) & (c.dropped < FAR) & (c.closed < FAR);
     roomy & there & grows
+}
+
+// Node j written as an open node that is reached from node k, with its entry.
+fn put_open(
+    nodes: &mut [u8],
+    front: &mut [u8],
+    j: usize,
+    k: usize,
+    feet: Feet,
+    label: Label,
+    cost: u64,
+    entry: Entry,
+)
+    requires { ⌜ (56 * j + 56 ≤ length (now nodes)) × (24 * j + 24 ≤ length (now front)) × (k < nobody) ⌝ }
+    ensures { λ _. ⌜ WroteNode (now (nodes .entry)) j (childRecord k feet label cost) (now (nodes .exit)) × WroteEntry (now (front .entry)) j entry (now (front .exit)) ⌝ }
+{
+    let node = NodeRecord {
+        feet,
+        label,
+        cost,
+        parent: k as u32,
+        closed: 0,
+    };
+    rooms::put_node(nodes, j, node);
+    rooms::put_entry(front, j, entry);
 }
 
 // A step to a point that is retained already, as node j.
@@ -56,15 +85,7 @@ fn again(
     let e = estimate(aim.goal, cost, to);
     let entry = lowered(e, waiting, c.pushed);
     let feet = old.feet;
-    let node = NodeRecord {
-        feet,
-        label,
-        cost,
-        parent: k as u32,
-        closed: 0,
-    };
-    rooms::put_node(nodes, j, node);
-    rooms::put_entry(front, j, entry);
+    put_open(nodes, front, j, k, feet, label, cost, entry);
     Counts {
         retained: c.retained,
         closed: c.closed,
@@ -103,20 +124,8 @@ fn step(
         };
     }
     let e = estimate(aim.goal, cost, to);
-    let node = NodeRecord {
-        feet: to,
-        label,
-        cost,
-        parent: k as u32,
-        closed: 0,
-    };
-    let entry = Entry {
-        estimate: e,
-        order: c.pushed,
-        waiting: 1,
-    };
-    rooms::put_node(nodes, n, node);
-    rooms::put_entry(front, n, entry);
+    let entry = pushed_as(e, c.pushed);
+    put_open(nodes, front, n, k, to, label, cost, entry);
     Counts {
         retained: n + 1,
         closed: c.closed,

@@ -8,10 +8,6 @@ use lib.ListN.{length}
 use Rattle.rooms.specs.Laws.Lists.{Backed, backed-none, backed-more, backed-all, waypoint-is}
 use Rattle.rooms.proofs.lists.back.Statement.{statement}
 use Rattle.rooms.proofs.lists.back.Tie as tie
-use Rattle.rooms.proofs.lists.back.Reads as reads
-use Rattle.rooms.proofs.lists.back.Lts as lts
-use Rattle.rooms.proofs.records.get_node.Reads as get-node-reads
-use Rattle.rooms.proofs.records.put_waypoint.Reads as put-waypoint-reads
 
 abbrev Inv-loop : tie.InvT-loop
 Inv-loop nodes n k m out₀ j₀ at₀ out j at =
@@ -21,43 +17,35 @@ abbrev μ-loop : tie.MeasureT-loop
 μ-loop nodes n k m out₀ j₀ at₀ out j at =
     j
 
--- src/lists.rt:36:5
 loop-holds : tie.Need-loop-holds Inv-loop μ-loop
 loop-holds c =
     let a = c .before .before .args in
     (omega arith, refl, backed-none (now (a .nodes)) (a .n) (a .k) (a .m) (now (a .out)) (c .before .before .pre .1) (c .before .before .pre .0))
 
--- src/lists.rt:37:13
 get-node-requires : tie.Need-get-node-requires Inv-loop μ-loop
 get-node-requires c κs =
     tt
 
--- src/lists.rt:38:9
 sub-j : tie.Need-sub-j Inv-loop μ-loop
 sub-j c =
     omega arith
 
--- src/lists.rt:39:27
 mul-put-waypoint : tie.Need-mul-put-waypoint Inv-loop μ-loop
 mul-put-waypoint c =
     omega (arith, c .before .before .before .before .before .before .pre, c .before .before .before .loop .inv)
 
--- src/lists.rt:39:9
 put-waypoint-requires : tie.Need-put-waypoint-requires Inv-loop μ-loop
 put-waypoint-requires c κs =
     omega (arith, c .before .before .before .before .before .before .pre, c .before .before .before .loop .inv)
 
--- src/lists.rt:40:14
 cast-at : tie.Need-cast-at Inv-loop μ-loop
 cast-at c =
     search needs
 
--- src/lists.rt:36:5
 loop-less : tie.Need-loop-less Inv-loop μ-loop
 loop-less c =
     omega arith
 
--- src/lists.rt:36:5
 loop-again : tie.Need-loop-again Inv-loop μ-loop
 loop-again c =
     let a = c .before .before .before .before .before .before .before .before .before .before .args in
@@ -66,12 +54,10 @@ loop-again c =
     let new = c .before .before .before .put-waypoint .ensures .0 ∙ waypoint-is (c .before .before .before .before .before .before .before .loop .out) (j - 1) _ _ (omega (arith, c .before .before .before .before .before .before .before .before .before .before .pre, c .before .before .before .before .before .before .before .loop .inv, c .before .before .before .before .before .before .loop-test)) in
     (omega arith, omega (arith, c .before .before .before .put-waypoint .kept, c .before .before .before .before .before .before .before .loop .inv), rw o (backed-more (now (a .nodes)) (a .n) (a .k) (a .m) (now (a .out)) (c .before .before .before .before .before .before .before .before .before .before .pre .1) (c .before .before .before .before .before .before .loop-test .taken) (c .before .before .before .before .before .before .before .loop .inv .0) (c .before .before .before .before .before .before .before .loop .inv .2) (rw o at new)))
 
--- src/lists.rt:30:1
 same-length : tie.Need-same-length Inv-loop μ-loop
 same-length c =
     c .before .loop .inv .1
 
--- src/lists.rt:30:1
 returns : tie.Need-returns Inv-loop μ-loop
 returns c =
     let a = c .before .before .before .before .args in

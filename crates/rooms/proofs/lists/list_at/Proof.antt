@@ -1,8 +1,8 @@
+-- `rooms::lists::list_at` meets its contract. Assumes nothing.
 use native.Mathlib.Omega.{arith}
 use mathlib.Core.List.{[]}
 use denote.Ref.{now}
 use Rattle.rooms.specs.Laws.Lists.{listed-none, listed-full, listed-at}
--- `rooms::lists::list_at` meets its contract. Assumes nothing.
 use borrow.Author.Needs.{needs}
 use Rattle.rooms.proofs.lists.list_at.Statement.{statement}
 use Rattle.rooms.proofs.lists.list_at.Tie as tie

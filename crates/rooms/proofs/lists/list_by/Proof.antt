@@ -1,9 +1,9 @@
+-- `rooms::lists::list_by` meets its contract. Assumes nothing.
 use native.Mathlib.Omega.{arith}
 use mathlib.Core.Path.{refl}
 use mathlib.Core.List.{[], _∷_}
 use denote.Ref.{now}
 use Rattle.rooms.specs.Laws.Lists.{listed-none, listed-full, listed-by}
--- `rooms::lists::list_by` meets its contract. Assumes nothing.
 use borrow.Author.Needs.{needs}
 use Rattle.rooms.proofs.lists.list_by.Statement.{statement}
 use Rattle.rooms.proofs.lists.list_by.Tie as tie

@@ -9,9 +9,6 @@ use Rattle.rooms.specs.Lists.{walk}
 use Rattle.rooms.specs.Laws.Lists.{count-on, count-off, count-out, count-none}
 use Rattle.rooms.proofs.lists.span.Statement.{statement}
 use Rattle.rooms.proofs.lists.span.Tie as tie
-use Rattle.rooms.proofs.lists.span.Reads as reads
-use Rattle.rooms.proofs.lists.span.Lts as lts
-use Rattle.rooms.proofs.records.get_node.Reads as get-node-reads
 
 abbrev Inv-loop : tie.InvT-loop
 Inv-loop nodes n k m₀ at₀ m at =
@@ -21,46 +18,38 @@ abbrev μ-loop : tie.MeasureT-loop
 μ-loop nodes n k m₀ at₀ m at =
     n - m
 
--- src/lists.rt:18:5
 loop-holds : tie.Need-loop-holds Inv-loop μ-loop
 loop-holds c =
     let a = c .before .args in
     (omega arith, count-none (now (a .nodes)) (a .n) (a .k))
 
--- src/lists.rt:20:13
 returns : tie.Need-returns Inv-loop μ-loop
 returns c =
     let a = c .before .before .before .before .args in
     (count-off (now (a .nodes)) (a .n) (a .k) (c .before .before .loop .m) (c .before .before .loop .at) (c .if1 .taken) (c .before .before .loop .inv .1), omega arith)
 
--- src/lists.rt:22:13
 get-node-requires : tie.Need-get-node-requires Inv-loop μ-loop
 get-node-requires c κs =
     tt
 
--- src/lists.rt:23:14
 cast-at : tie.Need-cast-at Inv-loop μ-loop
 cast-at c =
     search needs
 
--- src/lists.rt:24:9
 add-m : tie.Need-add-m Inv-loop μ-loop
 add-m c =
     omega arith
 
--- src/lists.rt:18:5
 loop-less : tie.Need-loop-less Inv-loop μ-loop
 loop-less c =
     omega arith
 
--- src/lists.rt:18:5
 loop-again : tie.Need-loop-again Inv-loop μ-loop
 loop-again c =
     let a = c .before .before .before .before .before .before .args in
     let z = count-on (now (a .nodes)) (a .n) (a .k) (c .before .before .before .before .loop .m) (c .before .before .before .before .loop .at) (omega arith) (c .before .before .if1 .left) (c .before .before .before .before .loop .inv .1) in
     (omega arith, rw (c .before .get-node .ensures) z)
 
--- src/lists.rt:13:1
 returns-2 : tie.Need-returns-2 Inv-loop μ-loop
 returns-2 c =
     let a = c .before .before .before .args in

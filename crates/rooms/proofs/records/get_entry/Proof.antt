@@ -9,40 +9,29 @@ use Rattle.rooms.specs.Laws.Writes.{entry-out}
 use borrow.Author.Needs.{needs}
 use Rattle.rooms.proofs.records.get_entry.Statement.{statement}
 use Rattle.rooms.proofs.records.get_entry.Tie as tie
-use Rattle.rooms.proofs.records.get_entry.Reads as reads
-use Rattle.rooms.proofs.records.get_entry.Lts as lts
-use Rattle.fields.proofs.u64_at.Reads as u64-at-reads
 
--- src/records.rt:58:9
 returns : tie.Need-returns
 returns c =
     sym (entry-out (now (c .before .before .args .front)) (c .before .before .args .k) (omega arith))
 
--- src/records.rt:60:14
 mul-at : tie.Need-mul-at
 mul-at c = search needs
 
--- src/records.rt:61:9
 u64-at-requires : tie.Need-u64-at-requires
 u64-at-requires c κs = search needs
 
--- src/records.rt:62:39
 add-u64-at : tie.Need-add-u64-at
 add-u64-at c = search needs
 
--- src/records.rt:62:9
 u64-at-requires-2 : tie.Need-u64-at-requires-2
 u64-at-requires-2 c κs = search needs
 
--- src/records.rt:63:41
 add-u64-at-2 : tie.Need-add-u64-at-2
 add-u64-at-2 c = search needs
 
--- src/records.rt:63:9
 u64-at-requires-3 : tie.Need-u64-at-requires-3
 u64-at-requires-3 c κs = search needs
 
--- src/records.rt:54:1
 returns-2 : tie.Need-returns-2
 unfolding entryAt
 returns-2 c =

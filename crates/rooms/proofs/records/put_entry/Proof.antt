@@ -9,44 +9,32 @@ use Rattle.rooms.specs.Laws.Writes.{put-entry, put-entry-out}
 use borrow.Author.Needs.{needs}
 use Rattle.rooms.proofs.records.put_entry.Statement.{statement}
 use Rattle.rooms.proofs.records.put_entry.Tie as tie
-use Rattle.rooms.proofs.records.put_entry.Reads as reads
-use Rattle.rooms.proofs.records.put_entry.Lts as lts
-use Rattle.rooms.proofs.records.put_word.Reads as put-word-reads
 
--- src/records.rt:112:9
 returns : tie.Need-returns
 returns c =
     put-entry-out (now (c .before .before .args .front)) (c .before .before .args .k) (c .before .before .args .e) (omega arith)
 
--- src/records.rt:114:14
 mul-at : tie.Need-mul-at
 mul-at c = search needs
 
--- src/records.rt:115:5
 put-word-requires : tie.Need-put-word-requires
 put-word-requires c κs = search needs
 
--- src/records.rt:116:21
 add-put-word : tie.Need-add-put-word
 add-put-word c = search needs
 
--- src/records.rt:116:5
 put-word-requires-2 : tie.Need-put-word-requires-2
 put-word-requires-2 c κs = search needs
 
--- src/records.rt:117:21
 add-put-word-2 : tie.Need-add-put-word-2
 add-put-word-2 c = search needs
 
--- src/records.rt:117:5
 put-word-requires-3 : tie.Need-put-word-requires-3
 put-word-requires-3 c κs = search needs
 
--- src/records.rt:108:1
 same-length : tie.Need-same-length
 same-length c = search needs
 
--- src/records.rt:108:1
 returns-2 : tie.Need-returns-2
 unfolding withEntry
 returns-2 c =

@@ -9,8 +9,6 @@ use lib.Seq.{drop-length}
 use borrow.Author.Fill.{fill-none, fill-more}
 use Rattle.rooms.proofs.scans.zero.Statement.{statement}
 use Rattle.rooms.proofs.scans.zero.Tie as tie
-use Rattle.rooms.proofs.scans.zero.Reads as reads
-use Rattle.rooms.proofs.scans.zero.Lts as lts
 
 abbrev Inv-loop : tie.InvT-loop
 Inv-loop room₀ i₀ room i =
@@ -20,37 +18,30 @@ abbrev μ-loop : tie.MeasureT-loop
 μ-loop room₀ i₀ room i =
     length room₀ - i
 
--- src/scans.rt:104:5
 loop-holds : tie.Need-loop-holds Inv-loop μ-loop
 loop-holds c =
     (omega arith, refl, fill-none _ 0)
 
--- src/scans.rt:105:9
 slice-write-room : tie.Need-slice-write-room Inv-loop μ-loop
 slice-write-room c =
     omega arith
 
--- src/scans.rt:106:9
 add-i : tie.Need-add-i Inv-loop μ-loop
 add-i c =
     omega arith
 
--- src/scans.rt:104:5
 loop-less : tie.Need-loop-less Inv-loop μ-loop
 loop-less c =
     omega arith
 
--- src/scans.rt:104:5
 loop-again : tie.Need-loop-again Inv-loop μ-loop
 loop-again c =
     (omega arith, simp length-set (c .before .loop .inv .1), ap (λ (x : List ℕ). set x (c .before .loop .i) 0) (c .before .loop .inv .2) ∙ fill-more (c .before .loop .i) 0 (now (c .before .before .args .room)) (omega arith))
 
--- src/scans.rt:100:1
 same-length : tie.Need-same-length Inv-loop μ-loop
 same-length c =
     c .before .loop .inv .1
 
--- src/scans.rt:100:1
 returns : tie.Need-returns Inv-loop μ-loop
 returns c =
     let a = c .before .before .args in

@@ -1,5 +1,5 @@
-use mathlib.Core.Path.{refl}
 -- `visits::steps::begin` meets its contract. Assumes nothing.
+use mathlib.Core.Path.{refl}
 use borrow.Author.Needs.{needs}
 use Rattle.visits.proofs.steps.begin.Statement.{statement}
 use Rattle.visits.proofs.steps.begin.Tie as tie

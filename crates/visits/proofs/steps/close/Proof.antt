@@ -1,3 +1,4 @@
+-- `visits::steps::close` meets its contract. Assumes nothing.
 use native.Mathlib.Omega.{arith}
 use mathlib.Core.Path.{_≡_, refl}
 use mathlib.Core.Bool.{true, false}
@@ -9,7 +10,6 @@ use Rattle.rooms.specs.Records.{nodeAt}
 use Rattle.rooms.specs.Laws.Writes.{WroteNode}
 use Rattle.visits.specs.Visits.{ready}
 use Rattle.visits.specs.Laws.Visits.{ready-is, shutRecord, closes}
--- `visits::steps::close` meets its contract. Assumes nothing.
 use borrow.Author.Needs.{needs}
 use Rattle.visits.proofs.steps.close.Statement.{statement}
 use Rattle.visits.proofs.steps.close.Tie as tie

@@ -1,5 +1,5 @@
-use Rattle.visits.specs.Visits.{ready}
 -- `visits::steps::is_ready` meets its contract. Assumes nothing.
+use Rattle.visits.specs.Visits.{ready}
 use borrow.Author.Needs.{needs}
 use Rattle.visits.proofs.steps.is_ready.Statement.{statement}
 use Rattle.visits.proofs.steps.is_ready.Tie as tie

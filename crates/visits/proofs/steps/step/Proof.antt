@@ -1,12 +1,11 @@
+-- `visits::steps::step` meets its contract. Assumes nothing.
 use native.Mathlib.Omega.{arith}
 use Prim.Native.Nat.{_≤_}
 use mathlib.Core.Path.{_≡_}
 use denote.Ref.{now}
 use Rattle.rooms.specs.Scans.{firstAt}
-use Rattle.rooms.specs.Laws.Writes.{WroteEntry}
 use Rattle.visits.specs.Costs.{estimateBy, pushedAs}
 use Rattle.visits.specs.Laws.Visits.{visited-known, visited-drop, visited-new}
--- `visits::steps::step` meets its contract. Assumes nothing.
 use borrow.Author.Needs.{needs}
 use Rattle.visits.proofs.steps.step.Statement.{statement}
 use Rattle.visits.proofs.steps.step.Tie as tie
@@ -32,8 +31,8 @@ returns c =
     let a = c .before .before .before .before .before .before .before .before .before .before .before .before .before .args in
     visited-known (a .aim) (a .k) (a .c) (now (a .nodes)) (now (a .front)) (c .before .before .before .before .before .before .before .before .before .before .before .before .before .pre .0 .few) (a .from) (a .to) (a .label) (c .before .before .before .before .before .before .before .before .before .seek .result) (c .before .before .before .before .before .before .before .before .cost-by .result) (c .before .before .before .before .before .before .before .before .before .seek .ensures) (c .before .before .before .before .before .before .before .before .cost-by .ensures) (c .before .before .before .before .before .before .before .if1 .taken) (c .before .before .before .before .again .ensures)
 
-add-t22 : tie.Need-add-t22
-add-t22 c =
+add-t21 : tie.Need-add-t21
+add-t21 c =
     omega (arith, c .before .before .before .before .before .before .before .before .before .pre)
 
 same-length-3 : tie.Need-same-length-3
@@ -48,22 +47,19 @@ returns-2 c =
 estimate-requires : tie.Need-estimate-requires
 estimate-requires c κs = search needs
 
-cast-t23 : tie.Need-cast-t23
-cast-t23 c =
-    omega (arith, c .before .before .before .before .before .before .before .before .before .pre)
+pushed-as-requires : tie.Need-pushed-as-requires
+pushed-as-requires c κs = search needs
 
-put-node-requires : tie.Need-put-node-requires
-put-node-requires c κs = search needs
+put-open-requires : tie.Need-put-open-requires
+put-open-requires c κs =
+    omega (arith, c .before .before .before .before .before .before .before .before .before .before .before .before .pre, c .before .before .before .before .if2 .left)
 
-put-entry-requires : tie.Need-put-entry-requires
-put-entry-requires c κs = search needs
-
-add-t29 : tie.Need-add-t29
-add-t29 c =
+add-t27 : tie.Need-add-t27
+add-t27 c =
     omega (arith, c .before .before .before .before .before .before .before .before .before .before .before .before .before .before .before .before .before .pre)
 
-add-t30 : tie.Need-add-t30
-add-t30 c =
+add-t28 : tie.Need-add-t28
+add-t28 c =
     omega (arith, c .before .before .before .before .before .before .before .before .before .before .before .before .before .before .before .before .before .before .pre)
 
 same-length-4 : tie.Need-same-length-4
@@ -76,10 +72,9 @@ returns-3 : tie.Need-returns-3
 returns-3 c =
     let a = c .before .before .before .before .before .before .before .before .before .before .before .before .before .before .before .before .before .before .args in
     let none : a .c .retained ≤ firstAt (now (a .nodes)) (a .c .retained) (a .to) = rw (← (c .before .before .before .before .before .before .before .before .before .before .before .before .before .before .seek .ensures)) (c .before .before .before .before .before .before .before .before .before .before .before .before .if1 .left) in
-    let e = c .before .before .before .before .before .before .before .before .before .estimate .ensures in
-    let p = c .before .before .before .before .before .before .before .put-node .ensures .wrote (omega (arith, c .before .before .before .before .before .before .before .before .before .before .before .before .before .before .before .before .before .before .pre, c .before .before .before .before .before .before .before .before .before .before .if2 .left)) in
-    let w : WroteEntry (now (a .front)) (a .c .retained) (pushedAs (estimateBy (a .aim .goal) (c .before .before .before .before .before .before .before .before .before .before .before .before .before .cost-by .result) (a .to)) (a .c .pushed)) (c .before .before .before .put-entry .last .0) = rw (← e) (c .before .before .before .put-entry .ensures .wrote (omega (arith, c .before .before .before .before .before .before .before .before .before .before .before .before .before .before .before .before .before .before .pre, c .before .before .before .before .before .before .before .before .before .before .if2 .left))) in
-    visited-new (a .aim) (a .k) (a .c) (now (a .nodes)) (now (a .front)) (c .before .before .before .before .before .before .before .before .before .before .before .before .before .before .before .before .before .before .pre .0 .few) (a .from) (a .to) (a .label) (c .before .before .before .before .before .before .before .before .before .before .before .before .before .cost-by .result) (c .before .before .before .before .before .before .before .before .before .before .before .before .before .cost-by .ensures) none (c .before .before .before .before .before .before .before .before .before .before .if2 .left) (omega (arith, c .before .before .before .before .before .before .before .before .before .before .before .before .before .before .before .before .before .before .pre)) p w
+    let e : c .before .before .before .before .before .before .before .before .pushed-as .result ≡ pushedAs (estimateBy (a .aim .goal) (c .before .before .before .before .before .before .before .before .before .before .before .before .before .cost-by .result) (a .to)) (a .c .pushed) = cc in
+    let w = rw e at (c .before .before .before .before .before .put-open .ensures .1) in
+    visited-new (a .aim) (a .k) (a .c) (now (a .nodes)) (now (a .front)) (c .before .before .before .before .before .before .before .before .before .before .before .before .before .before .before .before .before .before .pre .0 .few) (a .from) (a .to) (a .label) (c .before .before .before .before .before .before .before .before .before .before .before .before .before .cost-by .result) (c .before .before .before .before .before .before .before .before .before .before .before .before .before .cost-by .ensures) none (c .before .before .before .before .before .before .before .before .before .before .if2 .left) (omega (arith, c .before .before .before .before .before .before .before .before .before .before .before .before .before .before .before .before .before .before .pre)) (c .before .before .before .before .before .put-open .ensures .0) w
 
 pub step-spec : {M : Type 1} → statement M
 step-spec =
@@ -91,15 +86,14 @@ step-spec =
     same-length
     same-length-2
     returns
-    add-t22
+    add-t21
     same-length-3
     returns-2
     estimate-requires
-    cast-t23
-    put-node-requires
-    put-entry-requires
-    add-t29
-    add-t30
+    pushed-as-requires
+    put-open-requires
+    add-t27
+    add-t28
     same-length-4
     same-length-5
     returns-3)

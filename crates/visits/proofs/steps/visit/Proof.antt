@@ -1,3 +1,4 @@
+-- `visits::steps::visit` meets its contract. Assumes nothing.
 use native.Mathlib.Omega.{arith}
 use mathlib.Core.Path.{_≡_, refl}
 use mathlib.Core.Bool.{true, false}
@@ -7,7 +8,6 @@ use denote.Ref.{now}
 use Rattle.exploration.specs.Laws.Lists.{true-false}
 use Rattle.visits.specs.Visits.{ready}
 use Rattle.visits.specs.Laws.Visits.{ready-is}
--- `visits::steps::visit` meets its contract. Assumes nothing.
 use borrow.Author.Needs.{needs}
 use Rattle.visits.proofs.steps.visit.Statement.{statement}
 use Rattle.visits.proofs.steps.visit.Tie as tie
