@@ -1,0 +1,4 @@
+pub mod Exact
+pub mod Alike
+pub mod Areas
+pub mod Arrival
