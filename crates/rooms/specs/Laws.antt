@@ -1,0 +1,4 @@
+-- Lemmas on the definitions, as the proofs of the code cite them.
+pub mod Writes
+pub mod Scans
+pub mod Rooms

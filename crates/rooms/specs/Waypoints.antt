@@ -1,0 +1,20 @@
+-- The words of a waypoint (01, "Tables": "Waypoint record 40 bytes"), and which waypoints 01 calls the same. Definitions only.
+use Prim.Native.Nat.{ℕ}
+use mathlib.Core.Bool.{Bool, _&&_, cond}
+use lib.Dec.{eqb}
+use Rattle.rooms.specs.declared.Feet.{Feet}
+use Rattle.rooms.specs.declared.Label.{Label}
+
+-- "Same point: equal bits, with -0.0 as 0."
+unfoldable pub canonicalWord : ℕ → ℕ
+canonicalWord n = cond (eqb n 0x8000_0000_0000_0000) 0 n
+
+unfoldable pub sameWord : ℕ → ℕ → Bool
+sameWord a b = eqb (canonicalWord a) (canonicalWord b)
+
+unfoldable pub samePoint : Feet → Feet → Bool
+samePoint p q = sameWord (p .x) (q .x) && sameWord (p .y) (q .y) && sameWord (p .z) (q .z)
+
+-- 01, Modules 5: "lifts compare as numbers": equal bits, with -0.0 as 0, for no edge's lift is a NaN
+unfoldable pub alike : Label → Label → Bool
+alike a b = eqb (a .movement) (b .movement) && sameWord (a .lift) (b .lift)

@@ -1,0 +1,57 @@
+// The rooms of the search (01, "Tables, little-endian records"): node records, frontier records, and the list that is written of them.
+//
+// The types stand here, as the raw words of the records, so that whatever bytes a room holds are read and written back as they were. `records` reads and
+// writes one record, `scans` looks through a room, `lists` writes the found list. Every public function answers for every room: a record past the room's
+// end is read as zeros, and a write past it changes nothing.
+
+pub mod records;
+pub mod scans;
+
+pub use records::get_entry;
+pub use records::get_node;
+pub use records::put_entry;
+pub use records::put_node;
+pub use scans::pick;
+pub use scans::same_point;
+pub use scans::seek;
+pub use scans::zero;
+
+// The feet of a waypoint: the patterns of three f64.
+pub struct Feet {
+    pub x: u64,
+    pub y: u64,
+    pub z: u64,
+}
+
+// What an edge says of the point that it leads to: the pattern of its lift, and its movement's number.
+pub struct Label {
+    pub lift: u64,
+    pub movement: u64,
+}
+
+// A node record, 56 bytes: a waypoint, the pattern of its cost, its parent's number, whether it is closed.
+pub struct NodeRecord {
+    pub feet: Feet,
+    pub label: Label,
+    pub cost: u64,
+    pub parent: u32,
+    pub closed: u32,
+}
+
+// A frontier record, 24 bytes, of the node with the same number: the pattern of its estimate, its push order, and 1 where it waits.
+pub struct Entry {
+    pub estimate: u64,
+    pub order: u64,
+    pub waiting: u64,
+}
+
+// What a search counts: retained and closed nodes, pushes, and new points that were dropped.
+pub struct Counts {
+    pub retained: usize,
+    pub closed: u64,
+    pub pushed: u64,
+    pub dropped: u64,
+}
+
+// The parent of the start: none.
+pub const NOBODY: u32 = 4294967295;

@@ -1,0 +1,195 @@
+-- The paths of the code through one step, one closing and the start, each in the definitions' words; and how they compose.
+use mathlib.Core.Path.{_≡_, refl, sym, ap, subst, _∙_}
+use mathlib.Core.Bool.{Bool, true, false, not, _&&_}
+use mathlib.Core.Option.{Option, none, some}
+use mathlib.Core.List.{List, [], _∷_, _++_}
+use mathlib.Core.Logic.{_≢_}
+use Prim.Native.Nat.{ℕ, zero, suc, _+_, _*_, _/_, _^_, _≤_, _<_}
+use native.Mathlib.Omega.{arith}
+use native.Mathlib.Numerals.{add-one}
+use lib.Dec.{ltb, leb, eqb}
+use lib.ListN.{length, drop, set}
+use borrow.Author.Tests.{eq-eqb, ne-eqb, lt-ltb, le-ltb, le-leb, ltb-true, leb-true}
+use Rattle.exploration.specs.Graph.{Graph}
+use Rattle.exploration.specs.Policy.{Node}
+use Rattle.exploration.specs.Explore.{State, child, apply, effect, effectAt, effectKnown, visit, close, begin}
+use Rattle.exploration.specs.Laws.Lists.{and-both, and-first, and-second}
+use Rattle.fields.specs.RecordLaws.{length-firsts}
+use Rattle.rooms.specs.declared.Feet.{Feet}
+use Rattle.rooms.specs.declared.Label.{Label}
+use Rattle.rooms.specs.declared.NodeRecord.{NodeRecord}
+use Rattle.rooms.specs.declared.Entry.{Entry}
+use Rattle.rooms.specs.declared.Counts.{Counts}
+use Rattle.rooms.specs.Records.{nodeAt, entryAt}
+use Rattle.rooms.specs.Scans.{firstAt}
+use Rattle.rooms.specs.Rooms.{Note, nobody, parentOf, nodeOf, nodeIn, nodesOf, stateOf}
+use Rattle.rooms.specs.Laws.Writes.{WroteNode, WroteEntry, PutNode, PutEntry}
+use Rattle.rooms.specs.Laws.Rooms.{BySamePoint, nodes-set, nodes-more, seek-none, seek-some}
+use Rattle.visits.specs.declared.Aim.{Aim}
+use Rattle.visits.specs.declared.Closing.{Closing}
+use Rattle.visits.specs.Costs.{costBy, estimateBy, cheaper, pushedAs, lowered}
+use Rattle.visits.specs.Best.{opened, idle, given, relaxed, best}
+use Rattle.visits.specs.Visits.{Ready, ready, Kept, Untouched, Near, Seen, Visited, VisitedIf, Closed, ClosedIf, standing, startRecord, counted, Started, Begun}
+
+-- ---- the bytes that stay, and the counts
+
+pub kept-none : (m : ℕ) (a f : List ℕ) → Kept m a f a f
+kept-none m a f = record { nodes = λ j h. refl; front = λ j h. refl }
+
+pub kept-wrote : {a f b g : List ℕ} {k : ℕ} {r : NodeRecord} {e : Entry} (m : ℕ) → k < m → WroteNode a k r b → WroteEntry f k e g → Kept m a f b g
+kept-wrote m l p q = record { nodes = λ j h. p .past j (omega arith); front = λ j h. q .past j (omega arith) }
+
+pub kept-trans : {a f b g d h : List ℕ} {m n : ℕ} → m ≤ n → Kept m a f b g → Kept n b g d h → Kept n a f d h
+kept-trans l p q = record { nodes = λ j i. q .nodes j i ∙ p .nodes j (omega arith); front = λ j i. q .front j i ∙ p .front j (omega arith) }
+
+pub near-none : {budget d : ℕ} {c : Counts} → c .retained ≤ budget → Near budget d c c
+near-none h = record { more = omega arith; few = h; pushes = omega arith; drops = omega arith; closes = omega arith }
+
+pub near-trans : {budget d e : ℕ} {c r t : Counts} → Near budget d c r → Near budget e r t → Near budget (d + e) c t
+near-trans x y = record { more = omega (arith, x .more, y .more); few = y .few; pushes = omega (arith, x .pushes, y .pushes); drops = omega (arith, x .drops, y .drops); closes = omega (arith, x .closes, y .closes) }
+
+pub near-le : {budget d : ℕ} (e : ℕ) {c r : Counts} → d ≤ e → Near budget d c r → Near budget e c r
+near-le e h x = record { more = x .more; few = x .few; pushes = omega (arith, x .pushes); drops = omega (arith, x .drops); closes = omega (arith, x .closes) }
+
+-- ---- the test of readiness
+
+module _ (a f : List ℕ) (budget k : ℕ) (c : Counts) where
+  pub is-ready : Ready a f budget 1 c → k < c .retained → ready (length a) (length f) budget k c ≡ true
+  unfolding ready
+  is-ready r h =
+      let p = le-leb budget (length a / 56) (omega (arith, r .node-room)) in
+      let q = le-leb budget (length f / 24) (omega (arith, r .front-room)) in
+      let s = le-leb budget nobody (r .numbered) in
+      let t = le-leb (c .retained) budget (r .few) in
+      let u = lt-ltb k (c .retained) h in
+      let v = lt-ltb (c .pushed) (2 ^ 63) (omega (arith, r .pushes)) in
+      let w = lt-ltb (c .dropped) (2 ^ 63) (omega (arith, r .drops)) in
+      let x = lt-ltb (c .closed) (2 ^ 63) (omega (arith, r .closes)) in
+      and-both _ _ (and-both _ _ (and-both _ _ (and-both _ _ p q) s) (and-both _ _ t u)) (and-both _ _ (and-both _ _ v w) x)
+
+  pub ready-is : ready (length a) (length f) budget k c ≡ true → Ready a f budget 1 c × (k < c .retained)
+  unfolding ready
+  ready-is e =
+      let front = and-first (((leb budget (length a / 56) && leb budget (length f / 24)) && leb budget nobody) && (leb (c .retained) budget && ltb k (c .retained))) ((ltb (c .pushed) (2 ^ 63) && ltb (c .dropped) (2 ^ 63)) && ltb (c .closed) (2 ^ 63)) e in
+      let roomy = and-first ((leb budget (length a / 56) && leb budget (length f / 24)) && leb budget nobody) (leb (c .retained) budget && ltb k (c .retained)) front in
+      let there = and-second ((leb budget (length a / 56) && leb budget (length f / 24)) && leb budget nobody) (leb (c .retained) budget && ltb k (c .retained)) front in
+      let grows = and-second (((leb budget (length a / 56) && leb budget (length f / 24)) && leb budget nobody) && (leb (c .retained) budget && ltb k (c .retained))) ((ltb (c .pushed) (2 ^ 63) && ltb (c .dropped) (2 ^ 63)) && ltb (c .closed) (2 ^ 63)) e in
+      let rooms = and-first (leb budget (length a / 56) && leb budget (length f / 24)) (leb budget nobody) roomy in
+      let two = and-first (ltb (c .pushed) (2 ^ 63) && ltb (c .dropped) (2 ^ 63)) (ltb (c .closed) (2 ^ 63)) grows in
+      let p = leb-true budget (length a / 56) (and-first (leb budget (length a / 56)) (leb budget (length f / 24)) rooms) in
+      let q = leb-true budget (length f / 24) (and-second (leb budget (length a / 56)) (leb budget (length f / 24)) rooms) in
+      let s = leb-true budget nobody (and-second (leb budget (length a / 56) && leb budget (length f / 24)) (leb budget nobody) roomy) in
+      let t = leb-true (c .retained) budget (and-first (leb (c .retained) budget) (ltb k (c .retained)) there) in
+      let u = ltb-true k (c .retained) (and-second (leb (c .retained) budget) (ltb k (c .retained)) there) in
+      let v = ltb-true (c .pushed) (2 ^ 63) (and-first (ltb (c .pushed) (2 ^ 63)) (ltb (c .dropped) (2 ^ 63)) two) in
+      let w = ltb-true (c .dropped) (2 ^ 63) (and-second (ltb (c .pushed) (2 ^ 63)) (ltb (c .dropped) (2 ^ 63)) two) in
+      let x = ltb-true (c .closed) (2 ^ 63) (and-second (ltb (c .pushed) (2 ^ 63) && ltb (c .dropped) (2 ^ 63)) (ltb (c .closed) (2 ^ 63)) grows) in
+      (record { node-room = omega arith; front-room = omega arith; numbered = s; few = t; pushes = omega arith; drops = omega arith; closes = omega arith }, u)
+
+-- ---- a step
+
+abbrev pub childRecord : ℕ → Feet → Label → ℕ → NodeRecord
+childRecord k p l cost = record { feet = p; label = l; cost = cost; parent = k; closed = 0 }
+
+child-node : (k : ℕ) (p : Feet) (l : Label) (cost : ℕ) (e : Entry) → k < nobody → nodeOf (childRecord k p l cost) e ≡ child k p l (opened cost e)
+unfolding nodeOf parentOf
+child-node k p l cost e h = let z = ne-eqb k nobody (λ i. omega arith) in rw z
+
+module _ (aim : Aim) (k : ℕ) (c : Counts) (a f : List ℕ) (few : c .retained ≤ aim .budget) where
+  module _ (j cost : ℕ) (to : Feet) (label : Label) where
+    pub seen-shut : nodeAt a j .closed ≢ 0 → Seen aim k c j cost to label c a f a f
+    unfolding nodeOf
+    seen-shut h = record { state = (let e = ne-eqb (nodeAt a j .closed) 0 h in rw e); kept = kept-none _ a f; near = near-none few }
+
+    pub seen-dear : nodeAt a j .closed ≡ 0 → cheaper cost (nodeAt a j .cost) ≡ false → Seen aim k c j cost to label c a f a f
+    unfolding nodeOf relaxed
+    seen-dear h l = record { state = (let e = eq-eqb (nodeAt a j .closed) 0 h in rw (e, l)); kept = kept-none _ a f; near = near-none few }
+
+    abbrev pub pushed : Counts
+    pushed = record { retained = c .retained; closed = c .closed; pushed = c .pushed + 1; dropped = c .dropped }
+
+    pub seen-lower : {b g : List ℕ} → k < nobody → j < c .retained → nodeAt a j .closed ≡ 0 → cheaper cost (nodeAt a j .cost) ≡ true →
+        WroteNode a j (childRecord k (nodeAt a j .feet) label cost) b → WroteEntry f j (lowered (estimateBy (aim .goal) cost to) (entryAt f j) (c .pushed)) g → Seen aim k c j cost to label pushed a f b g
+    unfolding nodeOf relaxed stateOf
+    seen-lower {b} {g} hk hj h l p w = record {
+        state = (let e = eq-eqb (nodeAt a j .closed) 0 h in rw (e, l) (λ i. record { nodes = ns i; book = c .pushed + 1; closings = c .closed; dropped = c .dropped; found = none }));
+        kept = kept-wrote (c .retained) hj p w;
+        near = record { more = omega arith; few = few; pushes = omega arith; drops = omega arith; closes = omega arith } }
+      where
+        ns : nodesOf (c .retained) b g ≡ set (nodesOf (c .retained) a f) j (child k (nodeAt a j .feet) label (opened cost (lowered (estimateBy (aim .goal) cost to) (entryAt f j) (c .pushed))))
+        ns = nodes-set p w (c .retained) hj ∙ ap (set (nodesOf (c .retained) a f) j) (child-node k (nodeAt a j .feet) label cost _ hk)
+
+  module _ (from : NodeRecord) (to : Feet) (label : Label) where
+    abbrev seeing : Graph Feet Label → Node Feet Label Note → Option (ℕ × Node Feet Label Note) → State Feet Label Note ℕ
+    seeing 𝓖 n o = apply (aim .budget) (stateOf a f c) (effectAt 𝓖 (best (aim .goal)) k n (c .pushed) (to, label) o)
+
+    abbrev first : ℕ
+    first = firstAt a (c .retained) to
+
+    visit-none : (𝓖 : Graph Feet Label) → BySamePoint 𝓖 → (n : Node Feet Label Note) → c .retained ≤ first → visit 𝓖 (best (aim .goal)) (aim .budget) k n (stateOf a f c) (to, label) ≡ seeing 𝓖 n none
+    unfolding effect stateOf
+    visit-none 𝓖 same n l = ap (seeing 𝓖 n) (seek-none 𝓖 same a f (c .retained) to l)
+
+    visit-some : (𝓖 : Graph Feet Label) → BySamePoint 𝓖 → (n : Node Feet Label Note) → first < c .retained → visit 𝓖 (best (aim .goal)) (aim .budget) k n (stateOf a f c) (to, label) ≡ seeing 𝓖 n (some (first, nodeIn a f first))
+    unfolding effect stateOf
+    visit-some 𝓖 same n l = ap (seeing 𝓖 n) (seek-some 𝓖 same a f (c .retained) to l)
+
+    pub visited-known : {r : Counts} {b g : List ℕ} (j cost : ℕ) → j ≡ first → cost ≡ costBy (from .cost) (from .feet) to → j < c .retained → Seen aim k c j cost to label r a f b g → Visited aim k from c to label r a f b g
+    unfolding best
+    visited-known j cost i e l s = record {
+        state = λ 𝓖 same n p q. (let z : costBy (n .note .cost) (n .point) to ≡ cost = rw (p, q) (sym e) in sym (visit-some 𝓖 same n (rw (← i) l) ∙ rw (z, ← i) (sym (s .state))));
+        kept = s .kept; near = s .near }
+
+    abbrev pub dropped : Counts
+    dropped = record { retained = c .retained; closed = c .closed; pushed = c .pushed; dropped = c .dropped + 1 }
+
+    pub visited-drop : c .retained ≤ first → aim .budget ≤ c .retained → Visited aim k from c to label dropped a f a f
+    unfolding stateOf
+    visited-drop l m = record {
+        state = λ 𝓖 same n p q. sym (visit-none 𝓖 same n l ∙ (let z = le-ltb (length (nodesOf (c .retained) a f)) (aim .budget) (rw length-firsts m) in rw (z, ← add-one)));
+        kept = kept-none _ a f; near = record { more = omega arith; few = few; pushes = omega arith; drops = omega arith; closes = omega arith } }
+
+    abbrev pub grown : Counts
+    grown = record { retained = c .retained + 1; closed = c .closed; pushed = c .pushed + 1; dropped = c .dropped }
+
+    pub visited-new : {b g : List ℕ} (cost : ℕ) → cost ≡ costBy (from .cost) (from .feet) to → c .retained ≤ first → c .retained < aim .budget → k < nobody →
+        WroteNode a (c .retained) (childRecord k to label cost) b → WroteEntry f (c .retained) (pushedAs (estimateBy (aim .goal) cost to) (c .pushed)) g → Visited aim k from c to label grown a f b g
+    unfolding stateOf best
+    visited-new {b} {g} cost e l m hk p w = record {
+        state = λ 𝓖 same n x y. (let z : costBy (n .note .cost) (n .point) to ≡ cost = rw (x, y) (sym e) in let t = lt-ltb (length (nodesOf (c .retained) a f)) (aim .budget) (rw length-firsts m) in sym (visit-none 𝓖 same n l ∙ rw (t, z) (λ i. record { nodes = sym ns i; book = c .pushed + 1; closings = c .closed; dropped = c .dropped; found = none })));
+        kept = kept-wrote (c .retained + 1) (omega arith) p w;
+        near = record { more = omega arith; few = omega arith; pushes = omega arith; drops = omega arith; closes = omega arith } }
+      where
+        ns : nodesOf (c .retained + 1) b g ≡ nodesOf (c .retained) a f ++ (child k to label (opened cost (pushedAs (estimateBy (aim .goal) cost to) (c .pushed))) ∷ [])
+        ns = ap (λ (i : ℕ). nodesOf i b g) (add-one (c .retained)) ∙ nodes-more p w ∙ ap (λ (x : Node Feet Label Note). nodesOf (c .retained) a f ++ (x ∷ [])) (child-node k to label cost _ hk)
+
+-- ---- a closing
+
+abbrev pub shutRecord : NodeRecord → NodeRecord
+shutRecord r = record { feet = r .feet; label = r .label; cost = r .cost; parent = r .parent; closed = 1 }
+
+abbrev pub shutCounts : Counts → Counts
+shutCounts c = record { retained = c .retained; closed = c .closed + 1; pushed = c .pushed; dropped = c .dropped }
+
+pub closes : (aim : Aim) (k : ℕ) (c : Counts) (a f : List ℕ) {b g : List ℕ} → k < c .retained → c .retained ≤ aim .budget → WroteNode a k (shutRecord (nodeAt a k)) b → WroteEntry f k idle g → Closed aim k c (shutCounts c) a f b g
+unfolding stateOf nodeOf best
+closes aim k c a f h few p w = record {
+    state = λ 𝓖. (let e = nodes-set p w (c .retained) h in let o = add-one (c .closed) in λ i. record { nodes = e i; book = c .pushed; closings = o i; dropped = c .dropped; found = none });
+    kept = kept-wrote (c .retained) h p w;
+    near = record { more = omega arith; few = few; pushes = omega arith; drops = omega arith; closes = omega arith } }
+
+-- ---- the start
+
+pub begun : (budget : ℕ) (start : Feet) {r : Counts} (a f : List ℕ) {b g : List ℕ} → 56 * budget ≤ length a → 24 * budget ≤ length f → Started budget start r a f b g → Begun budget start r a f b g
+unfolding begin stateOf best nodeOf parentOf
+begun zero start {r} a f {b} {g} x y s = go (s .none refl)
+  where
+    go : Untouched (counted 0 1) r a f b g → Begun 0 start r a f b g
+    go u = rw (u .counts, u .nodes, u .front) (record { state = λ 𝓖 p q goal. refl; kept = kept-none 0 a f; near = record { more = omega arith; few = omega arith; pushes = omega arith; drops = omega arith; closes = omega arith } })
+begun (suc m) start {r} a f {b} {g} x y s = let t = s .some (λ e. omega arith) in go (t .0) (t .1 .wrote (omega arith)) (t .2 .wrote (omega arith))
+  where
+    go : r ≡ counted 1 0 → WroteNode a 0 (startRecord start) b → WroteEntry f 0 (pushedAs 0 0) g → Begun (suc m) start r a f b g
+    go e p w = rw e (record {
+        state = λ 𝓖 i j goal. (let t = lt-ltb 0 (suc m) (omega arith) in rw (i, j, t) (let n = nodes-more p w in λ i. record { nodes = n i; book = 1; closings = 0; dropped = 0; found = none }));
+        kept = kept-wrote 1 (omega arith) p w;
+        near = record { more = omega arith; few = omega arith; pushes = omega arith; drops = omega arith; closes = omega arith } })

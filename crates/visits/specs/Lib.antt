@@ -1,0 +1,5 @@
+-- One step of the search on its rooms. What a reader must believe: Costs, Best, Visits. What is proved of them: Laws.
+pub mod Costs
+pub mod Best
+pub mod Visits
+pub mod Laws
