@@ -14,7 +14,10 @@ use Rattle.edges.specs.Edges.{connector}
 use Rattle.exploration.specs.Graph.{GraphLaws}
 use Rattle.exploration.specs.Canonical.{canonical, canonical-laws}
 use Rattle.steps.specs.Columns.{stepsFrom}
-use Rattle.steps.specs.Words.{Feet, Label, canonicalWord, sameWord, samePoint, alike, coordinate, pointOf, feetOf, stepOf, labelIf, standing, graph}
+use Rattle.rooms.specs.declared.Feet.{Feet}
+use Rattle.rooms.specs.declared.Label.{Label}
+use Rattle.rooms.specs.Waypoints.{canonicalWord, sameWord, samePoint, alike}
+use Rattle.steps.specs.Words.{coordinate, pointOf, feetOf, stepOf, labelIf, standing, graph}
 
 -- the canonical form of a point, and what is read of it
 abbrev canon : Feet → Feet

@@ -1,9 +1,7 @@
--- The graph of 01 over the words of records: a point is three 64-bit patterns, a label a movement's number and a lift's pattern. Definitions only.
+-- The graph of 01 over the words of records (`rooms`): a point is three 64-bit patterns, a label a lift's pattern and a movement's number. Definitions only.
 use Prim.Native.Nat.{ℕ}
-use mathlib.Core.Bool.{Bool, _&&_, cond}
 use mathlib.Core.Option.{Option, none, some}
 use mathlib.Core.List.{List, map}
-use lib.Dec.{eqb}
 use lib.Ieee.{Float, binary64, ofBits, toBits}
 use Rattle.world.specs.declared.Point.{Point}
 use Rattle.world.specs.declared.Body.{Body}
@@ -14,32 +12,10 @@ use Rattle.edges.specs.declared.answer.EdgeAnswer.{EdgeAnswer}
 use Rattle.edges.specs.declared.answer.EdgeAnswer.the-variants.{To, Nowhere}
 use Rattle.edges.specs.Edges.{movementNumber, connector}
 use Rattle.exploration.specs.Graph.{Graph}
+use Rattle.rooms.specs.declared.Feet.{Feet}
+use Rattle.rooms.specs.declared.Label.{Label}
+use Rattle.rooms.specs.Waypoints.{canonicalWord, samePoint, alike}
 use Rattle.steps.specs.Columns.{stepsFrom}
-
--- the feet of a waypoint record
-pub record Feet : Type 0 where
-  pub x : ℕ
-  pub y : ℕ
-  pub z : ℕ
-
--- the movement and the lift of a waypoint record
-pub record Label : Type 0 where
-  pub movement : ℕ
-  pub lift : ℕ
-
--- "Same point: equal bits, with -0.0 as 0."
-unfoldable pub canonicalWord : ℕ → ℕ
-canonicalWord n = cond (eqb n 0x8000_0000_0000_0000) 0 n
-
-unfoldable pub sameWord : ℕ → ℕ → Bool
-sameWord a b = eqb (canonicalWord a) (canonicalWord b)
-
-unfoldable pub samePoint : Feet → Feet → Bool
-samePoint p q = sameWord (p .x) (q .x) && sameWord (p .y) (q .y) && sameWord (p .z) (q .z)
-
--- 01, Modules 5: "lifts compare as numbers": equal bits, with -0.0 as 0, for no edge's lift is a NaN
-unfoldable pub alike : Label → Label → Bool
-alike a b = eqb (a .movement) (b .movement) && sameWord (a .lift) (b .lift)
 
 -- a point is read with -0.0 as 0
 unfoldable pub coordinate : ℕ → Float
@@ -52,7 +28,7 @@ unfoldable pub feetOf : Point → Feet
 feetOf p = record { x = toBits binary64 (p .x); y = toBits binary64 (p .y); z = toBits binary64 (p .z) }
 
 unfoldable pub labelOf : Waypoint → Label
-labelOf w = record { movement = movementNumber (w .movement); lift = toBits binary64 (w .lift) }
+labelOf w = record { lift = toBits binary64 (w .lift); movement = movementNumber (w .movement) }
 
 unfoldable pub stepOf : Waypoint → Feet × Label
 stepOf w = (feetOf (w .feet), labelOf w)
@@ -63,7 +39,7 @@ labelIf (To w) = some (labelOf w)
 
 -- the start's label: "the start first (Walk, lift 0)"
 abbrev pub standing : Label
-standing = record { movement = 0; lift = 0 }
+standing = record { lift = 0; movement = 0 }
 
 -- the graph of a space, a request and a body
 unfoldable pub graph : Space → Request → Body → Graph Feet Label

@@ -16,5 +16,7 @@ pub use sides::DIAGONAL_SIDES;
 pub use sides::SidePair;
 pub use sides::Sides;
 pub use sides::is_level;
+pub use words::feet_of;
+pub use words::label_of;
 pub use words::movement_number;
 pub use words::point_of;

@@ -1,8 +1,11 @@
 // The graph over the words of records: what an expansion reads of a node's feet, and writes of an edge.
 ghost use mathlib.Core.Path.{_≡_};
 ghost use Rattle.edges.specs.Edges.{movementNumber};
-ghost use Rattle.steps.specs.Words.{coordinate, pointOf};
+ghost use Rattle.steps.specs.Words.{coordinate, pointOf, feetOf, labelOf};
 use edges::Movement;
+use edges::Waypoint;
+use rooms::Feet;
+use rooms::Label;
 use world::Point;
 
 // The number of a pattern, with -0.0 as 0.
@@ -16,14 +19,34 @@ fn coordinate(n: u64) -> f64
 }
 
 // The point of three patterns.
-pub fn point_of(x: u64, y: u64, z: u64) -> Point
-    ensures { λ r. ⌜ r ≡ pointOf (record { x = x; y = y; z = z }) ⌝ }
+pub fn point_of(p: Feet) -> Point
+    ensures { λ r. ⌜ r ≡ pointOf p ⌝ }
 {
     Point {
-        x: coordinate(x),
-        y: coordinate(y),
-        z: coordinate(z),
+        x: coordinate(p.x),
+        y: coordinate(p.y),
+        z: coordinate(p.z),
     }
+}
+
+// The patterns of a point.
+pub fn feet_of(p: Point) -> Feet
+    ensures { λ r. ⌜ r ≡ feetOf p ⌝ }
+{
+    let x = floats::bits_of(p.x);
+    let y = floats::bits_of(p.y);
+    let z = floats::bits_of(p.z);
+    Feet { x, y, z }
+}
+
+// What an edge says of the waypoint that it leads to.
+pub fn label_of(w: Waypoint) -> Label
+    ensures { λ r. ⌜ r ≡ labelOf w ⌝ }
+{
+    let lift = floats::bits_of(w.lift);
+    let m = w.movement;
+    let movement = movement_number(m);
+    Label { lift, movement }
 }
 
 // 01's number of a movement.
