@@ -1,0 +1,80 @@
+-- `search::columns::columns` meets its contract. The loop's invariant: the steps of the columns gone have been visited, the sides are those of the columns gone,
+-- and the point's steps are those and the ones of the columns left. Assumes nothing.
+use Prim.Native.Nat.{_+_, _-_, _≤_}
+use mathlib.Core.Path.{_≡_, refl, sym, ap, _∙_}
+use native.Mathlib.Omega.{arith}
+use borrow.Author.Needs.{needs}
+use denote.Ref.{now}
+use lib.ListN.{length, length-append}
+use Rattle.world.specs.Space.{space}
+use Rattle.steps.specs.Columns.{columnIf, stepsFrom}
+use Rattle.steps.specs.Expansion.{columnsFrom, columns-begin, columns-on, columns-end, sidesBefore, sides-begin}
+use Rattle.search.specs.Steps.{Stepped}
+use Rattle.search.specs.Laws.Steps.{ready-after, stepped-none, stepped-more, Along, along-none, along-on, along-end, along-short}
+use Rattle.search.proofs.columns.columns.Statement.{statement}
+use Rattle.search.proofs.columns.columns.Tie as tie
+
+abbrev Inv-loop : tie.InvT-loop
+Inv-loop w cells perms shapes boxes r body nodes₀ front₀ aim at gone₀ n₀ nodes front gone n =
+    (n ≤ 9) × (length nodes ≡ length nodes₀) × (length front ≡ length front₀) × (gone .sides ≡ sidesBefore (space w cells perms shapes boxes) r body (at .point) n)
+    × Along (λ ws. Stepped aim at ws (gone₀ .counts) (gone .counts) nodes₀ front₀ nodes front) (stepsFrom (space w cells perms shapes boxes) r body (at .point)) (columnsFrom (space w cells perms shapes boxes) r body (at .point) n)
+
+abbrev μ-loop : tie.MeasureT-loop
+μ-loop w cells perms shapes boxes r body nodes₀ front₀ aim at gone₀ n₀ nodes front gone n = 9 - n
+
+none-requires : tie.Need-none-requires Inv-loop μ-loop
+none-requires c κs = search needs
+
+loop-holds : tie.Need-loop-holds Inv-loop μ-loop
+loop-holds c =
+    let a = c .before .before .before .before .before .before .before .args in
+    (omega arith, refl, refl, c .none .ensures ∙ sym (sides-begin (space (a .w) (now (a .cells)) (now (a .perms)) (now (a .shapes)) (now (a .boxes))) (a .r) (a .body) (a .at .point)), along-none (columns-begin (space (a .w) (now (a .cells)) (now (a .perms)) (now (a .shapes)) (now (a .boxes))) (a .r) (a .body) (a .at .point)) (stepped-none (now (a .nodes)) (now (a .front)) (c .before .before .before .before .before .before .before .pre .0 .few)))
+
+around-requires : tie.Need-around-requires Inv-loop μ-loop
+around-requires c κs =
+    let a = c .before .before .before .before .before .before .before .before .before .before .before .args in
+    let n = c .before .before .before .loop .n in
+    let u = c .before .before .before .loop .inv .4 in
+    let s = along-short u in
+    let e = ap length (columns-on (space (a .w) (now (a .cells)) (now (a .perms)) (now (a .shapes)) (now (a .boxes))) (a .r) (a .body) (a .at .point) n (c .before .before .loop-test .taken)) in
+    let l = length-append (columnIf (space (a .w) (now (a .cells)) (now (a .perms)) (now (a .shapes)) (now (a .boxes))) (a .r) (a .body) (a .at .point) n) (columnsFrom (space (a .w) (now (a .cells)) (now (a .perms)) (now (a .shapes)) (now (a .boxes))) (a .r) (a .body) (a .at .point) (n + 1)) in
+    ((ready-after (c .before .before .before .before .before .before .before .before .before .before .before .pre .0) (u .went .near) (omega arith) (c .before .before .before .loop .inv .1) (c .before .before .before .loop .inv .2), omega (arith, c .before .before .before .before .before .before .before .before .before .before .before .pre .1, u .went .near .more)), c .before .before .before .loop .inv .3)
+
+add-n : tie.Need-add-n Inv-loop μ-loop
+add-n c = omega (arith, c .before .before .before .before .before .before .before .loop-test .taken)
+
+loop-less : tie.Need-loop-less Inv-loop μ-loop
+loop-less c = omega (arith, c .before .before .before .before .before .before .before .loop-test .taken)
+
+loop-again : tie.Need-loop-again Inv-loop μ-loop
+loop-again c =
+    let a = c .before .before .before .before .before .before .before .before .before .before .before .before .before .before .before .before .args in
+    let n = c .before .before .before .before .before .before .before .before .loop .n in
+    (omega (arith, c .before .before .before .before .before .before .before .loop-test .taken), omega (arith, c .before .before .before .before .around .kept, c .before .before .before .before .before .before .before .before .loop .inv .1), omega (arith, c .before .before .before .before .around .kept, c .before .before .before .before .before .before .before .before .loop .inv .2), c .before .before .before .before .around .ensures .answered, along-on (columnIf (space (a .w) (now (a .cells)) (now (a .perms)) (now (a .shapes)) (now (a .boxes))) (a .r) (a .body) (a .at .point) n) (c .before .before .before .before .before .before .before .before .loop .inv .4) (columns-on (space (a .w) (now (a .cells)) (now (a .perms)) (now (a .shapes)) (now (a .boxes))) (a .r) (a .body) (a .at .point) n (c .before .before .before .before .before .before .before .loop-test .taken)) (λ vs g. stepped-more g (c .before .before .before .before .around .ensures .steps)))
+
+same-length : tie.Need-same-length Inv-loop μ-loop
+same-length c = c .before .before .loop .inv .1
+
+same-length-2 : tie.Need-same-length-2 Inv-loop μ-loop
+same-length-2 c = c .before .before .loop .inv .2
+
+returns : tie.Need-returns Inv-loop μ-loop
+returns c =
+    let a = c .before .before .before .before .before .before .before .before .before .before .args in
+    along-end (c .before .before .loop .inv .4) (columns-end (space (a .w) (now (a .cells)) (now (a .perms)) (now (a .shapes)) (now (a .boxes))) (a .r) (a .body) (a .at .point) (c .before .before .loop .n) (omega (arith, c .before .loop-test .left)))
+
+pub columns-spec : {M : Type 1} → statement M
+columns-spec =
+    tie.close
+    (tie.spec
+    Inv-loop
+    μ-loop
+    none-requires
+    loop-holds
+    around-requires
+    add-n
+    loop-less
+    loop-again
+    same-length
+    same-length-2
+    returns)

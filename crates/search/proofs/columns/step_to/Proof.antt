@@ -1,0 +1,56 @@
+-- `search::columns::step_to` meets its contract. Assumes nothing.
+use mathlib.Core.Path.{_≡_, sym, _∙_}
+use borrow.Author.Needs.{needs}
+use Rattle.search.specs.Laws.Steps.{went-nowhere, went-to}
+use Rattle.search.proofs.columns.step_to.Statement.{statement}
+use Rattle.search.proofs.columns.step_to.Tie as tie
+
+edge-requires : tie.Need-edge-requires
+edge-requires c κs = search needs
+
+enum-known-way : tie.Need-enum-known-way
+enum-known-way c = search needs
+
+enum-told : tie.Need-enum-told
+enum-told c = search needs
+
+returns : tie.Need-returns
+returns c = went-nowhere _ (sym (c .enum-told .given .1) ∙ c .before .before .edge .ensures) (c .before .before .before .before .before .before .before .before .before .before .pre .0 .few)
+
+feet-of-requires : tie.Need-feet-of-requires
+feet-of-requires c κs = search needs
+
+label-of-requires : tie.Need-label-of-requires
+label-of-requires c κs = search needs
+
+visit-requires : tie.Need-visit-requires
+visit-requires c κs = search needs
+
+is-level-requires : tie.Need-is-level-requires
+is-level-requires c κs = search needs
+
+same-length : tie.Need-same-length
+same-length c = search needs
+
+same-length-2 : tie.Need-same-length-2
+same-length-2 c = search needs
+
+returns-2 : tie.Need-returns-2
+returns-2 c =
+    went-to _ (c .before .before .before .before .before .before .before .before .before .before .before .before .before .before .before .way .given .0 .0) (c .before .before .before .before .before .before .before .before .before .before .before .before .feet-of .result) (c .before .before .before .before .before .before .before .before .before .before .before .label-of .result) (c .before .is-level .result) (sym (c .before .before .before .before .before .before .before .before .before .before .before .before .before .before .before .way .given .1) ∙ c .before .before .before .before .before .before .before .before .before .before .before .before .before .before .before .before .before .edge .ensures) (c .before .before .before .before .before .before .before .before .before .before .before .before .feet-of .ensures) (c .before .before .before .before .before .before .before .before .before .before .before .label-of .ensures) (c .before .is-level .ensures) (c .before .before .before .before .before .before .before .before .before .before .before .before .before .before .before .before .before .before .before .before .before .before .before .before .before .pre .0) (c .before .before .before .before .before .before .before .before .before .before .before .before .before .before .before .before .before .before .before .before .before .before .before .before .before .pre .1) (c .before .before .before .before .before .before .visit .ensures)
+
+pub step-to-spec : {M : Type 1} → statement M
+step-to-spec =
+    tie.close
+    (tie.spec
+    edge-requires
+    enum-known-way
+    enum-told
+    returns
+    feet-of-requires
+    label-of-requires
+    visit-requires
+    is-level-requires
+    same-length
+    same-length-2
+    returns-2)

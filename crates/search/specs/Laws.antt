@@ -1,0 +1,2 @@
+-- Lemmas on the definitions, as the proofs of the code cite them.
+pub mod Steps

@@ -1,0 +1,176 @@
+-- How steps of an expansion compose, and the paths of the code through a column and through the columns.
+use mathlib.Core.Path.{_≡_, refl, sym, ap, subst, _∙_}
+use mathlib.Core.Bool.{Bool, true, false, _||_}
+use mathlib.Core.List.{List, [], _∷_, _++_, map, append-nil, append-assoc}
+use Prim.Native.Nat.{ℕ, zero, suc, _+_, _≤_, _<_}
+use native.Mathlib.Omega.{arith}
+use lib.ListN.{length, length-append}
+use lib.Ieee.{Float}
+use Rattle.exploration.specs.Graph.{Graph}
+use Rattle.exploration.specs.Policy.{Node}
+use Rattle.exploration.specs.Explore.{State, visits}
+use Rattle.exploration.specs.Laws.Loops.{visits-append}
+use Rattle.world.specs.declared.Point.{Point}
+use Rattle.world.specs.declared.Body.{Body}
+use Rattle.world.specs.declared.Request.{Request}
+use Rattle.world.specs.Space.{Space}
+use Rattle.heights.specs.declared.Band.{Band}
+use Rattle.heights.specs.declared.Height.{Height}
+use Rattle.heights.specs.declared.Height.the-variants.{At, None}
+use Rattle.heights.specs.Heights.{tops, sorted, heights, keptAfter, nextAfter}
+use Rattle.heights.specs.Next.{kept-next}
+use Rattle.heights.specs.Laws.{numbers}
+use Rattle.edges.specs.declared.answer.Waypoint.{Waypoint}
+use Rattle.edges.specs.declared.answer.EdgeAnswer.{EdgeAnswer}
+use Rattle.edges.specs.declared.answer.EdgeAnswer.the-variants.{To, Nowhere}
+use Rattle.edges.specs.Edges.{edge}
+use Rattle.steps.specs.declared.columns.Centre.{Centre}
+use Rattle.steps.specs.declared.sides.Sides.{Sides}
+use Rattle.steps.specs.Columns.{lookedBy, answeredBy, centreOf, bandOf, target, ahead, levelTo, level, columnSteps, columnIf, stepsFrom}
+use Rattle.steps.specs.Expansion.{columnsFrom, columns-begin, columns-on, columns-end, sidesBefore, sides-on, looked-before, skipped, sides-skipped, stepsAfter, column-ends, column-on}
+use Rattle.steps.specs.Words.{feetOf, labelOf, stepOf}
+use Rattle.rooms.specs.declared.Feet.{Feet}
+use Rattle.rooms.specs.declared.Label.{Label}
+use Rattle.rooms.specs.declared.Counts.{Counts}
+use Rattle.rooms.specs.Rooms.{Note, stateOf}
+use Rattle.rooms.specs.Laws.Rooms.{BySamePoint}
+use Rattle.visits.specs.declared.Aim.{Aim}
+use Rattle.visits.specs.Best.{best}
+use Rattle.visits.specs.Visits.{Ready, Kept, Near, Visited, VisitedIf}
+use Rattle.visits.specs.Laws.Visits.{kept-none, kept-trans, near-none, near-trans, near-le, is-ready}
+use Rattle.search.specs.declared.Place.{Place}
+use Rattle.search.specs.declared.Column.{Column}
+use Rattle.search.specs.declared.Around.{Around}
+use Rattle.search.specs.Steps.{Stepped, Went, Looked}
+
+-- ---- readiness goes on
+
+pub ready-after : {a f b g : List ℕ} {budget d e m : ℕ} {c r : Counts} → Ready a f budget m c → Near budget d c r → d + e ≤ m → length b ≡ length a → length g ≡ length f → Ready b g budget e r
+ready-after p n h x y = record { node-room = omega (arith, p .node-room); front-room = omega (arith, p .front-room); numbered = p .numbered; few = n .few; pushes = omega (arith, p .pushes, n .pushes); drops = omega (arith, p .drops, n .drops); closes = omega (arith, p .closes, n .closes) }
+
+-- ---- steps, one lot after the other
+
+or-none : (b : Bool) → b ≡ (b || false)
+or-none true = refl
+or-none false = refl
+
+or-assoc : (a b d : Bool) → (a || (b || d)) ≡ ((a || b) || d)
+or-assoc true b d = refl
+or-assoc false b d = refl
+
+level-append : (p : Point) (ws vs : List Waypoint) → level p (ws ++ vs) ≡ (level p ws || level p vs)
+unfolding level
+level-append p [] vs = refl
+level-append p (w ∷ ws) vs = ap (λ (b : Bool). levelTo p (w .feet) || b) (level-append p ws vs) ∙ or-assoc (levelTo p (w .feet)) (level p ws) (level p vs)
+
+map-append : {A B : Type 0} (h : A → B) (xs ys : List A) → map h (xs ++ ys) ≡ map h xs ++ map h ys
+map-append h [] ys = refl
+map-append h (x ∷ xs) ys = ap (λ (zs : List _). h x ∷ zs) (map-append h xs ys)
+
+module _ {aim : Aim} {at : Place} where
+  pub stepped-none : {c : Counts} (a f : List ℕ) → c .retained ≤ aim .budget → Stepped aim at [] c c a f a f
+  stepped-none a f h = record { state = λ 𝓖 s n p q. refl; kept = kept-none _ a f; near = near-none h }
+
+  pub stepped-one : {c r : Counts} {a f b g : List ℕ} (w : Waypoint) → Visited aim (at .number) (at .node) c (feetOf (w .feet)) (labelOf w) r a f b g → Stepped aim at (w ∷ []) c r a f b g
+  unfolding stepOf
+  stepped-one w v = record { state = v .state; kept = v .kept; near = v .near }
+
+  pub stepped-more : {c r t : Counts} {a f b g x y : List ℕ} {ws vs : List Waypoint} → Stepped aim at ws c r a f b g → Stepped aim at vs r t b g x y → Stepped aim at (ws ++ vs) c t a f x y
+  stepped-more {c} {a = a} {f = f} {ws = ws} {vs = vs} u v = record {
+    state = λ 𝓖 s n p q. v .state 𝓖 s n p q
+        ∙ ap (λ (i : State Feet Label Note ℕ). visits 𝓖 (best (aim .goal)) (aim .budget) (at .number) n i (map stepOf vs)) (u .state 𝓖 s n p q)
+        ∙ sym (visits-append 𝓖 (best (aim .goal)) (aim .budget) (at .number) n (stateOf a f c) (map stepOf ws) (map stepOf vs))
+        ∙ ap (visits 𝓖 (best (aim .goal)) (aim .budget) (at .number) n (stateOf a f c)) (sym (map-append stepOf ws vs));
+    kept = kept-trans (v .near .more) (u .kept) (v .kept);
+    near = rw length-append (near-trans (u .near) (v .near)) }
+
+  pub went-none : {c : Column} (a f : List ℕ) → c .counts .retained ≤ aim .budget → Went aim at [] c c a f a f
+  unfolding level
+  went-none {c} a f h = record { steps = stepped-none a f h; noted = or-none (c .level) }
+
+  pub went-more : {c r t : Column} {a f b g x y : List ℕ} {ws vs : List Waypoint} → Went aim at ws c r a f b g → Went aim at vs r t b g x y → Went aim at (ws ++ vs) c t a f x y
+  went-more {c} {ws = ws} {vs = vs} u v = record {
+    steps = stepped-more (u .steps) (v .steps);
+    noted = v .noted ∙ ap (λ (b : Bool). b || level (at .point) vs) (u .noted) ∙ sym (or-assoc (c .level) (level (at .point) ws) (level (at .point) vs)) ∙ ap (λ (b : Bool). c .level || b) (sym (level-append (at .point) ws vs)) }
+
+  -- ---- one height
+
+  pub went-nowhere : {c : Column} {a f : List ℕ} (e : EdgeAnswer) → Nowhere ≡ e → c .counts .retained ≤ aim .budget → Went aim at (ahead e []) c c a f a f
+  went-nowhere {c} {a} {f} e i h = subst (λ (x : EdgeAnswer). Went aim at (ahead x []) c c a f a f) i (went-none a f h)
+
+  pub went-to : {c : Column} {r : Counts} {a f b g : List ℕ} (e : EdgeAnswer) (w : Waypoint) (p : Feet) (l : Label) (flat : Bool) → To w ≡ e → p ≡ feetOf (w .feet) → l ≡ labelOf w → flat ≡ levelTo (at .point) (w .feet)
+      → Ready a f (aim .budget) 1 (c .counts) → at .number < c .counts .retained → VisitedIf aim (at .number) (at .node) (c .counts) p l r a f b g
+      → Went aim at (ahead e []) c (record { counts = r; level = c .level || flat }) a f b g
+  unfolding level
+  went-to {c} {r} {a} {f} {b} {g} e w p l flat i j k m h n v = subst (λ (x : EdgeAnswer). Went aim at (ahead x []) c (record { counts = r; level = c .level || flat }) a f b g) i
+      (record { steps = stepped-one w (subst (λ (x : Feet). Visited aim (at .number) (at .node) (c .counts) x (labelOf w) r a f b g) j
+                  (subst (λ (x : Label). Visited aim (at .number) (at .node) (c .counts) p x r a f b g) k (v .done (is-ready a f (aim .budget) (at .number) (c .counts) h n))));
+                noted = ap (λ (x : Bool). c .level || x) (m ∙ or-none (levelTo (at .point) (w .feet))) })
+
+-- ---- a loop over steps: those gone, and those left
+
+pub record Along (R : List Waypoint → Type 0) (whole rest : List Waypoint) : Type 0 where
+  pub gone : List Waypoint
+  pub split : whole ≡ gone ++ rest
+  pub went : R gone
+
+module _ {R : List Waypoint → Type 0} {whole rest : List Waypoint} where
+  pub along-none : whole ≡ rest → R [] → Along R whole rest
+  along-none e h = record { gone = []; split = e; went = h }
+
+  pub along-on : {S : List Waypoint → Type 0} {left : List Waypoint} (ws : List Waypoint) → Along R whole rest → rest ≡ ws ++ left → ((vs : List Waypoint) → R vs → S (vs ++ ws)) → Along S whole left
+  along-on {left = left} ws u e h = record { gone = u .gone ++ ws; split = u .split ∙ ap (λ (l : List Waypoint). u .gone ++ l) e ∙ sym (append-assoc (u .gone) ws left); went = h (u .gone) (u .went) }
+
+  pub along-end : Along R whole rest → rest ≡ [] → R whole
+  along-end u e = subst R (sym (u .split ∙ ap (λ (l : List Waypoint). u .gone ++ l) e ∙ append-nil (u .gone))) (u .went)
+
+  pub along-short : (u : Along R whole rest) → length (u .gone) + length rest ≤ length whole
+  along-short u = omega (arith, ap length (u .split), length-append (u .gone) rest)
+
+-- ---- a column
+
+ahead-split : (x : EdgeAnswer) (ws : List Waypoint) → ahead x ws ≡ ahead x [] ++ ws
+ahead-split Nowhere ws = refl
+ahead-split (To w) ws = refl
+
+module _ (sp : Space) (r : Request) (body : Body) (from : Point) (n : ℕ) where
+  pub column-starts : columnSteps sp r body from n ≡ stepsAfter sp r body from n None
+  unfolding columnSteps heights keptAfter stepsAfter
+  column-starts = refl
+
+  -- how many heights are left
+  unfoldable pub left : Height → ℕ
+  left after = length (keptAfter after (sorted (tops sp (bandOf r body from) (centreOf from n .x) (centreOf from n .z))))
+
+  -- what the code asked for and what it was told: the next height after one
+  module _ {band : Band} {centre : Centre} {next : Height} (after : Height) (p : band ≡ bandOf r body from) (q : centre ≡ centreOf from n) (e : next ≡ nextAfter sp band (centre .x) (centre .z) after) where
+    told : (h : Height) → next ≡ h → nextAfter sp (bandOf r body from) (centreOf from n .x) (centreOf from n .z) after ≡ h
+    told h i = rw (← p, ← q) (sym e ∙ i)
+
+    pub ends : next ≡ None → stepsAfter sp r body from n after ≡ []
+    ends i = column-ends sp r body from n after (told None i)
+
+    pub goes-on : (y : Float) → next ≡ At y → stepsAfter sp r body from n after ≡ ahead (edge sp r body from (target centre y)) [] ++ stepsAfter sp r body from n (At y)
+    goes-on y i = rw q (column-on sp r body from n after y (told (At y) i) ∙ ahead-split (edge sp r body from (target (centreOf from n) y)) (stepsAfter sp r body from n (At y)))
+
+    pub fewer : (y : Float) → next ≡ At y → left (At y) < left after
+    unfolding left nextAfter
+    fewer y i = omega (arith, ap length (kept-next _ (numbers (bandOf r body from) (centreOf from n .x) (centreOf from n .z) sp) after y (told (At y) i)))
+
+  pub looked-column : (s : Sides) → s ≡ sidesBefore sp r body from n → lookedBy s n ≡ true → columnIf sp r body from n ≡ columnSteps sp r body from n
+  unfolding columnIf
+  looked-column s b e = rw (sym (looked-before sp r body from n) ∙ ap (λ (x : Sides). lookedBy x n) (sym b) ∙ e)
+
+-- ---- a column that is looked at, and one that is not
+
+module _ {aim : Aim} {at : Place} {sp : Space} {r : Request} {body : Body} {c : Around} {a f : List ℕ} (n : ℕ) (before : c .sides ≡ sidesBefore sp r body (at .point) n) where
+  pub looked-not : lookedBy (c .sides) n ≡ false → c .counts .retained ≤ aim .budget → Looked aim at sp r body n c c a f a f
+  looked-not e h = let i = rw before at e in record {
+    steps = rw (skipped sp r body (at .point) n i) (stepped-none a f h);
+    answered = before ∙ sym (sides-skipped sp r body (at .point) n i) }
+
+  pub looked-on : {b g : List ℕ} (gone : Column) (s : Sides) → lookedBy (c .sides) n ≡ true → s ≡ answeredBy (c .sides) n (gone .level)
+      → Went aim at (columnSteps sp r body (at .point) n) (record { counts = c .counts; level = false }) gone a f b g → Looked aim at sp r body n c (record { counts = gone .counts; sides = s }) a f b g
+  looked-on gone s e i w = let z = looked-column sp r body (at .point) n (c .sides) before e in record {
+    steps = rw z (w .steps);
+    answered = i ∙ ap (λ (x : Sides). answeredBy x n (gone .level)) before ∙ ap (answeredBy (sidesBefore sp r body (at .point) n) n) (w .noted ∙ ap (level (at .point)) (sym z)) ∙ sym (sides-on sp r body (at .point) n) }

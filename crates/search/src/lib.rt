@@ -1,0 +1,28 @@
+// The search (01, "Search"): one expansion of a node on the rooms, as the theory's run of 01's graph under 01's policy.
+//
+// `columns` goes through the columns around the node's point, in 01's order, and visits the steps of each, upwards.
+pub(crate) mod columns;
+
+use rooms::Counts;
+use rooms::NodeRecord;
+use steps::Sides;
+use world::Point;
+
+// The node that is expanded: its number, its record, and the point that its feet are read as.
+pub struct Place {
+    pub number: usize,
+    pub node: NodeRecord,
+    pub point: Point,
+}
+
+// What a column has come to: the counts, and whether an edge so far does not climb.
+pub struct Column {
+    pub counts: Counts,
+    pub level: bool,
+}
+
+// What the columns so far have come to: the counts, and the side answers.
+pub struct Around {
+    pub counts: Counts,
+    pub sides: Sides,
+}
