@@ -81,11 +81,13 @@ grown b d h k z = record {
   min = record {
     x = with-zero (b .min .x) (smaller (d .x) nought) (h .x) (smaller-zero (d .x) (z .x));
     y = with-zero (b .min .y) (smaller (d .y) nought) (h .y) (smaller-zero (d .y) (z .y));
-    z = with-zero (b .min .z) (smaller (d .z) nought) (h .z) (smaller-zero (d .z) (z .z)) };
+    z = with-zero (b .min .z) (smaller (d .z) nought) (h .z) (smaller-zero (d .z) (z .z));
+  };
   max = record {
     x = with-zero (b .max .x) (larger (d .x) nought) (k .x) (larger-zero (d .x) (z .x));
     y = with-zero (b .max .y) (larger (d .y) nought) (k .y) (larger-zero (d .y) (z .y));
-    z = with-zero (b .max .z) (larger (d .z) nought) (k .z) (larger-zero (d .z) (z .z)) };
+    z = with-zero (b .max .z) (larger (d .z) nought) (k .z) (larger-zero (d .z) (z .z));
+  };
 }
 
 -- the area swept from a point by no difference
@@ -110,9 +112,12 @@ module _ (a b : Aabb) (h : AlikeBox a b) where
   meets-alike : (v : Aabb) → meets v a ≡ meets v b
   unfolding meets
   meets-alike v = cc (
-    lt-alike (v .min .x) (a .max .x) (v .min .x) (b .max .x) refl (h .max .x), lt-alike (a .min .x) (v .max .x) (b .min .x) (v .max .x) (h .min .x) refl,
-    lt-alike (v .min .y) (a .max .y) (v .min .y) (b .max .y) refl (h .max .y), lt-alike (a .min .y) (v .max .y) (b .min .y) (v .max .y) (h .min .y) refl,
-    lt-alike (v .min .z) (a .max .z) (v .min .z) (b .max .z) refl (h .max .z), lt-alike (a .min .z) (v .max .z) (b .min .z) (v .max .z) (h .min .z) refl,
+    lt-alike (v .min .x) (a .max .x) (v .min .x) (b .max .x) refl (h .max .x),
+    lt-alike (a .min .x) (v .max .x) (b .min .x) (v .max .x) (h .min .x) refl,
+    lt-alike (v .min .y) (a .max .y) (v .min .y) (b .max .y) refl (h .max .y),
+    lt-alike (a .min .y) (v .max .y) (b .min .y) (v .max .y) (h .min .y) refl,
+    lt-alike (v .min .z) (a .max .z) (v .min .z) (b .max .z) refl (h .max .z),
+    lt-alike (a .min .z) (v .max .z) (b .min .z) (v .max .z) (h .min .z) refl,
   )
 
   hits-alike : (bs : List Aabb) → hits a bs ≡ hits b bs
@@ -141,9 +146,12 @@ module _ (a b : Aabb) (h : AlikeBox a b) where
     unfolding clear
     clear-alike =
         rw (
-          floor-alike (a .min .y) (b .min .y) (h .min .y), ceil-alike (a .max .y) (b .max .y) (h .max .y),
-          floor-alike (a .min .x) (b .min .x) (h .min .x), ceil-alike (a .max .x) (b .max .x) (h .max .x),
-          floor-alike (a .min .z) (b .min .z) (h .min .z), ceil-alike (a .max .z) (b .max .z) (h .max .z),
+          floor-alike (a .min .y) (b .min .y) (h .min .y),
+          ceil-alike (a .max .y) (b .max .y) (h .max .y),
+          floor-alike (a .min .x) (b .min .x) (h .min .x),
+          ceil-alike (a .max .x) (b .max .x) (h .max .x),
+          floor-alike (a .min .z) (b .min .z) (h .min .z),
+          ceil-alike (a .max .z) (b .max .z) (h .max .z),
         ) (all-alike _ _ _)
 
 -- ---- supported
@@ -154,8 +162,10 @@ module _ (f g : Aabb) (h : AlikeBox f g) where
   counts-alike b = cc (
     le-alike (sub binary64 (f .min .y) E) (b .max .y) (sub binary64 (g .min .y) E) (b .max .y) (sub-alike (f .min .y) E (g .min .y) E (h .min .y) refl) refl,
     le-alike (b .max .y) (add binary64 (f .max .y) E) (b .max .y) (add binary64 (g .max .y) E) refl (add-alike (f .max .y) E (g .max .y) E (h .max .y) refl),
-    lt-alike (b .min .x) (f .max .x) (b .min .x) (g .max .x) refl (h .max .x), lt-alike (f .min .x) (b .max .x) (g .min .x) (b .max .x) (h .min .x) refl,
-    lt-alike (b .min .z) (f .max .z) (b .min .z) (g .max .z) refl (h .max .z), lt-alike (f .min .z) (b .max .z) (g .min .z) (b .max .z) (h .min .z) refl,
+    lt-alike (b .min .x) (f .max .x) (b .min .x) (g .max .x) refl (h .max .x),
+    lt-alike (f .min .x) (b .max .x) (g .min .x) (b .max .x) (h .min .x) refl,
+    lt-alike (b .min .z) (f .max .z) (b .min .z) (g .max .z) refl (h .max .z),
+    lt-alike (f .min .z) (b .max .z) (g .min .z) (b .max .z) (h .min .z) refl,
   )
 
   counting-alike : (ss : List Shape) → counting f ss ≡ counting g ss
@@ -167,9 +177,12 @@ module _ (f g : Aabb) (h : AlikeBox f g) where
   unfolding shapesUnder
   shapes-alike sp =
       rw (
-        floor-alike (f .min .y) (g .min .y) (h .min .y), floor-alike (f .max .y) (g .max .y) (h .max .y),
-        floor-alike (f .min .x) (g .min .x) (h .min .x), ceil-alike (f .max .x) (g .max .x) (h .max .x),
-        floor-alike (f .min .z) (g .min .z) (h .min .z), ceil-alike (f .max .z) (g .max .z) (h .max .z),
+        floor-alike (f .min .y) (g .min .y) (h .min .y),
+        floor-alike (f .max .y) (g .max .y) (h .max .y),
+        floor-alike (f .min .x) (g .min .x) (h .min .x),
+        ceil-alike (f .max .x) (g .max .x) (h .max .x),
+        floor-alike (f .min .z) (g .min .z) (h .min .z),
+        ceil-alike (f .max .z) (g .max .z) (h .max .z),
       )
 
 zero-equal : (d : Float) → Zero d → eq d nought ≡ true
@@ -220,11 +233,13 @@ module _ (p q : Point) (h : AlikePoint p q) (n : FinitePoint q) where
     min = record {
       x = sub-alike (smaller (p .x) (q .x)) _ (smaller (q .x) (q .x)) _ (smaller-alike (p .x) (q .x) (q .x) (q .x) (h .x) refl) refl;
       y = smaller-alike (p .y) (q .y) (q .y) (q .y) (h .y) refl;
-      z = sub-alike (smaller (p .z) (q .z)) _ (smaller (q .z) (q .z)) _ (smaller-alike (p .z) (q .z) (q .z) (q .z) (h .z) refl) refl };
+      z = sub-alike (smaller (p .z) (q .z)) _ (smaller (q .z) (q .z)) _ (smaller-alike (p .z) (q .z) (q .z) (q .z) (h .z) refl) refl;
+    };
     max = record {
       x = add-alike (larger (p .x) (q .x)) _ (larger (q .x) (q .x)) _ (larger-alike (p .x) (q .x) (q .x) (q .x) (h .x) refl) refl;
       y = larger-alike (p .y) (q .y) (q .y) (q .y) (h .y) refl;
-      z = add-alike (larger (p .z) (q .z)) _ (larger (q .z) (q .z)) _ (larger-alike (p .z) (q .z) (q .z) (q .z) (h .z) refl) refl };
+      z = add-alike (larger (p .z) (q .z)) _ (larger (q .z) (q .z)) _ (larger-alike (p .z) (q .z) (q .z) (q .z) (h .z) refl) refl;
+    };
   }
 
   pub supported-alike : (sp : Space) (width : Float) → supported sp width p q ≡ supported sp width q q

@@ -22,7 +22,7 @@ use Rattle.clear.specs.Clear.{clear}
 use Rattle.support.specs.Support.{supported}
 use Rattle.edges.specs.declared.answer.Movement.the-variants.{Walk}
 use Rattle.edges.specs.declared.answer.EdgeAnswer.the-variants.{To}
-use Rattle.edges.specs.Edges.{inRange, standable, moving, raised, across, up, swept, wayClear, passable, edge, near, nearGoal, connector}
+use Rattle.edges.specs.Edges.{inRange, standable, moving, raised, across, up, swept, wayClear, passable, edge, near, connector}
 use Rattle.rooms.specs.declared.Feet.{Feet}
 use Rattle.rooms.specs.Waypoints.{canonicalWord, sameWord, samePoint}
 use Rattle.steps.specs.Words.{coordinate, pointOf, feetOf, labelOf, standing, graph}
@@ -98,7 +98,8 @@ module _ (sp : Space) (r : Request) (body : Body) (from to : Point) (h : AlikePo
       apart = unfold minus in record {
         x = no-difference (to .x) (from .x) (sym (h .x)) (n .x);
         y = no-difference level level refl (finite-alike level (to .y) level-alike ∙ n .y);
-        z = no-difference (to .z) (from .z) (sym (h .z)) (n .z) }
+        z = no-difference (to .z) (from .z) (sym (h .z)) (n .z);
+      }
 
   settled : clear sp (swept body (across from nought to) (minus to (across from nought to))) ≡ there
   settled = area (across from nought to) (minus to (across from nought to)) across-alike (record { x = l .x; y = add-fits binary64 (from .y) nought; z = l .z }) (apart)
@@ -107,7 +108,8 @@ module _ (sp : Space) (r : Request) (body : Body) (from to : Point) (h : AlikePo
       apart = unfold minus in record {
         x = no-difference (to .x) (to .x) refl (n .x);
         y = no-difference (to .y) level (sym level-alike) (n .y);
-        z = no-difference (to .z) (to .z) refl (n .z) }
+        z = no-difference (to .z) (to .z) refl (n .z);
+      }
 
   passes : inRange r to ≡ true → standable sp body to ≡ true → passable sp r body from to nought ≡ true
   unfolding passable wayClear standable

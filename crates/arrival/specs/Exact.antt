@@ -42,10 +42,11 @@ digits-and-range s m e h =
     let b = ltb (suc m) (2 ^ prec binary64) in
     let c = leb (down e) (2 ^ low binary64) in
     let d = ltb (suc m * up e) (2 ^ suc (emax binary64) * down e) in
-    let abc = and-l (a && b && c) d h in
-    (ltb→lt (suc m) (2 ^ prec binary64) (and-r a b (and-l (a && b) c abc)),
+    let abc = and-l (a && b && c) d h in (
+      ltb→lt (suc m) (2 ^ prec binary64) (and-r a b (and-l (a && b) c abc)),
       leb→le (down e) (2 ^ low binary64) (and-r (a && b) c abc),
-      ltb→lt (suc m * up e) (2 ^ suc (emax binary64) * down e) (and-r (a && b && c) d h))
+      ltb→lt (suc m * up e) (2 ^ suc (emax binary64) * down e) (and-r (a && b && c) d h),
+    )
 
 -- the size of an f64 is a whole number of the smallest ones
 exact : (s : Bool) (m : ℕ) (e : ℤ) → T (fits binary64 (fin s (suc m) e)) → HasValue (round binary64 s (suc m * up e) (down e)) s (suc m * up e) (down e)
