@@ -1,0 +1,18 @@
+-- `walk_back::listed::is_start` meets its contract. Assumes nothing.
+use borrow.Author.Needs.{needs}
+use Rattle.steps.specs.Words.{alike}
+use Rattle.walk_back.proofs.listed.is_start.Statement.{statement}
+use Rattle.walk_back.proofs.listed.is_start.Tie as tie
+
+same-feet-requires : tie.Need-same-feet-requires
+same-feet-requires c κs = search needs
+
+same-word-requires : tie.Need-same-word-requires
+same-word-requires c κs = search needs
+
+returns : tie.Need-returns
+unfolding alike
+returns c = cc
+
+pub is-start-spec : {M : Type 1} → statement M
+is-start-spec = tie.close (tie.spec same-feet-requires same-word-requires returns)

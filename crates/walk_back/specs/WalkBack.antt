@@ -1,0 +1,56 @@
+-- The walk-back's answer (01, Modules 5, and The graph, "Route"). Definitions only.
+use Prim.Native.Nat.{ℕ, _%_}
+use mathlib.Core.Path.{_≡_}
+use mathlib.Core.Bool.{Bool, true, not, _&&_, cond}
+use mathlib.Core.List.{List}
+use lib.Dec.{eqb}
+use lib.ListN.{length}
+use Rattle.exploration.specs.Graph.{Route}
+use Rattle.exploration.specs.WalkBack.{isRoute}
+use Rattle.world.specs.declared.Body.{Body}
+use Rattle.world.specs.declared.Request.{Request}
+use Rattle.world.specs.declared.Window.{Window}
+use Rattle.world.specs.Space.{Space, space}
+use Rattle.tables.specs.BadWorld.{badWorld}
+use Rattle.request.specs.Request.{validRequest, sizesTooLarge}
+use Rattle.edges.specs.Edges.{inRange, standable}
+use Rattle.steps.specs.Words.{graph}
+use Rattle.walk_back.specs.declared.Walked.{Walked}
+use Rattle.walk_back.specs.declared.Walked.the-variants.{Yes, No, BadWorld, TooLarge}
+use Rattle.walk_back.specs.Listed.{waypoints}
+
+-- 01's numbers, and two of our own for yes and no
+abbrev pub walkedNumber : Walked → ℕ
+walkedNumber BadWorld = 3
+walkedNumber TooLarge = 4
+walkedNumber Yes = 10
+walkedNumber No = 11
+
+module _ (sp : Space) (r : Request) (body : Body) where
+  -- "goal in range; both ends standable"
+  unfoldable pub endsGood : Bool
+  endsGood = inRange r (r .goal) && standable sp body (r .start) && standable sp body (r .goal)
+
+  -- The test of a list: no partial record, good ends, and from the start by graph steps to the goal, the last pair allowed to be a connector. An empty list
+  -- fails it, and so does a movement above 3, for no edge has one.
+  unfoldable pub isRouteList : List ℕ → Bool
+  isRouteList list = eqb (length list % 40) 0 && endsGood && isRoute (graph sp r body) (waypoints list)
+
+  -- "Route: valid request; goal in range; both ends standable; points compared by that rule, the start first (Walk, lift 0); each pair a graph step with its
+  -- edge's movement and lift, the last pair allowed to be a connector; the last point equal to the goal": a list of whole records that is one. No search
+  -- and no test is mentioned here.
+  pub record RouteList (list : List ℕ) : Type 0 where
+    pub valid : validRequest r body ≡ true
+    pub goal-in-range : inRange r (r .goal) ≡ true
+    pub start-standable : standable sp body (r .start) ≡ true
+    pub goal-standable : standable sp body (r .goal) ≡ true
+    pub whole : length list % 40 ≡ 0
+    pub way : Route (graph sp r body) (waypoints list)
+
+-- "3; `valid_request` (else no); 4, the budget not read; then yes exactly for a list that is a route."
+unfoldable pub walked : Window → List ℕ → List ℕ → List ℕ → List ℕ → Request → Body → List ℕ → Walked
+walked w cells perms shapes boxes r body list =
+    cond (badWorld w cells shapes boxes) BadWorld
+    (cond (not (validRequest r body)) No
+    (cond (sizesTooLarge r body) TooLarge
+    (cond (isRouteList (space w cells perms shapes boxes) r body list) Yes No)))

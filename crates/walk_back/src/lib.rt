@@ -1,0 +1,137 @@
+// The walk-back (01, Modules 5): whether a list of waypoint records is a route. It searches nothing and reads no rooms.
+//
+// `listed` has the records of the list and how they compare, `pairs` whether one pair is a graph step or a connector, and here the list is gone through once.
+pub mod listed;
+mod pairs;
+
+ghost use mathlib.Core.Path.{_≡_};
+ghost use Prim.Native.Nat.{_≤_, _-_, _/_};
+ghost use lib.ListN.{length};
+ghost use Rattle.world.specs.Space.{space};
+ghost use Rattle.exploration.specs.WalkBack.{isWay};
+ghost use Rattle.steps.specs.Words.{graph};
+ghost use Rattle.walk_back.specs.Listed.{listedAt, feet, entriesFrom};
+ghost use Rattle.walk_back.specs.WalkBack.{endsGood, isRouteList, walked};
+pub use listed::Listed;
+use world::Body;
+use world::Request;
+use world::Window;
+
+// What a walk-back answers: the list is a route, it is none, or a refusal of 01.
+pub enum Walked {
+    Yes,
+    No,
+    BadWorld,
+    TooLarge,
+}
+
+// Whether the goal is in range and both ends are standable.
+fn ends_good(
+    w: Window,
+    cells: &[u8],
+    perms: &[u8],
+    shapes: &[u8],
+    boxes: &[u8],
+    r: Request,
+    body: Body,
+) -> bool
+    ensures { λ a. ⌜ a ≡ endsGood (space w (now (cells .entry)) (now (perms .entry)) (now (shapes .entry)) (now (boxes .entry))) r body ⌝ }
+{
+    let start = r.start;
+    let goal = r.goal;
+    if !edges::in_range(r, goal) {
+        return false;
+    }
+    if !edges::standable(w, cells, perms, shapes, boxes, body, start) {
+        return false;
+    }
+    edges::standable(w, cells, perms, shapes, boxes, body, goal)
+}
+
+// Whether the records behind the first lead from it to the goal.
+fn leads(
+    w: Window,
+    cells: &[u8],
+    perms: &[u8],
+    shapes: &[u8],
+    boxes: &[u8],
+    r: Request,
+    body: Body,
+    list: &[u8],
+) -> bool
+    ensures { λ a. ⌜ a ≡ isWay (graph (space w (now (cells .entry)) (now (perms .entry)) (now (shapes .entry)) (now (boxes .entry))) r body) (feet (listedAt (now (list .entry)) 0)) (entriesFrom (now (list .entry)) 1 (length (now (list .entry)) / 40 - 1)) ⌝ }
+{
+    let n = list.len() / 40;
+    let mut last = listed::listed_at(list, 0);
+    let mut k: usize = 1;
+    while k < n {
+        let next = k + 1;
+        let from = listed::point_at(last);
+        let v = listed::listed_at(list, k);
+        if !pairs::has_step(w, cells, perms, shapes, boxes, r, body, from, v) {
+            if next < n {
+                return false;
+            }
+            return pairs::connects(w, cells, perms, shapes, boxes, r, body, from, v);
+        }
+        last = v;
+        k = next;
+    }
+    listed::is_goal(r.goal, last)
+}
+
+// Whether a list is a route, for a valid request.
+fn is_route(
+    w: Window,
+    cells: &[u8],
+    perms: &[u8],
+    shapes: &[u8],
+    boxes: &[u8],
+    r: Request,
+    body: Body,
+    list: &[u8],
+) -> bool
+    ensures { λ a. ⌜ a ≡ isRouteList (space w (now (cells .entry)) (now (perms .entry)) (now (shapes .entry)) (now (boxes .entry))) r body (now (list .entry)) ⌝ }
+{
+    if list.len() % 40 != 0 {
+        return false;
+    }
+    if list.len() == 0 {
+        return false;
+    }
+    if !listed::is_start(r.start, listed::listed_at(list, 0)) {
+        return false;
+    }
+    if !ends_good(w, cells, perms, shapes, boxes, r, body) {
+        return false;
+    }
+    leads(w, cells, perms, shapes, boxes, r, body, list)
+}
+
+// Whether a list is a route: 3, an invalid request (no), 4 without the budget, then yes or no.
+pub fn walk_back(
+    w: Window,
+    cells: &[u8],
+    perms: &[u8],
+    shapes: &[u8],
+    boxes: &[u8],
+    r: Request,
+    body: Body,
+    list: &[u8],
+) -> Walked
+    ensures { λ a. ⌜ a ≡ walked w (now (cells .entry)) (now (perms .entry)) (now (shapes .entry)) (now (boxes .entry)) r body (now (list .entry)) ⌝ }
+{
+    if tables::bad_world(w, cells, shapes, boxes) {
+        return Walked::BadWorld;
+    }
+    if !request::valid_request(r, body) {
+        return Walked::No;
+    }
+    if request::sizes_too_large(r, body) {
+        return Walked::TooLarge;
+    }
+    if is_route(w, cells, perms, shapes, boxes, r, body, list) {
+        return Walked::Yes;
+    }
+    Walked::No
+}

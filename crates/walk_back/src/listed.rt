@@ -1,0 +1,103 @@
+// The records of the list that is walked back, and how they compare with the start, an edge and the goal (01, The graph, "Same point").
+ghost use mathlib.Core.Path.{_≡_};
+ghost use mathlib.Core.Bool.{_&&_};
+ghost use Prim.Native.Nat.{_*_, _≤_};
+ghost use lib.ListN.{length};
+ghost use Rattle.steps.specs.Words.{canonicalWord, sameWord, samePoint, alike, pointOf, feetOf, labelOf, standing};
+ghost use Rattle.walk_back.specs.Listed.{listedAt, feet, label};
+ghost use Rattle.walk_back.specs.Laws.{leadsTo};
+use edges::Waypoint;
+use world::Point;
+
+// A waypoint record as its words: the patterns of the feet and of the lift, and the movement's number.
+pub struct Listed {
+    pub x: u64,
+    pub y: u64,
+    pub z: u64,
+    pub lift: u64,
+    pub movement: u64,
+}
+
+// Record k.
+pub(crate) fn listed_at(list: &[u8], k: usize) -> Listed
+    requires { ⌜ 40 * k ≤ length (now list) ⌝ }
+    ensures { λ v. ⌜ v ≡ listedAt (now (list .entry)) k ⌝ }
+{
+    let at = 40 * k;
+    let x = fields::u64_at(list, at);
+    let y = fields::u64_at(list, at + 8);
+    let z = fields::u64_at(list, at + 16);
+    let lift = fields::u64_at(list, at + 24);
+    let movement = fields::u64_at(list, at + 32);
+    Listed {
+        x,
+        y,
+        z,
+        lift,
+        movement,
+    }
+}
+
+// The point of a record.
+pub(crate) fn point_at(v: Listed) -> Point
+    ensures { λ p. ⌜ p ≡ pointOf (feet v) ⌝ }
+{
+    steps::point_of(v.x, v.y, v.z)
+}
+
+// -0.0's pattern as 0.0's, and any other as it is.
+fn canonical_word(n: u64) -> u64
+    ensures { λ r. ⌜ r ≡ canonicalWord n ⌝ }
+{
+    if n == 0x8000_0000_0000_0000 { 0 } else { n }
+}
+
+fn same_word(a: u64, b: u64) -> bool
+    ensures { λ r. ⌜ r ≡ sameWord a b ⌝ }
+{
+    canonical_word(a) == canonical_word(b)
+}
+
+// Whether a point is a record's.
+fn same_feet(p: Point, v: Listed) -> bool
+    ensures { λ r. ⌜ r ≡ samePoint (feetOf p) (feet v) ⌝ }
+{
+    let x = floats::bits_of(p.x);
+    let y = floats::bits_of(p.y);
+    let z = floats::bits_of(p.z);
+    same_word(x, v.x) & same_word(y, v.y) & same_word(z, v.z)
+}
+
+// Whether an edge leads to a record: its point, its movement and its lift.
+pub(crate) fn leads_to(v: Listed, step: Waypoint) -> bool
+    ensures { λ r. ⌜ r ≡ leadsTo v step ⌝ }
+{
+    same_feet(step.feet, v) & same_label(step, v)
+}
+
+// Whether an edge has a record's movement and lift.
+pub(crate) fn same_label(step: Waypoint, v: Listed) -> bool
+    ensures { λ r. ⌜ r ≡ alike (labelOf step) (label v) ⌝ }
+{
+    let kind = step.movement;
+    let movement = steps::movement_number(kind);
+    let lift = floats::bits_of(step.lift);
+    (movement == v.movement) & same_word(lift, v.lift)
+}
+
+// Whether a record is the start's: its point, Walk, and lift 0.
+pub(crate) fn is_start(start: Point, v: Listed) -> bool
+    ensures { λ r. ⌜ r ≡ (samePoint (feetOf start) (feet v) && alike standing (label v)) ⌝ }
+{
+    same_feet(start, v) & ((0 == v.movement) & same_word(0, v.lift))
+}
+
+// Whether a record is at the goal.
+pub(crate) fn is_goal(goal: Point, v: Listed) -> bool
+    ensures { λ r. ⌜ r ≡ samePoint (feet v) (feetOf goal) ⌝ }
+{
+    let x = floats::bits_of(goal.x);
+    let y = floats::bits_of(goal.y);
+    let z = floats::bits_of(goal.z);
+    same_word(v.x, x) & same_word(v.y, y) & same_word(v.z, z)
+}
