@@ -18,4 +18,5 @@ pub use sides::Sides;
 pub use sides::is_level;
 pub use words::feet_of;
 pub use words::label_of;
+pub use words::movement_number;
 pub use words::point_of;

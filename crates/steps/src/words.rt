@@ -41,7 +41,7 @@ pub fn feet_of(p: Point) -> Feet
 }
 
 // 01's number of a movement.
-fn movement_number(m: Movement) -> u64
+pub fn movement_number(m: Movement) -> u64
     ensures { λ r. ⌜ r ≡ movementNumber m ⌝ }
 {
     match m {

@@ -30,7 +30,10 @@ use Rattle.steps.specs.declared.columns.Centre.{Centre}
 use Rattle.steps.specs.declared.sides.Sides.{Sides}
 use Rattle.steps.specs.Columns.{centreOf, bandOf, lookedBy, answeredBy, ahead, levelTo, level, columnIf, stepsFrom}
 use Rattle.steps.specs.Expansion.{columnsFrom, columns-on, columns-end, sidesBefore, sides-on, skipped, stepsAfter, column-begins, column-ends, column-on, noted-none, noted-on}
-use Rattle.steps.specs.Words.{Feet, Label, samePoint, alike, pointOf, feetOf, labelOf, stepOf, labelIf, standing, graph}
+use Rattle.rooms.specs.declared.Feet.{Feet}
+use Rattle.rooms.specs.declared.Label.{Label}
+use Rattle.rooms.specs.Waypoints.{samePoint, alike, standing}
+use Rattle.steps.specs.Words.{pointOf, feetOf, labelOf, stepOf, labelIf, graph}
 use Rattle.walk_back.specs.declared.listed.Listed.{Listed}
 use Rattle.walk_back.specs.declared.pairs.Looked.{Looked}
 use Rattle.walk_back.specs.declared.pairs.Looked.the-variants.{Met, Passed}

@@ -3,7 +3,8 @@ use Prim.Native.Nat.{ℕ, zero, suc, _+_, _*_, _/_}
 use mathlib.Core.List.{List, [], _∷_}
 use lib.ListN.{length}
 use Rattle.fields.specs.Little.{field}
-use Rattle.steps.specs.Words.{Feet, Label}
+use Rattle.rooms.specs.declared.Feet.{Feet}
+use Rattle.rooms.specs.declared.Label.{Label}
 use Rattle.walk_back.specs.declared.listed.Listed.{Listed}
 
 -- "feet x, y, z, lift, movement as u64": waypoint record k of a list
@@ -21,7 +22,7 @@ abbrev pub feet : Listed → Feet
 feet v = record { x = v .x; y = v .y; z = v .z }
 
 abbrev pub label : Listed → Label
-label v = record { movement = v .movement; lift = v .lift }
+label v = record { lift = v .lift; movement = v .movement }
 
 abbrev pub entry : Listed → Feet × Label
 entry v = (feet v, label v)

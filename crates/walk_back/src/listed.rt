@@ -3,10 +3,12 @@ ghost use mathlib.Core.Path.{_≡_};
 ghost use mathlib.Core.Bool.{_&&_};
 ghost use Prim.Native.Nat.{_*_, _≤_};
 ghost use lib.ListN.{length};
-ghost use Rattle.steps.specs.Words.{canonicalWord, sameWord, samePoint, alike, pointOf, feetOf, labelOf, standing};
+ghost use Rattle.rooms.specs.Waypoints.{canonicalWord, sameWord, samePoint, alike, standing};
+ghost use Rattle.steps.specs.Words.{pointOf, feetOf, labelOf};
 ghost use Rattle.walk_back.specs.Listed.{listedAt, feet, label};
 ghost use Rattle.walk_back.specs.Laws.{leadsTo};
 use edges::Waypoint;
+use rooms::Feet;
 use world::Point;
 
 // A waypoint record as its words: the patterns of the feet and of the lift, and the movement's number.
@@ -42,7 +44,7 @@ pub(crate) fn listed_at(list: &[u8], k: usize) -> Listed
 pub(crate) fn point_at(v: Listed) -> Point
     ensures { λ p. ⌜ p ≡ pointOf (feet v) ⌝ }
 {
-    steps::point_of(v.x, v.y, v.z)
+    steps::point_of(Feet { x: v.x, y: v.y, z: v.z })
 }
 
 // -0.0's pattern as 0.0's, and any other as it is.

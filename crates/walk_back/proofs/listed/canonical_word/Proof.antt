@@ -1,6 +1,6 @@
 -- `walk_back::listed::canonical_word` meets its contract. Assumes nothing.
 use borrow.Author.Tests.{eq-eqb, ne-eqb}
-use Rattle.steps.specs.Words.{canonicalWord}
+use Rattle.rooms.specs.Waypoints.{canonicalWord}
 use Rattle.walk_back.proofs.listed.canonical_word.Statement.{statement}
 use Rattle.walk_back.proofs.listed.canonical_word.Tie as tie
 

@@ -1,6 +1,6 @@
 -- `walk_back::listed::is_start` meets its contract. Assumes nothing.
 use borrow.Author.Needs.{needs}
-use Rattle.steps.specs.Words.{alike}
+use Rattle.rooms.specs.Waypoints.{alike}
 use Rattle.walk_back.proofs.listed.is_start.Statement.{statement}
 use Rattle.walk_back.proofs.listed.is_start.Tie as tie
 

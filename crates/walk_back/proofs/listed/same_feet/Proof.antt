@@ -1,6 +1,7 @@
 -- `walk_back::listed::same_feet` meets its contract. Assumes nothing.
 use borrow.Author.Needs.{needs}
-use Rattle.steps.specs.Words.{samePoint, feetOf}
+use Rattle.rooms.specs.Waypoints.{samePoint}
+use Rattle.steps.specs.Words.{feetOf}
 use Rattle.walk_back.proofs.listed.same_feet.Statement.{statement}
 use Rattle.walk_back.proofs.listed.same_feet.Tie as tie
 

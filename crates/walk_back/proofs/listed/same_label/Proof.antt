@@ -1,6 +1,7 @@
 -- `walk_back::listed::same_label` meets its contract. Assumes nothing.
 use borrow.Author.Needs.{needs}
-use Rattle.steps.specs.Words.{alike, labelOf}
+use Rattle.rooms.specs.Waypoints.{alike}
+use Rattle.steps.specs.Words.{labelOf}
 use Rattle.walk_back.proofs.listed.same_label.Statement.{statement}
 use Rattle.walk_back.proofs.listed.same_label.Tie as tie
 

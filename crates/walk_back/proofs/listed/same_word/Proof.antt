@@ -1,6 +1,6 @@
 -- `walk_back::listed::same_word` meets its contract. Assumes nothing.
 use borrow.Author.Needs.{needs}
-use Rattle.steps.specs.Words.{sameWord}
+use Rattle.rooms.specs.Waypoints.{sameWord}
 use Rattle.walk_back.proofs.listed.same_word.Statement.{statement}
 use Rattle.walk_back.proofs.listed.same_word.Tie as tie
 
