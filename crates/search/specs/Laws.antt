@@ -1,2 +1,3 @@
 -- Lemmas on the definitions, as the proofs of the code cite them.
 pub mod Steps
+pub mod Turns

@@ -1,3 +1,4 @@
--- The search. What a reader must believe: Steps. What is proved of it: Laws.
+-- The search. What a reader must believe: Steps, Turns. What is proved of them: Laws.
 pub mod Steps
+pub mod Turns
 pub mod Laws

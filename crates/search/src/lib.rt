@@ -1,9 +1,12 @@
 // The search (01, "Search"): one expansion of a node on the rooms, as the theory's run of 01's graph under 01's policy.
 //
-// `columns` goes through the columns around the node's point, in 01's order, and visits the steps of each, upwards.
+// `columns` goes through the columns around the node's point, in 01's order, and visits the steps of each, upwards. `turns` has the whole expansion: pick,
+// close, try the connector, then the columns.
 pub(crate) mod columns;
+pub(crate) mod turns;
 
 use rooms::Counts;
+use rooms::Label;
 use rooms::NodeRecord;
 use steps::Sides;
 use world::Point;
@@ -25,4 +28,12 @@ pub struct Column {
 pub struct Around {
     pub counts: Counts,
     pub sides: Sides,
+}
+
+// What one expansion comes to: nothing waits; the search goes on; the list ends at a node; or by a connector from there, with its label.
+pub enum Turn {
+    Rest(Counts),
+    Going(Counts),
+    At(Counts, usize),
+    By(Counts, usize, Label),
 }

@@ -1,0 +1,128 @@
+-- `search::turns::expand` meets its contract. Assumes nothing.
+use Prim.Native.Nat.{_≤_, _<_}
+use native.Mathlib.Omega.{arith}
+use mathlib.Core.Path.{_≡_, refl, sym, _∙_}
+use mathlib.Core.Bool.{true, false}
+use borrow.Author.Needs.{needs}
+use denote.Ref.{now}
+use Rattle.world.specs.Space.{space}
+use Rattle.edges.specs.declared.answer.EdgeAnswer.the-variants.{To, Nowhere}
+use Rattle.edges.specs.Edges.{connector}
+use Rattle.steps.specs.Words.{pointOf}
+use Rattle.rooms.specs.Waypoints.{samePoint}
+use Rattle.rooms.specs.Records.{nodeAt}
+use Rattle.rooms.specs.Scans.{nextOf}
+use Rattle.search.specs.Laws.Steps.{ready-after}
+use Rattle.search.specs.Laws.Turns.{is-closed, turned-rest, turned-at, turned-by, turned-going}
+use Rattle.search.proofs.turns.expand.Statement.{statement}
+use Rattle.search.proofs.turns.expand.Tie as tie
+
+pick-requires : tie.Need-pick-requires
+pick-requires c κs = search needs
+
+same-length : tie.Need-same-length
+same-length c = search needs
+
+returns : tie.Need-returns
+returns c =
+    let a = c .before .before .before .before .before .before .before .before .before .args in
+    let h : a .c .retained ≤ nextOf (a .c .retained) (now (a .front)) = rw (← (c .before .pick .ensures)) (c .if1 .taken) in
+    turned-rest (a .aim) (space (a .w) (now (a .cells)) (now (a .perms)) (now (a .shapes)) (now (a .boxes))) (a .r) (a .body) (a .c) (now (a .nodes)) (now (a .front)) (c .before .before .before .before .before .before .before .before .before .pre .0 .few) h
+
+close-requires : tie.Need-close-requires
+close-requires c κs = search needs
+
+same-point-requires : tie.Need-same-point-requires
+same-point-requires c κs = search needs
+
+same-length-2 : tie.Need-same-length-2
+same-length-2 c = search needs
+
+same-length-3 : tie.Need-same-length-3
+same-length-3 c = search needs
+
+returns-2 : tie.Need-returns-2
+returns-2 c =
+    let a = c .before .before .before .before .before .before .before .before .before .before .before .before .before .before .before .before .before .before .before .before .before .before .args in
+    let k = c .before .before .before .before .before .before .before .before .before .before .before .before .before .before .pick .result in
+    let shut = is-closed (c .before .before .before .before .before .before .before .before .before .before .before .before .before .before .before .before .before .before .before .before .before .before .pre .0) (c .before .before .before .before .before .before .before .before .before .before .before .before .before .if1 .left) (c .before .before .before .before .before .before .before .before .before .before .close .ensures) in
+    let i : samePoint (nodeAt (now (a .nodes)) k .feet) (a .aim .goal) ≡ true = rw (← (c .before .before .before .before .before .before .before .before .before .before .close .ensures .node)) (sym (c .before .same-point .ensures) ∙ c .if2 .taken) in
+    turned-at (a .aim) (space (a .w) (now (a .cells)) (now (a .perms)) (now (a .shapes)) (now (a .boxes))) (a .r) (a .body) (a .c) (now (a .nodes)) (now (a .front)) (c .before .before .before .before .before .before .before .before .before .before .before .before .before .before .before .before .before .before .before .before .before .before .pre .1 .0) k (c .before .before .before .before .before .before .before .before .before .before .before .before .before .before .pick .ensures) (c .before .before .before .before .before .before .before .before .before .before .before .before .before .if1 .left) shut i
+
+point-of-requires : tie.Need-point-of-requires
+point-of-requires c κs = search needs
+
+connector-requires : tie.Need-connector-requires
+connector-requires c κs = search needs
+
+enum-known-last : tie.Need-enum-known-last
+enum-known-last c = search needs
+
+label-of-requires : tie.Need-label-of-requires
+label-of-requires c κs = search needs
+
+enum-told : tie.Need-enum-told
+enum-told c = search needs
+
+columns-requires : tie.Need-columns-requires
+columns-requires c κs =
+    let shut = is-closed (c .before .before .before .before .before .before .before .before .before .before .before .before .before .before .before .before .before .before .before .before .before .before .before .before .before .before .before .before .pre .0) (c .before .before .before .before .before .before .before .before .before .before .before .before .before .before .before .before .before .before .before .if1 .left) (c .before .before .before .before .before .before .before .before .before .before .before .before .before .before .before .before .close .ensures) in
+    (ready-after (c .before .before .before .before .before .before .before .before .before .before .before .before .before .before .before .before .before .before .before .before .before .before .before .before .before .before .before .before .pre .0) (shut .near) (omega (arith, c .before .before .before .before .before .before .before .before .before .before .before .before .before .before .before .before .before .before .before .before .before .before .before .before .before .before .before .before .pre .1 .1 (c .before .before .before .before .before .point-of .result))) (omega (arith, c .before .before .before .before .before .before .before .before .before .before .before .before .before .before .before .before .close .kept)) (omega (arith, c .before .before .before .before .before .before .before .before .before .before .before .before .before .before .before .before .close .kept)), omega (arith, c .before .before .before .before .before .before .before .before .before .before .before .before .before .before .before .before .before .before .before .if1 .left, shut .near .more))
+
+same-length-4 : tie.Need-same-length-4
+same-length-4 c = search needs
+
+same-length-5 : tie.Need-same-length-5
+same-length-5 c = search needs
+
+returns-3 : tie.Need-returns-3
+returns-3 c =
+    let a = c .before .before .before .before .before .before .before .before .before .before .before .before .before .before .before .before .before .before .before .before .before .before .before .before .before .before .before .before .args in
+    let k = c .before .before .before .before .before .before .before .before .before .before .before .before .before .before .before .before .before .before .before .before .pick .result in
+    let n = c .before .before .before .before .before .before .before .before .before .before .before .before .before .before .before .before .close .ensures .node in
+    let shut = is-closed (c .before .before .before .before .before .before .before .before .before .before .before .before .before .before .before .before .before .before .before .before .before .before .before .before .before .before .before .before .pre .0) (c .before .before .before .before .before .before .before .before .before .before .before .before .before .before .before .before .before .before .before .if1 .left) (c .before .before .before .before .before .before .before .before .before .before .before .before .before .before .before .before .close .ensures) in
+    let i : samePoint (nodeAt (now (a .nodes)) k .feet) (a .aim .goal) ≡ false = rw (← n) (sym (c .before .before .before .before .before .before .before .same-point .ensures) ∙ c .before .before .before .before .before .before .if2 .left) in
+    let j : To (c .before .before .last .given .0 .0) ≡ connector (space (a .w) (now (a .cells)) (now (a .perms)) (now (a .shapes)) (now (a .boxes))) (a .r) (a .body) (pointOf (nodeAt (now (a .nodes)) k .feet)) = rw (← n, ← (c .before .before .before .before .before .point-of .ensures)) (sym (c .before .before .last .given .1) ∙ c .before .before .before .before .connector .ensures) in
+    turned-by (a .aim) (space (a .w) (now (a .cells)) (now (a .perms)) (now (a .shapes)) (now (a .boxes))) (a .r) (a .body) (a .c) (now (a .nodes)) (now (a .front)) (c .before .before .before .before .before .before .before .before .before .before .before .before .before .before .before .before .before .before .before .before .before .before .before .before .before .before .before .before .pre .1 .0) k (c .before .before .before .before .before .before .before .before .before .before .before .before .before .before .before .before .before .before .before .before .pick .ensures) (c .before .before .before .before .before .before .before .before .before .before .before .before .before .before .before .before .before .before .before .if1 .left) shut (c .label-of .result) (c .before .before .last .given .0 .0) i j (c .label-of .ensures)
+
+same-length-6 : tie.Need-same-length-6
+same-length-6 c = omega (arith, c .before .before .before .before .columns .kept, c .before .before .before .before .before .before .before .before .before .before .before .before .before .before .before .before .before .before .before .before .before .close .kept)
+
+same-length-7 : tie.Need-same-length-7
+same-length-7 c = omega (arith, c .before .before .before .before .columns .kept, c .before .before .before .before .before .before .before .before .before .before .before .before .before .before .before .before .before .before .before .before .before .close .kept)
+
+returns-4 : tie.Need-returns-4
+returns-4 c =
+    let a = c .before .before .before .before .before .before .before .before .before .before .before .before .before .before .before .before .before .before .before .before .before .before .before .before .before .before .before .before .before .before .before .before .before .args in
+    let k = c .before .before .before .before .before .before .before .before .before .before .before .before .before .before .before .before .before .before .before .before .before .before .before .before .before .pick .result in
+    let n = c .before .before .before .before .before .before .before .before .before .before .before .before .before .before .before .before .before .before .before .before .before .close .ensures .node in
+    let shut = is-closed (c .before .before .before .before .before .before .before .before .before .before .before .before .before .before .before .before .before .before .before .before .before .before .before .before .before .before .before .before .before .before .before .before .before .pre .0) (c .before .before .before .before .before .before .before .before .before .before .before .before .before .before .before .before .before .before .before .before .before .before .before .before .if1 .left) (c .before .before .before .before .before .before .before .before .before .before .before .before .before .before .before .before .before .before .before .before .before .close .ensures) in
+    let i : samePoint (nodeAt (now (a .nodes)) k .feet) (a .aim .goal) ≡ false = rw (← n) (sym (c .before .before .before .before .before .before .before .before .before .before .before .before .same-point .ensures) ∙ c .before .before .before .before .before .before .before .before .before .before .before .if2 .left) in
+    let j : Nowhere ≡ connector (space (a .w) (now (a .cells)) (now (a .perms)) (now (a .shapes)) (now (a .boxes))) (a .r) (a .body) (pointOf (nodeAt (now (a .nodes)) k .feet)) = rw (← n, ← (c .before .before .before .before .before .before .before .before .before .before .point-of .ensures)) (sym (c .before .before .before .before .before .before .before .enum-told .given .1) ∙ c .before .before .before .before .before .before .before .before .before .connector .ensures) in
+    let m : c .before .before .before .before .before .before .before .before .before .before .point-of .result ≡ pointOf (nodeAt (now (a .nodes)) k .feet) = rw (← n) (c .before .before .before .before .before .before .before .before .before .before .point-of .ensures) in
+    turned-going (a .aim) (space (a .w) (now (a .cells)) (now (a .perms)) (now (a .shapes)) (now (a .boxes))) (a .r) (a .body) (a .c) (now (a .nodes)) (now (a .front)) (c .before .before .before .before .before .before .before .before .before .before .before .before .before .before .before .before .before .before .before .before .before .before .before .before .before .before .before .before .before .before .before .before .before .pre .1 .0) k (c .before .before .before .before .before .before .before .before .before .before .before .before .before .before .before .before .before .before .before .before .before .before .before .before .before .pick .ensures) (c .before .before .before .before .before .before .before .before .before .before .before .before .before .before .before .before .before .before .before .before .before .before .before .before .if1 .left) shut (record { number = k; node = c .before .before .before .before .before .before .before .before .before .before .before .before .before .before .before .before .before .before .before .before .before .close .result .node; point = c .before .before .before .before .before .before .before .before .before .before .point-of .result }) (c .before .before .before .before .before .before .before .before .before .before .before .before .before .before .before .before .before .before .before .before .before .before .before .before .before .before .before .before .before .before .before .before .before .pre .1 .1) i j refl n m (c .before .before .before .before .columns .ensures)
+
+pub expand-spec : {M : Type 1} → statement M
+expand-spec =
+    tie.close
+    (tie.spec
+    pick-requires
+    same-length
+    returns
+    close-requires
+    same-point-requires
+    same-length-2
+    same-length-3
+    returns-2
+    point-of-requires
+    connector-requires
+    enum-known-last
+    label-of-requires
+    enum-told
+    columns-requires
+    same-length-4
+    same-length-5
+    returns-3
+    same-length-6
+    same-length-7
+    returns-4)
