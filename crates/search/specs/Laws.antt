@@ -1,3 +1,4 @@
 -- Lemmas on the definitions, as the proofs of the code cite them.
 pub mod Steps
 pub mod Turns
+pub mod Runs

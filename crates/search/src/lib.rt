@@ -1,8 +1,9 @@
 // The search (01, "Search"): one expansion of a node on the rooms, as the theory's run of 01's graph under 01's policy.
 //
 // `columns` goes through the columns around the node's point, in 01's order, and visits the steps of each, upwards. `turns` has the whole expansion: pick,
-// close, try the connector, then the columns.
+// close, try the connector, then the columns. `runs` has so many expansions.
 pub(crate) mod columns;
+pub(crate) mod runs;
 pub(crate) mod turns;
 
 use rooms::Counts;
