@@ -40,6 +40,8 @@ layerFree sp area y xs zs = each (λ x. rowFree sp area x y zs) xs
 unfoldable pub allFree : Space → Aabb → Range → Range → Range → Bool
 allFree sp area ys xs zs = each (λ y. layerFree sp area y xs zs) ys
 
+-- 01, The graph: "Clear: of the cells from floor(min) to ceil(max) - 1 on each axis, and one layer below, none has a box that intersects the area, and none whose
+-- voxel does lacks bit 1."
 unfoldable pub clear : Space → Aabb → Bool
 clear sp area =
     allFree sp area

@@ -29,6 +29,7 @@ movementNumber Drop = 3
 abbrev pub near : Float → Float → Float → Bool
 near most a b = le (absolute (sub binary64 a b)) most
 
+-- 01, The graph: "In range: each coordinate differs from the start's by at most max_range + E."
 unfoldable pub inRange : Request → Point → Bool
 inRange r p =
     let most = add binary64 (r .«max_range») E in
@@ -91,6 +92,7 @@ edgeBy sp r body from to None = Nowhere
 edgeBy sp r body from to (By movement lift) =
     cond (passable sp r body from to lift) (To (record { feet = to; lift = lift; movement = movement })) Nowhere
 
+-- 01, The graph, "Edge": the movement by dy, and then the checks
 unfoldable pub edge : Space → Request → Body → Point → Point → EdgeAnswer
 edge sp r body from to = edgeBy sp r body from to (moving r body (sub binary64 (to .y) (from .y)))
 
@@ -100,5 +102,6 @@ nearGoal r from =
     let most = ofBits binary64 0x3ff8_0000_0000_0000 in
     near most (from .x) (r .goal .x) && near most (from .z) (r .goal .z)
 
+-- 01, The graph: "Connector: an edge to the goal with both horizontal differences at most 1.5."
 unfoldable pub connector : Space → Request → Body → Point → EdgeAnswer
 connector sp r body from = cond (nearGoal r from) (edge sp r body from (r .goal)) Nowhere

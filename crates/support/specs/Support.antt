@@ -110,6 +110,8 @@ allSupport (s ∷ ss) = s .support && allSupport ss
 unfoldable pub carried : Aabb → Point → Point → List Shape → Bool
 carried f from to ss = allSupport (counting f ss) && covers (intervals from to (counting f ss))
 
+-- 01, The graph, "Supported segment": no shape that counts lacks bit 2, and the intervals cover the centre line (`covers` is true exactly where `Covers`, 01's
+-- sentence, holds: `covers-sound` and `covers-complete` of `Laws`)
 unfoldable pub supported : Space → Float → Point → Point → Bool
 supported sp width from to =
     let f = footprint width from to in

@@ -33,6 +33,7 @@ each f b = eachOf f (b .min) && eachOf f (b .max)
 unfoldable pub ordered : Aabb → Bool
 ordered b = le (b .min .x) (b .max .x) && le (b .min .y) (b .max .y) && le (b .min .z) (b .max .z)
 
+-- 01, Tables: "finite, min ≤ max, each from -16 to 16"
 unfoldable pub boxRule : Aabb → Bool
 boxRule b = each finite b && ordered b && each fromTo b
 
@@ -71,6 +72,8 @@ runPast shapes boxes i = ltb boxes (firstOf shapes i + countOf shapes i)
 abbrev pub offRule : List ℕ → ℕ → Bool
 offRule boxes i = not (boxRule (boxAt boxes (48 * i)))
 
+-- 01, number 3 BadWorld: "a size above 256, cell table not 8 bytes a cell, shape or box table not whole records, count above 16, first + count above the boxes,
+-- a box off its rule"
 unfoldable pub badWorld : Window → List ℕ → List ℕ → List ℕ → Bool
 badWorld w cells shapes boxes =
     sizeAbove w || not (eqb (length cells) (cellBytes w)) || notWhole 8 shapes || notWhole 48 boxes ||
