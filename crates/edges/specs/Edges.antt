@@ -25,7 +25,7 @@ movementNumber Step = 1
 movementNumber Jump = 2
 movementNumber Drop = 3
 
--- "In range: each coordinate differs from the start's by at most max_range + E."
+-- two numbers differ by at most so much
 abbrev pub near : Float → Float → Float → Bool
 near most a b = le (absolute (sub binary64 a b)) most
 
