@@ -1,11 +1,18 @@
 // The search (01, "Search"): one expansion of a node on the rooms, as the theory's run of 01's graph under 01's policy.
 //
 // `columns` goes through the columns around the node's point, in 01's order, and visits the steps of each, upwards. `turns` has the whole expansion: pick,
-// close, try the connector, then the columns. `runs` has so many expansions.
+// close, try the connector, then the columns. `runs` has so many expansions, `whole` a search from its start to its list, and `find` the public call with
+// its refusals; `answers` has what it answers.
+pub mod answers;
 pub(crate) mod columns;
+pub mod find;
 pub(crate) mod runs;
 pub(crate) mod turns;
+mod whole;
 
+pub use answers::Answer;
+pub use answers::Outcome;
+pub use find::find_walk_path;
 use rooms::Counts;
 use rooms::Label;
 use rooms::NodeRecord;

@@ -1,0 +1,31 @@
+// The ends of a search (01, "Numbers given back", Search order: "goal in range, start standable, goal standable"), as the search and the walk-back ask
+// for them.
+ghost use mathlib.Core.Path.{_≡_};
+ghost use Rattle.world.specs.Space.{space};
+ghost use Rattle.ends.specs.Ends.{endsGood};
+use world::Body;
+use world::Request;
+use world::Window;
+
+// Whether the goal is in range and both ends are standable.
+pub fn ends_good(
+    w: Window,
+    cells: &[u8],
+    perms: &[u8],
+    shapes: &[u8],
+    boxes: &[u8],
+    r: Request,
+    body: Body,
+) -> bool
+    ensures { λ a. ⌜ a ≡ endsGood (space w (now (cells .entry)) (now (perms .entry)) (now (shapes .entry)) (now (boxes .entry))) r body ⌝ }
+{
+    let start = r.start;
+    let goal = r.goal;
+    if !edges::in_range(r, goal) {
+        return false;
+    }
+    if !edges::standable(w, cells, perms, shapes, boxes, body, start) {
+        return false;
+    }
+    edges::standable(w, cells, perms, shapes, boxes, body, goal)
+}
