@@ -1,8 +1,9 @@
-// Points and boxes (01, "Boxes"): a box is two corners of three numbers each. One rounding per operation, in the source's order.
+// What is done with points and boxes (01, "Boxes"): a box is two corners of three numbers each. One rounding per operation, in the source's order.
+// The types and the definitions are `world`'s, whose space is made of boxes.
 ghost use mathlib.Core.Path.{_≡_};
 ghost use Rattle.world.specs.Boxes.{meets, corner, plus, minus, moved, cube, voxel, fromFeet, minZero, maxZero, expandTowards};
-use crate::Aabb;
-use crate::Point;
+use world::Aabb;
+use world::Point;
 
 // Whether two boxes share room, strictly on every axis.
 pub fn intersects(a: Aabb, b: Aabb) -> bool

@@ -8,7 +8,7 @@ use lib.ListN.{length}
 use lib.Ieee.{Float, binary64, add}
 use Rattle.floats.specs.Floats.{nought}
 use Rattle.world.specs.declared.Point.{Point}
-use Rattle.report.specs.Length.{apart, onward, through, feetAt, feetFrom, lengthOf}
+use Rattle.lengths.specs.Length.{apart, onward, through, feetAt, feetFrom, lengthOf}
 
 -- at the first record, whether there is one or not
 pub starts : (list : List ℕ) → lengthOf list ≡ onward nought (feetAt list 0) (feetFrom list 1 (length list / 40 - 1))

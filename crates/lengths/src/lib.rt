@@ -1,7 +1,7 @@
 // The length of a list of waypoint records: the sum of the straight distances between neighbours (01, "Scenes and walkprint").
 ghost use mathlib.Core.Path.{_≡_};
 ghost use Prim.Native.Nat.{_+_, _*_, _^_, _<_};
-ghost use Rattle.report.specs.Length.{feetAt, apart, lengthOf};
+ghost use Rattle.lengths.specs.Length.{feetAt, apart, lengthOf};
 use world::Point;
 
 // The feet of record k.
@@ -21,7 +21,7 @@ fn feet_at(list: &[u8], k: usize) -> Point
 fn apart(from: Point, to: Point) -> f64
     ensures { λ r. ⌜ r ≡ apart from to ⌝ }
 {
-    let d = world::difference(to, from);
+    let d = boxes::difference(to, from);
     root::distance(d.x, d.y, d.z)
 }
 

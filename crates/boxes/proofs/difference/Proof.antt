@@ -1,8 +1,8 @@
--- `world::boxes::difference` meets its contract. Assumes nothing.
+-- `boxes::difference` meets its contract. Assumes nothing.
 use Rattle.world.specs.Boxes.{minus}
 use borrow.Author.Needs.{needs}
-use Rattle.world.proofs.boxes.difference.Statement.{statement}
-use Rattle.world.proofs.boxes.difference.Tie as tie
+use Rattle.boxes.proofs.difference.Statement.{statement}
+use Rattle.boxes.proofs.difference.Tie as tie
 
 returns : tie.Need-returns
 unfolding minus

@@ -1,8 +1,8 @@
--- `world::boxes::from_feet` meets its contract. Assumes nothing.
+-- `boxes::from_feet` meets its contract. Assumes nothing.
 use Rattle.world.specs.Boxes.{fromFeet}
 use borrow.Author.Needs.{needs}
-use Rattle.world.proofs.boxes.from_feet.Statement.{statement}
-use Rattle.world.proofs.boxes.from_feet.Tie as tie
+use Rattle.boxes.proofs.from_feet.Statement.{statement}
+use Rattle.boxes.proofs.from_feet.Tie as tie
 
 returns : tie.Need-returns
 unfolding fromFeet

@@ -1,8 +1,8 @@
--- `world::boxes::intersects` meets its contract. Assumes nothing.
+-- `boxes::intersects` meets its contract. Assumes nothing.
 use borrow.Author.Needs.{needs}
 use Rattle.world.specs.Boxes.{meets}
-use Rattle.world.proofs.boxes.intersects.Statement.{statement}
-use Rattle.world.proofs.boxes.intersects.Tie as tie
+use Rattle.boxes.proofs.intersects.Statement.{statement}
+use Rattle.boxes.proofs.intersects.Tie as tie
 
 returns : tie.Need-returns
 unfolding meets

@@ -1,8 +1,8 @@
--- `world::boxes::sum` meets its contract. Assumes nothing.
+-- `boxes::sum` meets its contract. Assumes nothing.
 use borrow.Author.Needs.{needs}
 use Rattle.world.specs.Boxes.{plus}
-use Rattle.world.proofs.boxes.sum.Statement.{statement}
-use Rattle.world.proofs.boxes.sum.Tie as tie
+use Rattle.boxes.proofs.sum.Statement.{statement}
+use Rattle.boxes.proofs.sum.Tie as tie
 
 returns : tie.Need-returns
 unfolding plus

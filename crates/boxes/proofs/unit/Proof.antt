@@ -1,8 +1,8 @@
--- `world::boxes::unit` meets its contract. Assumes nothing.
+-- `boxes::unit` meets its contract. Assumes nothing.
 use borrow.Author.Needs.{needs}
 use Rattle.world.specs.Boxes.{cube}
-use Rattle.world.proofs.boxes.unit.Statement.{statement}
-use Rattle.world.proofs.boxes.unit.Tie as tie
+use Rattle.boxes.proofs.unit.Statement.{statement}
+use Rattle.boxes.proofs.unit.Tie as tie
 
 returns : tie.Need-returns
 unfolding cube

@@ -1,19 +1,19 @@
--- `fields::put_i32` meets its contract. Assumes nothing.
+-- `stores::put_i32` meets its contract. Assumes nothing.
 use denote.Ref.{now}
 use mir.Syntax.{w32}
 use mir.Val.{SFits, ofZ}
 use mir.Facts.{toZ-ofZ}
 use mathlib.Core.Path.{ap, _∙_}
 use Rattle.fields.specs.Little.{withField, withSigned}
 use borrow.Author.Needs.{needs}
-use Rattle.fields.proofs.put_i32.Statement.{statement}
-use Rattle.fields.proofs.put_i32.Tie as tie
+use Rattle.stores.proofs.put_i32.Statement.{statement}
+use Rattle.stores.proofs.put_i32.Tie as tie
 
 unsigned-of-requires : tie.Need-unsigned-of-requires
-unsigned-of-requires c κs = search needs
+unsigned-of-requires c κs = tt
 
 put-u32-requires : tie.Need-put-u32-requires
-put-u32-requires c κs = search needs
+put-u32-requires c κs = tt
 
 same-length : tie.Need-same-length
 same-length c = search needs

@@ -1,11 +1,11 @@
--- `fields::unsigned_of` meets its contract. Assumes nothing.
+-- `stores::unsigned_of` meets its contract. Assumes nothing.
 use borrow.Author.Needs.{needs}
 use mir.Syntax.{w32}
 use mir.Val.{SFits}
 use native.Mathlib.Omega.{arith}
 use Rattle.fields.specs.Signed.{below-fits, below-zero, from-zero, itself}
-use Rattle.fields.proofs.unsigned_of.Statement.{statement}
-use Rattle.fields.proofs.unsigned_of.Tie as tie
+use Rattle.stores.proofs.unsigned_of.Statement.{statement}
+use Rattle.stores.proofs.unsigned_of.Tie as tie
 
 sub-result : tie.Need-sub-result
 sub-result c = below-fits (c .before .args .x) (search needs) (c .if1 .taken)
