@@ -1,9 +1,10 @@
 -- The public call's ways out: what its tests so far settle, and what a search that begins may rely on.
-use mathlib.Core.Path.{_≡_, refl, sym, ap, subst, _∙_}
-use mathlib.Core.Bool.{Bool, true, false, not, _||_}
+use mathlib.Core.Path.{_≡_, refl, _∙_}
+use mathlib.Core.Bool.{Bool, true, false, _||_}
 use mathlib.Core.Option.{Option, none, some}
 use mathlib.Core.List.{List}
-use Prim.Native.Nat.{ℕ, _+_, _*_, _/_, _≤_}
+use Prim.Native.Nat.{ℕ, _+_, _*_, _/_, _≤_, _<_}
+use native.Mathlib.Nat.{mul-comm, div-lt-iff-lt-mul, le-div-iff-mul-le}
 use native.Mathlib.Omega.{arith}
 use lib.Dec.{leb, ltb}
 use lib.ListN.{length}
@@ -11,12 +12,12 @@ use borrow.Author.Tests.{ltb-true, ltb-false, lt-ltb, le-ltb, le-leb, lt-leb, eq
 use Rattle.world.specs.declared.Body.{Body}
 use Rattle.world.specs.declared.Request.{Request}
 use Rattle.world.specs.declared.Window.{Window}
-use Rattle.world.specs.Space.{Space, space}
+use Rattle.world.specs.Space.{space}
 use Rattle.tables.specs.BadWorld.{badWorld}
 use Rattle.request.specs.Request.{validRequest, sizesTooLarge, tooLarge}
 use Rattle.ends.specs.Ends.{endsGood}
 use Rattle.search.specs.declared.answers.Outcome.{Outcome}
-use Rattle.search.specs.declared.answers.Outcome.the-variants.{Found, Unreachable, BudgetExceeded, BadWorld, TooLarge, NoRoom}
+use Rattle.search.specs.declared.answers.Outcome.the-variants.{Unreachable, BudgetExceeded, BadWorld, TooLarge, NoRoom}
 use Rattle.search.specs.declared.answers.Answer.{Answer}
 use Rattle.search.specs.FindWalkPath.{noRoom, withoutSearch, answerBy, nodesBy, frontBy, outBy, found, nodesAfter, frontAfter, outAfter}
 
@@ -30,30 +31,25 @@ or-false-right : (a b : Bool) → (a || b) ≡ false → b ≡ false
 or-false-right true b e = absurd (let z : _≡_ {A = ℕ} 0 1 = cc in omega arith)
 or-false-right false b e = e
 
-nodes-short : (n x : ℕ) → ltb (x / 56) n ≡ ltb x (56 * n)
-nodes-short n x = go (ltb x (56 * n)) refl
+-- under n records of d bytes: as many whole records, or bytes
+few : (d n x : ℕ) → 0 < d → ltb (x / d) n ≡ ltb x (d * n)
+few d n x p = go (ltb x (d * n)) refl
   where
-    go : (t : Bool) → ltb x (56 * n) ≡ t → ltb (x / 56) n ≡ t
-    go true e = lt-ltb (x / 56) n (omega (arith, ltb-true x (56 * n) e))
-    go false e = le-ltb (x / 56) n (omega (arith, ltb-false x (56 * n) e))
+    go : (t : Bool) → ltb x (d * n) ≡ t → ltb (x / d) n ≡ t
+    go true e = lt-ltb (x / d) n (div-lt-iff-lt-mul {k = d} {x = x} {y = n} p .1 (rw (mul-comm n d) (ltb-true x (d * n) e)))
+    go false e = le-ltb (x / d) n (le-div-iff-mul-le {k = d} {x = n} {y = x} p .1 (rw (mul-comm n d) (ltb-false x (d * n) e)))
 
-front-short : (n x : ℕ) → ltb (x / 24) n ≡ ltb x (24 * n)
-front-short n x = go (ltb x (24 * n)) refl
+le-as-lt : (x n : ℕ) → leb x n ≡ ltb x (n + 1)
+le-as-lt x n = go (ltb x (n + 1)) refl
   where
-    go : (t : Bool) → ltb x (24 * n) ≡ t → ltb (x / 24) n ≡ t
-    go true e = lt-ltb (x / 24) n (omega (arith, ltb-true x (24 * n) e))
-    go false e = le-ltb (x / 24) n (omega (arith, ltb-false x (24 * n) e))
-
-out-short : (n x : ℕ) → leb (x / 40) n ≡ ltb x (40 * (n + 1))
-out-short n x = go (ltb x (40 * (n + 1))) refl
-  where
-    go : (t : Bool) → ltb x (40 * (n + 1)) ≡ t → leb (x / 40) n ≡ t
-    go true e = le-leb (x / 40) n (omega (arith, ltb-true x (40 * (n + 1)) e))
-    go false e = lt-leb (x / 40) n (omega (arith, ltb-false x (40 * (n + 1)) e))
+    go : (t : Bool) → ltb x (n + 1) ≡ t → leb x n ≡ t
+    go true e = le-leb x n (omega (arith, ltb-true x (n + 1) e))
+    go false e = lt-leb x n (omega (arith, ltb-false x (n + 1) e))
 
 pub room-divided : (n nodes front out : ℕ) → (ltb (nodes / 56) n || ltb (front / 24) n || leb (out / 40) n) ≡ noRoom n nodes front out
 unfolding noRoom
-room-divided n nodes front out = rw (nodes-short n nodes, front-short n front, out-short n out)
+room-divided n nodes front out =
+    rw (few 56 n nodes (omega arith), few 24 n front (omega arith), le-as-lt (out / 40) n ∙ few 40 (n + 1) out (omega arith))
 
 pub record Room (n nodes front out : ℕ) : Type 0 where
   pub node-room : 56 * n ≤ nodes
