@@ -3,6 +3,8 @@ use Prim.Native.Nat.{ℕ}
 use mathlib.Core.Path.{_≡_}
 use mathlib.Core.Bool.{true}
 use mathlib.Core.List.{List}
+use lib.Dec.{T}
+use lib.Ieee.{binary64, fits}
 use Rattle.exploration.specs.Graph.{Route}
 use Rattle.world.specs.declared.Body.{Body}
 use Rattle.world.specs.declared.Request.{Request}
@@ -34,3 +36,13 @@ pub record IsRoute (sp : Space) (r : Request) (body : Body) (t : List (Feet × L
   pub start-standable : standable sp body (r .start) ≡ true
   pub goal-standable : standable sp body (r .goal) ≡ true
   pub way : Route (graph sp r body) t
+
+-- the numbers of a request that a list can hold are f64s, as every caller's are
+pub record InF64 (r : Request) : Type 0 where
+  pub start-x : T (fits binary64 (r .start .x))
+  pub start-y : T (fits binary64 (r .start .y))
+  pub start-z : T (fits binary64 (r .start .z))
+  pub goal-x : T (fits binary64 (r .goal .x))
+  pub goal-y : T (fits binary64 (r .goal .y))
+  pub goal-z : T (fits binary64 (r .goal .z))
+  pub jump : T (fits binary64 (r .«jump_height»))

@@ -1,12 +1,8 @@
 -- No definition of the graph, of a valid request or of good ends reads the budget.
 use Prim.Native.Nat.{ℕ}
-use mathlib.Core.Path.{_≡_, refl, ap, _∙_}
-use mathlib.Core.Bool.{Bool, true, false, cond}
-use mathlib.Core.Option.{Option}
+use mathlib.Core.Path.{_≡_, refl, sym, ap, _∙_}
 use mathlib.Core.List.{List, [], _∷_, map}
-use lib.Ieee.{Float, binary64, lt, le, add, sub, neg}
-use Rattle.floats.specs.Floats.{E, smaller}
-use Rattle.exploration.specs.Graph.{Graph}
+use lib.Ieee.{Float}
 use Rattle.cells.specs.Ranges.{gather}
 use Rattle.world.specs.declared.Point.{Point}
 use Rattle.world.specs.declared.Body.{Body}
@@ -15,17 +11,14 @@ use Rattle.world.specs.Space.{Space}
 use Rattle.request.specs.Request.{validRequest, allFinite, notNegative, limit, placed}
 use Rattle.heights.specs.Heights.{heights}
 use Rattle.edges.specs.declared.answer.Waypoint.{Waypoint}
-use Rattle.edges.specs.declared.answer.EdgeAnswer.{EdgeAnswer}
-use Rattle.edges.specs.Edges.{inRange, stepHeight, rising, falling, moving, passable, edge, connector}
+use Rattle.edges.specs.Edges.{inRange, stepHeight, passable, edge, connector}
 use Rattle.ends.specs.Ends.{endsGood}
 use Rattle.steps.specs.declared.columns.Centre.{Centre}
-use Rattle.steps.specs.declared.sides.Sides.{Sides}
-use Rattle.steps.specs.Columns.{centreOf, lookedBy, bandOf, target, ahead, level, edgesAt, columnSteps, sides, columnIf, stepsFrom}
+use Rattle.steps.specs.Columns.{centreOf, bandOf, target, edgesAt, columnSteps, sides, columnIf, stepsFrom}
 use Rattle.steps.specs.Words.{pointOf, feetOf, stepOf, labelIf, standing, graph}
-use Rattle.rooms.specs.declared.Feet.{Feet}
-use Rattle.rooms.specs.declared.Label.{Label}
 use Rattle.rooms.specs.Waypoints.{samePoint, alike}
 use Rattle.claims.specs.Words.{withBudget}
+use Rattle.claims.specs.Laws.Edges.{edge-is}
 
 pub valid-budget : (b : ℕ) (r : Request) (body : Body) → validRequest (withBudget b r) body ≡ validRequest r body
 unfolding validRequest allFinite notNegative limit placed
@@ -36,25 +29,9 @@ module _ (b : ℕ) (sp : Space) (r : Request) (body : Body) where
   unfolding endsGood inRange
   ends-budget = refl
 
-  -- by cases of the comparisons that choose the movement
   edge-budget : (from to : Point) → edge sp (withBudget b r) body from to ≡ edge sp r body from to
-  unfolding edge moving rising falling stepHeight passable inRange
-  edge-budget from to = go (lt E dy) refl (le dy (add binary64 step E)) refl (le dy (add binary64 (r .«jump_height») E)) refl (lt dy (neg E)) refl (le (neg dy) (add binary64 (r .«max_drop») E)) refl
-    where
-      dy : Float
-      dy = sub binary64 (to .y) (from .y)
-
-      step : Float
-      step = smaller (r .«step_height») (body .«step_height»)
-
-      go : (p : Bool) → lt E dy ≡ p → (q : Bool) → le dy (add binary64 step E) ≡ q → (s : Bool) → le dy (add binary64 (r .«jump_height») E) ≡ s → (t : Bool) → lt dy (neg E) ≡ t → (u : Bool) → le (neg dy) (add binary64 (r .«max_drop») E) ≡ u →
-          edge sp (withBudget b r) body from to ≡ edge sp r body from to
-      go true e true f s g t h u i = rw (e, f)
-      go true e false f true g t h u i = rw (e, f, g)
-      go true e false f false g t h u i = rw (e, f, g)
-      go false e q f s g true h true i = rw (e, h, i)
-      go false e q f s g true h false i = rw (e, h, i)
-      go false e q f s g false h u i = rw (e, h)
+  unfolding stepHeight passable inRange
+  edge-budget from to = edge-is sp (withBudget b r) body from to ∙ sym (edge-is sp r body from to)
 
   connector-budget : (from : Point) → connector sp (withBudget b r) body from ≡ connector sp r body from
   unfolding connector

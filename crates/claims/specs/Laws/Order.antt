@@ -26,20 +26,22 @@ told x (some o) = o
 told x none = x
 
 -- the tests where a search began
-pub record Began (v e : Bool) (o : Option Outcome) : Type 0 where
+pub record Began (b v l e : Bool) (o : Option Outcome) : Type 0 where
+  pub good : b ≡ false
   pub valid : v ≡ true
+  pub small : l ≡ false
   pub ends : e ≡ true
   pub begun : o ≡ none
 
 module _ (x : Outcome) where
-  pub on-found : (b v l f e n : Bool) → told x (order b v l f e n) ≡ Found → Began v e (order b v l f e n) × (x ≡ Found)
+  pub on-found : (b v l f e n : Bool) → told x (order b v l f e n) ≡ Found → Began b v l e (order b v l f e n) × (x ≡ Found)
   on-found true v l f e n p = absurd (let q : _≡_ {A = ℕ} 0 1 = cc in omega arith)
   on-found false false l f e n p = absurd (let q : _≡_ {A = ℕ} 0 1 = cc in omega arith)
   on-found false true true f e n p = absurd (let q : _≡_ {A = ℕ} 0 1 = cc in omega arith)
   on-found false true false true e n p = absurd (let q : _≡_ {A = ℕ} 0 1 = cc in omega arith)
   on-found false true false false false n p = absurd (let q : _≡_ {A = ℕ} 0 1 = cc in omega arith)
   on-found false true false false true true p = absurd (let q : _≡_ {A = ℕ} 0 1 = cc in omega arith)
-  on-found false true false false true false p = (record { valid = refl; ends = refl; begun = refl }, p)
+  on-found false true false false true false p = (record { good = refl; valid = refl; small = refl; ends = refl; begun = refl }, p)
 
   -- with a valid request and good ends, only the search itself says Unreachable
   pub on-unreachable : (b l f n : Bool) → told x (order b true l f true n) ≡ Unreachable → x ≡ Unreachable
@@ -74,10 +76,12 @@ module _ (y : Outcome) where
   ends-there false false n h = refl
 
 module _ (x y : Outcome) (b v e l f n l′ f′ n′ : Bool) (above : n ≡ false → n′ ≡ false) where
-  pub found-stays : (x ≡ Found → y ≡ Found) → told x (order b v l f e n) ≡ Found → outcomeNumber (told y (order b v l′ f′ e n′)) < 3 → told y (order b v l′ f′ e n′) ≡ Found
+  pub found-stays : (x ≡ Found → y ≡ Found) → told x (order b v l f e n) ≡ Found → outcomeNumber (told y (order b v l′ f′ e n′)) < 3 →
+      told y (order b v l′ f′ e n′) ≡ Found
   found-stays k p h = go b v l f e n p h above
     where
-      go : (b v l f e n : Bool) → told x (order b v l f e n) ≡ Found → outcomeNumber (told y (order b v l′ f′ e n′)) < 3 → (n ≡ false → n′ ≡ false) → told y (order b v l′ f′ e n′) ≡ Found
+      go : (b v l f e n : Bool) → told x (order b v l f e n) ≡ Found → outcomeNumber (told y (order b v l′ f′ e n′)) < 3 → (n ≡ false → n′ ≡ false) →
+          told y (order b v l′ f′ e n′) ≡ Found
       go true v l f e n p h a = absurd (omega arith)
       go false false l f e n p h a = absurd (let q : _≡_ {A = ℕ} 0 1 = cc in omega arith)
       go false true true f e n p h a = absurd (let q : _≡_ {A = ℕ} 0 1 = cc in omega arith)
