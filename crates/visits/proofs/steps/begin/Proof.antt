@@ -1,6 +1,5 @@
 -- `visits::steps::begin` meets its contract. Assumes nothing.
 use mathlib.Core.Path.{refl}
-use borrow.Author.Needs.{needs}
 use Rattle.visits.proofs.steps.begin.Statement.{statement}
 use Rattle.visits.proofs.steps.begin.Tie as tie
 
@@ -9,16 +8,16 @@ returns c =
     record { none = λ e. record { counts = refl; nodes = refl; front = refl }; some = λ h. absurd (h (c .if1 .taken)) }
 
 put-node-requires : tie.Need-put-node-requires
-put-node-requires c κs = search needs
+put-node-requires c κs = tt
 
 put-entry-requires : tie.Need-put-entry-requires
-put-entry-requires c κs = search needs
+put-entry-requires c κs = tt
 
 same-length : tie.Need-same-length
-same-length c = search needs
+same-length c = c .before .before .before .before .before .before .put-node .kept .0
 
 same-length-2 : tie.Need-same-length-2
-same-length-2 c = search needs
+same-length-2 c = c .before .before .put-entry .kept .0
 
 returns-2 : tie.Need-returns-2
 returns-2 c =

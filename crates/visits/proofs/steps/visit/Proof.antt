@@ -1,6 +1,5 @@
 -- `visits::steps::visit` meets its contract. Assumes nothing.
-use native.Mathlib.Omega.{arith}
-use mathlib.Core.Path.{_≡_, refl}
+use mathlib.Core.Path.{_≡_, refl, sym, _∙_}
 use mathlib.Core.Bool.{true, false}
 use lib.ListN.{length}
 use borrow.Author.Tests.{not-true, not-false}
@@ -8,36 +7,34 @@ use denote.Ref.{now}
 use Rattle.exploration.specs.Laws.Lists.{true-false}
 use Rattle.visits.specs.Visits.{ready}
 use Rattle.visits.specs.Laws.Visits.{ready-is}
-use borrow.Author.Needs.{needs}
 use Rattle.visits.proofs.steps.visit.Statement.{statement}
 use Rattle.visits.proofs.steps.visit.Tie as tie
 
+-- the test, as the definition has it
+passed : (s : tie.Else1) → ready (length (now (s .before .before .before .before .args .nodes))) (length (now (s .before .before .before .before .args .front))) (s .before .before .before .before .args .aim .budget) (s .before .before .before .before .args .k) (s .before .before .before .before .args .c) ≡ true
+passed s = sym (s .before .is-ready .ensures) ∙ not-false _ (s .if1 .left)
+
 is-ready-requires : tie.Need-is-ready-requires
-is-ready-requires c κs = search needs
+is-ready-requires c κs = tt
 
 returns : tie.Need-returns
 returns c =
-    let a = c .before .before .before .before .args in
-    let no : ready (length (now (a .nodes))) (length (now (a .front))) (a .aim .budget) (a .k) (a .c) ≡ false = cc (not-true (c .before .is-ready .result) (c .if1 .taken)) in
-    record { done = λ e. absurd (true-false e no); left = λ e. record { counts = refl; nodes = refl; front = refl } }
+    record { done = λ e. absurd (true-false e (sym (c .before .is-ready .ensures) ∙ not-true _ (c .if1 .taken))); left = λ e. record { counts = refl; nodes = refl; front = refl } }
 
 step-requires : tie.Need-step-requires
 step-requires c κs =
     let a = c .before .before .before .before .before .before .args in
-    let yes : ready (length (now (a .nodes))) (length (now (a .front))) (a .aim .budget) (a .k) (a .c) ≡ true = cc (not-false (c .before .before .before .is-ready .result) (c .before .before .if1 .left)) in
-    ready-is (now (a .nodes)) (now (a .front)) (a .aim .budget) (a .k) (a .c) yes
+    ready-is (now (a .nodes)) (now (a .front)) (a .aim .budget) (a .k) (a .c) (passed (c .before .before))
 
 same-length : tie.Need-same-length
-same-length c = search needs
+same-length c = c .before .before .before .before .step .kept .0
 
 same-length-2 : tie.Need-same-length-2
-same-length-2 c = search needs
+same-length-2 c = c .before .before .before .before .step .kept .1 .0
 
 returns-2 : tie.Need-returns-2
 returns-2 c =
-    let a = c .before .before .before .before .before .before .before .before .before .before .before .args in
-    let yes : ready (length (now (a .nodes))) (length (now (a .front))) (a .aim .budget) (a .k) (a .c) ≡ true = cc (not-false (c .before .before .before .before .before .before .before .before .is-ready .result) (c .before .before .before .before .before .before .before .if1 .left)) in
-    record { done = λ e. c .before .before .before .before .step .ensures; left = λ e. absurd (true-false yes e) }
+    record { done = λ e. c .before .before .before .before .step .ensures; left = λ e. absurd (true-false (passed (c .before .before .before .before .before .before .before)) e) }
 
 pub visit-spec : {M : Type 1} → statement M
 visit-spec =
