@@ -1,0 +1,80 @@
+//! One call of the proved search against what must come of it: the answer, and
+//! every byte of every lent room and around it.
+
+use crate::call::{Call, u64_at};
+use crate::chance::Chance;
+use crate::expected::{Expected, Judged, expected};
+use crate::proved::{self, Lent};
+use crate::room::Room;
+
+/// Bytes of an answer: outcome, count, retained, closed.
+const ANSWER: usize = 32;
+
+/// Calls the search with rooms of these sizes, filled by the seed. What it
+/// answered if all is as it must be, else what is not.
+pub fn differ(
+    call: &Call,
+    judged: &Judged,
+    sizes: [usize; 3],
+    seed: u64,
+) -> Result<Expected, String> {
+    let must = expected(judged, call.request.node_budget, sizes);
+    let mut chance = Chance::new(seed);
+    let mut rooms = sizes.map(|size| Room::new(size, &mut chance));
+    let mut answer = Room::new(ANSWER + chance.below(9), &mut chance);
+    let front = if must.began { sizes[1] } else { 0 };
+    let after = [
+        rooms[0].after(&must.nodes),
+        rooms[1].after(&vec![0; front]),
+        rooms[2].after(&must.list),
+    ];
+    let said = answer.after(&must.answer().map(u64::to_le_bytes).concat());
+    let [nodes, front, out] = &mut rooms;
+    let number = proved::find_walk_path(
+        call,
+        Lent {
+            nodes: nodes.lent(),
+            front: front.lent(),
+            out: out.lent(),
+            answer: answer.lent(),
+        },
+    );
+    let told: Vec<u64> = (0..4).map(|k| u64_at(answer.lent(), 8 * k)).collect();
+    if number != must.number || told != must.answer() {
+        return Err(format!(
+            "answered {number}, {told:?}; must be {:?} (outcome, count, retained, closed)",
+            must.answer()
+        ));
+    }
+    for (name, room, after) in [
+        ("nodes", nodes, &after[0]),
+        ("frontier", front, &after[1]),
+        ("output", out, &after[2]),
+        ("answer", &mut answer, &said),
+    ] {
+        if let Some(parts) = room.parts(after) {
+            return Err(format!("{name}: {parts}"));
+        }
+    }
+    same_length(&must.list)?;
+    Ok(must)
+}
+
+/// The list's length by the proved root and by the processor's.
+fn same_length(list: &[u8]) -> Result<(), String> {
+    let feet = |record: &[u8]| [0, 8, 16].map(|at| f64::from_bits(u64_at(record, at)));
+    let points: Vec<[f64; 3]> = list.chunks(40).map(feet).collect();
+    let sum = |root: fn(f64) -> f64| {
+        points.windows(2).fold(0.0, |sum, pair| {
+            let [x, y, z] = [0, 1, 2].map(|axis| pair[1][axis] - pair[0][axis]);
+            sum + root(x * x + y * y + z * z)
+        })
+    };
+    let (ours, theirs): (f64, f64) = (sum(proved::square_root), sum(f64::sqrt));
+    if ours.to_bits() == theirs.to_bits() {
+        return Ok(());
+    }
+    Err(format!(
+        "length {ours} by the proved root, {theirs} by the processor's"
+    ))
+}
