@@ -29,7 +29,8 @@ impl Counts {
             2 => "exceeded unbegun",
             3 => "refused 3",
             4 => "refused 4",
-            _ => "refused 5",
+            5 => "refused 5",
+            _ => "refused 8",
         };
         self.add("searches", 1);
         self.add(name, 1);

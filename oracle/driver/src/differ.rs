@@ -19,6 +19,20 @@ pub fn differ(
     seed: u64,
 ) -> Result<Expected, String> {
     let must = expected(judged, call.request.node_budget, sizes);
+    compare(&must, sizes, seed, |lent| {
+        proved::find_walk_path(call, lent)
+    })?;
+    Ok(must)
+}
+
+/// Makes rooms of these sizes, filled by the seed, lends them to a search, and
+/// says what is not as it must be.
+pub fn compare(
+    must: &Expected,
+    sizes: [usize; 3],
+    seed: u64,
+    search: impl FnOnce(Lent) -> u64,
+) -> Result<(), String> {
     let mut chance = Chance::new(seed);
     let mut rooms = sizes.map(|size| Room::new(size, &mut chance));
     let mut answer = Room::new(ANSWER + chance.below(9), &mut chance);
@@ -30,15 +44,12 @@ pub fn differ(
     ];
     let said = answer.after(&must.answer().map(u64::to_le_bytes).concat());
     let [nodes, front, out] = &mut rooms;
-    let number = proved::find_walk_path(
-        call,
-        Lent {
-            nodes: nodes.lent(),
-            front: front.lent(),
-            out: out.lent(),
-            answer: answer.lent(),
-        },
-    );
+    let number = search(Lent {
+        nodes: nodes.lent(),
+        front: front.lent(),
+        out: out.lent(),
+        answer: answer.lent(),
+    });
     let told: Vec<u64> = (0..4).map(|k| u64_at(answer.lent(), 8 * k)).collect();
     if number != must.number || told != must.answer() {
         return Err(format!(
@@ -56,8 +67,7 @@ pub fn differ(
             return Err(format!("{name}: {parts}"));
         }
     }
-    same_length(&must.list)?;
-    Ok(must)
+    same_length(&must.list)
 }
 
 /// The list's length by the proved root and by the processor's.

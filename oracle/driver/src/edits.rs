@@ -68,15 +68,15 @@ fn high_bits(call: &mut Call, chance: &mut Chance) {
     }
 }
 
-/// A multiple of the states, each group alike but for higher bits, and the cells
-/// in any group.
+/// A multiple of a scene's states, each group alike but for higher bits, and
+/// the cells in any group.
 fn many_states(call: &mut Call, chance: &mut Chance) {
     let table = &mut call.tables.permissions;
     let states = table.len();
-    if states == 0 {
+    if states == 0 || states > 300 {
         return;
     }
-    let groups = 2 + chance.pick(&[1, 100, 9000]);
+    let groups = 2 + chance.pick(&[1, 100, 1000]);
     for place in states..states * groups {
         let byte = table[place % states] | (chance.below(4) as u8) << 6;
         table.push(byte);
@@ -188,11 +188,11 @@ fn push_box(call: &mut Call, numbers: [f64; 6]) {
     call.tables.boxes.extend(bytes.concat());
 }
 
-/// More shapes than a scene has, each like one of the old, and the cells in any
+/// More shapes than a scene can have, each like one of the old, and the cells in any
 /// group of them.
 fn many_shapes(call: &mut Call, chance: &mut Chance) {
     let old = shapes(call);
-    if old == 0 {
+    if old == 0 || old > 300 {
         return;
     }
     let groups = 2 + 256 / old;
@@ -234,9 +234,15 @@ fn empty_run_at_the_end(call: &mut Call, chance: &mut Chance) {
     reshape(call, chance, old, 12);
 }
 
+/// A wider window than this stays as it is.
+const MOST_CELLS: usize = 1 << 19;
+
 /// The same cells in a window of these sizes, with any content of theirs
 /// around.
 fn widen(call: &mut Call, sizes: [u32; 3], chance: &mut Chance) {
+    if sizes.iter().map(|&size| size as usize).product::<usize>() > MOST_CELLS {
+        return;
+    }
     let old = call.tables.window.sizes.map(|size| size as usize);
     let new = sizes.map(|size| size as usize);
     let cells = std::mem::take(&mut call.tables.cells);
