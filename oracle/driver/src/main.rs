@@ -18,7 +18,9 @@ mod differ;
 mod edits;
 mod expected;
 mod large;
+mod policy;
 mod proved;
+mod reader;
 mod room;
 mod runner;
 mod scenes;
@@ -38,6 +40,8 @@ driver rooms FROM COUNT [THREADS]
 driver tables FROM COUNT [THREADS]
 driver walkback FROM COUNT [THREADS]
 driver sweeps FROM COUNT [THREADS]
+driver read FROM COUNT [THREADS]
+driver policy FROM COUNT [THREADS]
 ";
 
 fn main() -> ExitCode {
@@ -68,6 +72,8 @@ fn command(arguments: &[String]) -> Result<bool, String> {
         "tables" => tables::one_call,
         "walkback" => walkback::one_scene,
         "sweeps" => sweeps::one_scene,
+        "read" => reader::one_scene,
+        "policy" => policy::one_scene,
         _ => return Err(USAGE.to_string()),
     };
     let numbers = Numbers {
@@ -75,7 +81,8 @@ fn command(arguments: &[String]) -> Result<bool, String> {
         count: number(count)?.max(1),
         threads: number(threads)?.max(1),
     };
-    Ok(run(name, &numbers, check))
+    let flags = name != "policy" || policy::all_flags();
+    Ok(flags && run(name, &numbers, check))
 }
 
 fn number(word: &str) -> Result<u64, String> {
