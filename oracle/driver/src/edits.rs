@@ -97,7 +97,7 @@ fn past_tables(call: &mut Call, chance: &mut Chance) {
         call.tables.permissions.len() as u32,
         (call.tables.shapes.len() / 8) as u32,
     ];
-    for _ in 0..cells / 16 {
+    for _ in 0..cells / 64 {
         let at = 8 * chance.below(cells);
         let field = chance.below(2);
         let number = chance.pick(&[ends[field], ends[field] + 1, 1 << 29, 1 << 31, u32::MAX]);
@@ -297,25 +297,23 @@ fn cells_fit(call: &Call) -> bool {
     sizes.iter().all(|&size| size <= 256) && call.tables.cells.len() as u64 == 8 * volume
 }
 
+/// The whole scene moved along an axis, so that its window begins near the end
+/// of i32 or goes past it.
 fn window_at_the_end(call: &mut Call, chance: &mut Chance) {
     let axis = chance.below(3);
-    let size = call.tables.window.sizes[axis] as i32;
-    let far = chance.pick(&[
-        i32::MAX,
-        i32::MAX - 1,
-        i32::MAX - 70,
-        i32::MAX.wrapping_sub(size),
-    ]);
-    call.tables.window.origin[axis] = chance.pick(&[far, -far, i32::MIN]);
-    let near = f64::from(far) - chance.pick(&[70.0, 74.0, 100.0]);
-    for point in [&mut call.request.start, &mut call.request.goal] {
-        point[axis] += near;
-    }
+    let past = chance.pick(&[0, 10, 25, 40, 40, 60, 60, 100]);
+    let origin = chance.pick(&[i32::MAX - past, i32::MIN + past]);
+    let old = std::mem::replace(&mut call.tables.window.origin[axis], origin);
+    let shift = f64::from(origin) - f64::from(old);
+    call.request.start[axis] += shift;
+    call.request.goal[axis] += shift;
 }
 
 fn no_cells(call: &mut Call, chance: &mut Chance) {
-    call.tables.window.sizes[chance.below(3)] = 0;
-    call.tables.cells.clear();
+    if chance.once_in(4) {
+        call.tables.window.sizes[chance.below(3)] = 0;
+        call.tables.cells.clear();
+    }
 }
 
 fn budget(call: &mut Call, chance: &mut Chance) {

@@ -23,8 +23,16 @@ pub fn one_call(makers: &Makers, number: u64, counts: &mut Counts) -> Result<(),
     let call = edited(&scene, &edits, number);
     let kept = call.clone();
     match parts(&call, number) {
-        Ok(answer) => counts.search(&answer),
+        Ok(answer) => {
+            counts.search(&answer);
+            if answer.began && call.request.node_budget > 512 {
+                counts.add("searches begun with a budget above 512", 1);
+            }
+        }
         Err(_) => return Err(smallest(records, edits, number)),
+    }
+    for edit in edits {
+        counts.add(edit.name, 1);
     }
     if call.tables != kept.tables {
         return Err(Mismatch {
