@@ -1,0 +1,23 @@
+//! Links the proved library, which `rt staticlib walk_c` writes to
+//! target/staticlib; the environment variable `WALKPRINT_LIB` names another
+//! folder.
+
+use std::path::{Path, PathBuf};
+
+fn main() {
+    println!("cargo:rerun-if-env-changed=WALKPRINT_LIB");
+    let folder = match std::env::var_os("WALKPRINT_LIB") {
+        Some(folder) => PathBuf::from(folder),
+        None => Path::new(env!("CARGO_MANIFEST_DIR")).join("../../target/staticlib"),
+    };
+    let library = folder.join("libwalk_c.a");
+    println!("cargo:rerun-if-changed={}", library.display());
+    if !library.is_file() {
+        panic!(
+            "{} is not there: run rt staticlib walk_c",
+            library.display()
+        );
+    }
+    println!("cargo:rustc-link-search=native={}", folder.display());
+    println!("cargo:rustc-link-lib=static=walk_c");
+}

@@ -1,0 +1,87 @@
+//! What must come of a call: 01's "Search order" over the original.
+
+use scene::{Answer, Outcome};
+
+use crate::call::Call;
+
+/// How far a call comes, whatever its rooms.
+pub enum Judged {
+    /// Before the rooms are looked at: number 1, 3 or 4.
+    Ends(u64),
+    /// The original's answer, which stands if the rooms are large enough.
+    Answered(Answer),
+}
+
+/// "3; `valid_request` (else 1); 4"; what follows 5 is the original's own
+/// order.
+pub fn judge(call: &Call) -> Judged {
+    if scene::bad_world(&call.tables) {
+        return Judged::Ends(3);
+    }
+    let scene = call.scene();
+    if !original::valid_request(&scene) {
+        return Judged::Ends(1);
+    }
+    if scene::too_large(&call.request, &call.body) {
+        return Judged::Ends(4);
+    }
+    Judged::Answered(original::find_walk_path(&scene))
+}
+
+/// The bytes of the rooms that a budget needs: nodes, frontier, output.
+pub fn needed(budget: u64) -> [usize; 3] {
+    let budget = budget as usize;
+    [56 * budget, 24 * budget, 40 * (budget + 1)]
+}
+
+/// What a call must answer, and what it must write.
+#[derive(Clone, PartialEq)]
+pub struct Expected {
+    pub number: u64,
+    /// Whether the search began.
+    pub began: bool,
+    /// The list and the retained nodes, in records.
+    pub list: Vec<u8>,
+    pub nodes: Vec<u8>,
+    pub closed: u64,
+}
+
+impl Expected {
+    /// Nothing but a number.
+    fn number(number: u64) -> Self {
+        Self {
+            number,
+            began: false,
+            list: Vec::new(),
+            nodes: Vec::new(),
+            closed: 0,
+        }
+    }
+
+    /// Outcome, count, retained, closed.
+    pub fn answer(&self) -> [u64; 4] {
+        let [count, retained] = [self.list.len() / 40, self.nodes.len() / 56];
+        [self.number, count as u64, retained as u64, self.closed]
+    }
+}
+
+/// "5" judged between, for rooms of so many bytes.
+pub fn expected(judged: &Judged, budget: u64, sizes: [usize; 3]) -> Expected {
+    let answer = match judged {
+        Judged::Ends(number) => return Expected::number(*number),
+        Judged::Answered(answer) => answer,
+    };
+    let needed = needed(budget);
+    if (0..3).any(|room| sizes[room] < needed[room]) {
+        return Expected::number(5);
+    }
+    let found = answer.outcome == Outcome::Found;
+    let list = if found { &answer.list[..] } else { &[] };
+    Expected {
+        number: answer.outcome as u64,
+        began: !answer.nodes.is_empty(),
+        list: list.iter().flat_map(|point| point.bytes()).collect(),
+        nodes: answer.nodes.iter().flat_map(|node| node.bytes()).collect(),
+        closed: answer.closed,
+    }
+}

@@ -1,0 +1,91 @@
+//! The differential driver: the proved search, called through the C interface
+//! as a server would, against the original. oracle/README.md says what each
+//! command does.
+
+#[allow(dead_code)]
+#[path = "../../mutants/src/chance.rs"]
+mod chance;
+#[path = "../../mutants/src/draft.rs"]
+mod draft;
+#[path = "../../mutants/src/recipes.rs"]
+mod recipes;
+#[path = "../../mutants/src/shrink.rs"]
+mod shrink;
+
+mod call;
+mod counts;
+mod differ;
+mod edits;
+mod expected;
+mod large;
+mod policy;
+mod proved;
+mod reader;
+mod room;
+mod runner;
+mod scenes;
+mod sweeps;
+mod tables;
+mod walkback;
+
+use std::process::ExitCode;
+
+use crate::runner::{Check, Numbers, run};
+
+const USAGE: &str = "\
+driver scenes FROM COUNT [THREADS]
+driver directed FOLDER
+driver large
+driver rooms FROM COUNT [THREADS]
+driver tables FROM COUNT [THREADS]
+driver walkback FROM COUNT [THREADS]
+driver sweeps FROM COUNT [THREADS]
+driver read FROM COUNT [THREADS]
+driver policy FROM COUNT [THREADS]
+";
+
+fn main() -> ExitCode {
+    let arguments: Vec<String> = std::env::args().skip(1).collect();
+    match command(&arguments) {
+        Ok(true) => ExitCode::SUCCESS,
+        Ok(false) => ExitCode::FAILURE,
+        Err(error) => {
+            eprint!("{error}");
+            ExitCode::from(2)
+        }
+    }
+}
+
+/// False if something parts; an error if the command could not be run.
+fn command(arguments: &[String]) -> Result<bool, String> {
+    let words: Vec<&str> = arguments.iter().map(String::as_str).collect();
+    let (name, from, count, threads) = match words[..] {
+        ["directed", folder] => return scenes::directed(folder),
+        ["large"] => return Ok(large::all()),
+        [name, from, count] => (name, from, count, "1"),
+        [name, from, count, threads] => (name, from, count, threads),
+        _ => return Err(USAGE.to_string()),
+    };
+    let check: Check = match name {
+        "scenes" => scenes::one_scene,
+        "rooms" => scenes::all_rooms,
+        "tables" => tables::one_call,
+        "walkback" => walkback::one_scene,
+        "sweeps" => sweeps::one_scene,
+        "read" => reader::one_scene,
+        "policy" => policy::one_scene,
+        _ => return Err(USAGE.to_string()),
+    };
+    let numbers = Numbers {
+        from: number(from)?,
+        count: number(count)?.max(1),
+        threads: number(threads)?.max(1),
+    };
+    let flags = name != "policy" || policy::all_flags();
+    Ok(flags && run(name, &numbers, check))
+}
+
+fn number(word: &str) -> Result<u64, String> {
+    word.parse()
+        .map_err(|_| format!("{word} is no whole number\n"))
+}
