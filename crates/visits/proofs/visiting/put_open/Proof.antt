@@ -1,9 +1,9 @@
--- `visits::steps::put_open` meets its contract. Assumes nothing.
+-- `visits::visiting::put_open` meets its contract. Assumes nothing.
 use native.Mathlib.Omega.{arith}
 use mir.Syntax.{w32}
 use mir.Val.{Fits}
-use Rattle.visits.proofs.steps.put_open.Statement.{statement}
-use Rattle.visits.proofs.steps.put_open.Tie as tie
+use Rattle.visits.proofs.visiting.put_open.Statement.{statement}
+use Rattle.visits.proofs.visiting.put_open.Tie as tie
 
 -- from the facts of the start alone
 fits : (s : tie.Start) → Fits w32 (s .args .k)

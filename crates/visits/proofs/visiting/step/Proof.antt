@@ -1,4 +1,4 @@
--- `visits::steps::step` meets its contract. Assumes nothing.
+-- `visits::visiting::step` meets its contract. Assumes nothing.
 use Prim.Native.Nat.{ℕ, _≤_}
 use mathlib.Core.Path.{_≡_, refl, subst, _∙_}
 use denote.Ref.{now}
@@ -7,8 +7,8 @@ use Rattle.rooms.specs.Scans.{firstAt}
 use Rattle.rooms.specs.Laws.Writes.{WroteEntry}
 use Rattle.visits.specs.Costs.{pushedAs}
 use Rattle.visits.specs.Laws.Visits.{numbered, node-inside, entry-inside, pushes-fit, drops-fit, retains-fit, visited-known, visited-drop, visited-new}
-use Rattle.visits.proofs.steps.step.Statement.{statement}
-use Rattle.visits.proofs.steps.step.Tie as tie
+use Rattle.visits.proofs.visiting.step.Statement.{statement}
+use Rattle.visits.proofs.visiting.step.Tie as tie
 
 seek-requires : tie.Need-seek-requires
 seek-requires c κs = tt

@@ -1,4 +1,4 @@
--- `visits::steps::visit` meets its contract. Assumes nothing.
+-- `visits::visiting::visit` meets its contract. Assumes nothing.
 use mathlib.Core.Path.{_≡_, refl, sym, _∙_}
 use mathlib.Core.Bool.{true, false}
 use lib.ListN.{length}
@@ -7,8 +7,8 @@ use denote.Ref.{now}
 use Rattle.exploration.specs.Laws.Lists.{true-false}
 use Rattle.visits.specs.Visits.{ready}
 use Rattle.visits.specs.Laws.Visits.{ready-is}
-use Rattle.visits.proofs.steps.visit.Statement.{statement}
-use Rattle.visits.proofs.steps.visit.Tie as tie
+use Rattle.visits.proofs.visiting.visit.Statement.{statement}
+use Rattle.visits.proofs.visiting.visit.Tie as tie
 
 -- the test, as the definition has it
 passed : (s : tie.Else1) → ready (length (now (s .before .before .before .before .args .nodes))) (length (now (s .before .before .before .before .args .front))) (s .before .before .before .before .args .aim .budget) (s .before .before .before .before .args .k) (s .before .before .before .before .args .c) ≡ true

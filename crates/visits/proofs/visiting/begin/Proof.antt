@@ -1,7 +1,7 @@
--- `visits::steps::begin` meets its contract. Assumes nothing.
+-- `visits::visiting::begin` meets its contract. Assumes nothing.
 use mathlib.Core.Path.{refl}
-use Rattle.visits.proofs.steps.begin.Statement.{statement}
-use Rattle.visits.proofs.steps.begin.Tie as tie
+use Rattle.visits.proofs.visiting.begin.Statement.{statement}
+use Rattle.visits.proofs.visiting.begin.Tie as tie
 
 returns : tie.Need-returns
 returns c =

@@ -1,4 +1,4 @@
--- `visits::steps::again` meets its contract. Assumes nothing.
+-- `visits::visiting::again` meets its contract. Assumes nothing.
 use native.Mathlib.Nat.{lt-of-lt-of-le}
 use mathlib.Core.Path.{_≡_, refl, sym, ap, subst, _∙_}
 use mathlib.Core.Bool.{Bool, true, false}
@@ -10,8 +10,8 @@ use Rattle.rooms.specs.Records.{nodeAt}
 use Rattle.rooms.specs.Laws.Writes.{WroteNode, WroteEntry}
 use Rattle.visits.specs.Costs.{cheaper, lowered}
 use Rattle.visits.specs.Laws.Visits.{numbered, node-inside, entry-inside, pushes-fit, childRecord, seen-shut, seen-dear, seen-lower}
-use Rattle.visits.proofs.steps.again.Statement.{statement}
-use Rattle.visits.proofs.steps.again.Tie as tie
+use Rattle.visits.proofs.visiting.again.Statement.{statement}
+use Rattle.visits.proofs.visiting.again.Tie as tie
 
 get-node-requires : tie.Need-get-node-requires
 get-node-requires c κs = tt

@@ -1,8 +1,8 @@
--- `visits::steps::is_ready` meets its contract. Assumes nothing.
+-- `visits::visiting::is_ready` meets its contract. Assumes nothing.
 use mathlib.Core.Path.{refl}
 use Rattle.visits.specs.Visits.{ready}
-use Rattle.visits.proofs.steps.is_ready.Statement.{statement}
-use Rattle.visits.proofs.steps.is_ready.Tie as tie
+use Rattle.visits.proofs.visiting.is_ready.Statement.{statement}
+use Rattle.visits.proofs.visiting.is_ready.Tie as tie
 
 returns : tie.Need-returns
 unfolding ready

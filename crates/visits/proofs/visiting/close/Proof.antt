@@ -1,4 +1,4 @@
--- `visits::steps::close` meets its contract. Assumes nothing.
+-- `visits::visiting::close` meets its contract. Assumes nothing.
 use native.Mathlib.Omega.{arith}
 use native.Mathlib.Nat.{lt-of-lt-of-le}
 use Prim.Native.Nat.{_+_, _<_}
@@ -14,8 +14,8 @@ use Rattle.rooms.specs.declared.NodeRecord.{NodeRecord}
 use Rattle.rooms.specs.Laws.Writes.{WroteNode}
 use Rattle.visits.specs.Visits.{Ready, ready}
 use Rattle.visits.specs.Laws.Visits.{ready-is, node-inside, entry-inside, closes-fit, shutRecord, closes}
-use Rattle.visits.proofs.steps.close.Statement.{statement}
-use Rattle.visits.proofs.steps.close.Tie as tie
+use Rattle.visits.proofs.visiting.close.Statement.{statement}
+use Rattle.visits.proofs.visiting.close.Tie as tie
 
 get-node-requires : tie.Need-get-node-requires
 get-node-requires c κs = tt
