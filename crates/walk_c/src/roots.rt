@@ -2,7 +2,7 @@
 ghost use mathlib.Core.Path.{_≡_};
 ghost use Rattle.root.specs.Distance.{squareRoot};
 ghost use Rattle.root.specs.Method.{answer};
-ghost use Rattle.walk_c.specs.Numbers.{rootNumber, rootWritten};
+ghost use Rattle.walk_c.specs.Answers.{rootNumber, rootWritten};
 use root::Root;
 
 // 0, and the root in the first 8 bytes of `root`; or 9 BadNumber, and nothing is written.

@@ -2,7 +2,7 @@
 use mathlib.Core.Path.{_≡_, sym, ap, _∙_}
 use denote.Ref.{now}
 use Rattle.root.specs.Root.{Given, given}
-use Rattle.walk_c.specs.Numbers.{rootNumber, rootWritten}
+use Rattle.walk_c.specs.Answers.{rootNumber, rootWritten}
 use borrow.Author.Needs.{needs}
 use Rattle.walk_c.proofs.roots.walkprint_root.Statement.{statement}
 use Rattle.walk_c.proofs.roots.walkprint_root.Tie as tie

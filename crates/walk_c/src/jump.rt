@@ -1,7 +1,7 @@
 // The height of a jump (01, Policy).
 ghost use mathlib.Core.Path.{_≡_};
 ghost use Rattle.policy.specs.Jump.{jumpApex};
-ghost use Rattle.walk_c.specs.Numbers.{firstWritten};
+ghost use Rattle.walk_c.specs.Answers.{firstWritten};
 use policy::Apex;
 
 // 0, and the height in the first 8 bytes of `height`; or 6 EndlessJump, and nothing is written.
