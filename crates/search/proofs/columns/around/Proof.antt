@@ -1,6 +1,5 @@
 -- `search::columns::around` meets its contract. Assumes nothing.
 use mathlib.Core.Path.{_≡_, sym, _∙_}
-use borrow.Author.Needs.{needs}
 use borrow.Author.Tests.{not-true, not-false}
 use denote.Ref.{now}
 use Rattle.world.specs.Space.{space}
@@ -9,7 +8,7 @@ use Rattle.search.proofs.columns.around.Statement.{statement}
 use Rattle.search.proofs.columns.around.Tie as tie
 
 looked-requires : tie.Need-looked-requires
-looked-requires c κs = search needs
+looked-requires c κs = tt
 
 returns : tie.Need-returns
 returns c = looked-not (c .before .before .before .before .before .before .before .before .before .args .n) (c .before .before .before .before .before .before .before .before .before .pre .1) (sym (c .before .looked .ensures) ∙ not-true _ (c .if1 .taken)) (c .before .before .before .before .before .before .before .before .before .pre .0 .0 .few)
@@ -21,13 +20,13 @@ column-requires c κs =
     (rw z at (c .before .before .before .before .before .before .before .before .before .before .before .before .pre .0 .0), c .before .before .before .before .before .before .before .before .before .before .before .before .pre .0 .1)
 
 answered-requires : tie.Need-answered-requires
-answered-requires c κs = search needs
+answered-requires c κs = tt
 
 same-length : tie.Need-same-length
-same-length c = search needs
+same-length c = c .before .before .before .before .before .before .column .kept .1 .1 .1 .1 .1 .1 .1 .0
 
 same-length-2 : tie.Need-same-length-2
-same-length-2 c = search needs
+same-length-2 c = c .before .before .before .before .before .before .column .kept .1 .1 .1 .1 .1 .1 .1 .1 .0
 
 returns-2 : tie.Need-returns-2
 returns-2 c =

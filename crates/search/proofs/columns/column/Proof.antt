@@ -25,10 +25,10 @@ abbrev μ-loop : tie.MeasureT-loop
     left (space w cells perms shapes boxes) r body (at .point) n after
 
 column-centre-requires : tie.Need-column-centre-requires Inv-loop μ-loop
-column-centre-requires c κs = search needs
+column-centre-requires c κs = tt
 
 band-of-requires : tie.Need-band-of-requires Inv-loop μ-loop
-band-of-requires c κs = search needs
+band-of-requires c κs = tt
 
 loop-holds : tie.Need-loop-holds Inv-loop μ-loop
 loop-holds c =
@@ -36,7 +36,7 @@ loop-holds c =
     (refl, refl, along-none (column-starts (space (a .w) (now (a .cells)) (now (a .perms)) (now (a .shapes)) (now (a .boxes))) (a .r) (a .body) (a .at .point) (a .n)) (went-none (now (a .nodes)) (now (a .front)) (c .before .before .before .before .before .before .before .before .before .pre .0 .few)))
 
 next-height-requires : tie.Need-next-height-requires Inv-loop μ-loop
-next-height-requires c κs = search needs
+next-height-requires c κs = tt
 
 enum-known-next : tie.Need-enum-known-next Inv-loop μ-loop
 enum-known-next c = search needs
@@ -68,7 +68,7 @@ loop-less c =
 loop-again : tie.Need-loop-again Inv-loop μ-loop
 loop-again c =
     let a = c .before .before .before .before .before .before .before .before .before .before .before .before .before .before .before .before .before .before .before .before .before .args in
-    (omega (arith, c .before .before .before .before .step-to .kept, c .before .before .before .before .before .before .before .before .before .before .before .loop .inv .0), omega (arith, c .before .before .before .before .step-to .kept, c .before .before .before .before .before .before .before .before .before .before .before .loop .inv .1), along-on (ahead (edge (space (a .w) (now (a .cells)) (now (a .perms)) (now (a .shapes)) (now (a .boxes))) (a .r) (a .body) (a .at .point) (target (c .before .before .before .before .before .before .before .before .before .before .before .before .before .column-centre .result) (c .before .before .before .before .before .before .before .before .next .given .0 .0))) []) (c .before .before .before .before .before .before .before .before .before .before .before .loop .inv .2) (goes-on (space (a .w) (now (a .cells)) (now (a .perms)) (now (a .shapes)) (now (a .boxes))) (a .r) (a .body) (a .at .point) (a .n) (c .before .before .before .before .before .before .before .before .before .before .before .loop .after) (c .before .before .before .before .before .before .before .before .before .before .before .before .band-of .ensures) (c .before .before .before .before .before .before .before .before .before .before .before .before .before .column-centre .ensures) (c .before .before .before .before .before .before .before .before .before .before .next-height .ensures) _ (c .before .before .before .before .before .before .before .before .next .given .1)) (λ vs g. went-more g (c .before .before .before .before .step-to .ensures)))
+    (c .before .before .before .before .step-to .kept .1 .1 .1 .1 .1 .1 .1 .0 ∙ c .before .before .before .before .before .before .before .before .before .before .before .loop .inv .0, c .before .before .before .before .step-to .kept .1 .1 .1 .1 .1 .1 .1 .1 .0 ∙ c .before .before .before .before .before .before .before .before .before .before .before .loop .inv .1, along-on (ahead (edge (space (a .w) (now (a .cells)) (now (a .perms)) (now (a .shapes)) (now (a .boxes))) (a .r) (a .body) (a .at .point) (target (c .before .before .before .before .before .before .before .before .before .before .before .before .before .column-centre .result) (c .before .before .before .before .before .before .before .before .next .given .0 .0))) []) (c .before .before .before .before .before .before .before .before .before .before .before .loop .inv .2) (goes-on (space (a .w) (now (a .cells)) (now (a .perms)) (now (a .shapes)) (now (a .boxes))) (a .r) (a .body) (a .at .point) (a .n) (c .before .before .before .before .before .before .before .before .before .before .before .loop .after) (c .before .before .before .before .before .before .before .before .before .before .before .before .band-of .ensures) (c .before .before .before .before .before .before .before .before .before .before .before .before .before .column-centre .ensures) (c .before .before .before .before .before .before .before .before .before .before .next-height .ensures) _ (c .before .before .before .before .before .before .before .before .next .given .1)) (λ vs g. went-more g (c .before .before .before .before .step-to .ensures)))
 
 pub column-spec : {M : Type 1} → statement M
 column-spec =

@@ -3,7 +3,6 @@
 use Prim.Native.Nat.{_+_, _-_, _≤_}
 use mathlib.Core.Path.{_≡_, refl, sym, ap, _∙_}
 use native.Mathlib.Omega.{arith}
-use borrow.Author.Needs.{needs}
 use denote.Ref.{now}
 use lib.ListN.{length, length-append}
 use Rattle.world.specs.Space.{space}
@@ -23,7 +22,7 @@ abbrev μ-loop : tie.MeasureT-loop
 μ-loop w cells perms shapes boxes r body nodes₀ front₀ aim at gone₀ n₀ nodes front gone n = 9 - n
 
 none-requires : tie.Need-none-requires Inv-loop μ-loop
-none-requires c κs = search needs
+none-requires c κs = tt
 
 loop-holds : tie.Need-loop-holds Inv-loop μ-loop
 loop-holds c =
@@ -50,7 +49,7 @@ loop-again : tie.Need-loop-again Inv-loop μ-loop
 loop-again c =
     let a = c .before .before .before .before .before .before .before .before .before .before .before .before .before .before .before .before .args in
     let n = c .before .before .before .before .before .before .before .before .loop .n in
-    (omega (arith, c .before .before .before .before .before .before .before .loop-test .taken), omega (arith, c .before .before .before .before .around .kept, c .before .before .before .before .before .before .before .before .loop .inv .1), omega (arith, c .before .before .before .before .around .kept, c .before .before .before .before .before .before .before .before .loop .inv .2), c .before .before .before .before .around .ensures .answered, along-on (columnIf (space (a .w) (now (a .cells)) (now (a .perms)) (now (a .shapes)) (now (a .boxes))) (a .r) (a .body) (a .at .point) n) (c .before .before .before .before .before .before .before .before .loop .inv .4) (columns-on (space (a .w) (now (a .cells)) (now (a .perms)) (now (a .shapes)) (now (a .boxes))) (a .r) (a .body) (a .at .point) n (c .before .before .before .before .before .before .before .loop-test .taken)) (λ vs g. stepped-more g (c .before .before .before .before .around .ensures .steps)))
+    (omega (arith, c .before .before .before .before .before .before .before .loop-test .taken), c .before .before .before .before .around .kept .1 .1 .1 .1 .1 .1 .1 .0 ∙ c .before .before .before .before .before .before .before .before .loop .inv .1, c .before .before .before .before .around .kept .1 .1 .1 .1 .1 .1 .1 .1 .0 ∙ c .before .before .before .before .before .before .before .before .loop .inv .2, c .before .before .before .before .around .ensures .answered, along-on (columnIf (space (a .w) (now (a .cells)) (now (a .perms)) (now (a .shapes)) (now (a .boxes))) (a .r) (a .body) (a .at .point) n) (c .before .before .before .before .before .before .before .before .loop .inv .4) (columns-on (space (a .w) (now (a .cells)) (now (a .perms)) (now (a .shapes)) (now (a .boxes))) (a .r) (a .body) (a .at .point) n (c .before .before .before .before .before .before .before .loop-test .taken)) (λ vs g. stepped-more g (c .before .before .before .before .around .ensures .steps)))
 
 same-length : tie.Need-same-length Inv-loop μ-loop
 same-length c = c .before .before .loop .inv .1

@@ -6,7 +6,7 @@ use Rattle.search.proofs.columns.step_to.Statement.{statement}
 use Rattle.search.proofs.columns.step_to.Tie as tie
 
 edge-requires : tie.Need-edge-requires
-edge-requires c κs = search needs
+edge-requires c κs = tt
 
 enum-known-way : tie.Need-enum-known-way
 enum-known-way c = search needs
@@ -18,22 +18,22 @@ returns : tie.Need-returns
 returns c = went-nowhere _ (sym (c .enum-told .given .1) ∙ c .before .before .edge .ensures) (c .before .before .before .before .before .before .before .before .before .before .pre .0 .few)
 
 feet-of-requires : tie.Need-feet-of-requires
-feet-of-requires c κs = search needs
+feet-of-requires c κs = tt
 
 label-of-requires : tie.Need-label-of-requires
-label-of-requires c κs = search needs
+label-of-requires c κs = tt
 
 visit-requires : tie.Need-visit-requires
-visit-requires c κs = search needs
+visit-requires c κs = tt
 
 is-level-requires : tie.Need-is-level-requires
-is-level-requires c κs = search needs
+is-level-requires c κs = tt
 
 same-length : tie.Need-same-length
-same-length c = search needs
+same-length c = c .before .before .before .before .before .before .visit .kept .0
 
 same-length-2 : tie.Need-same-length-2
-same-length-2 c = search needs
+same-length-2 c = c .before .before .before .before .before .before .visit .kept .1 .0
 
 returns-2 : tie.Need-returns-2
 returns-2 c =

@@ -5,7 +5,6 @@ use mathlib.Core.Option.{none, some}
 use lib.ListN.{length}
 use denote.Ref.{now}
 use borrow.Author.Tests.{not-true, not-false}
-use borrow.Author.Needs.{needs}
 use Rattle.world.specs.Space.{space}
 use Rattle.tables.specs.BadWorld.{badWorld}
 use Rattle.request.specs.Request.{validRequest, tooLarge}
@@ -18,10 +17,10 @@ use Rattle.search.proofs.find.find_walk_path.Statement.{statement}
 use Rattle.search.proofs.find.find_walk_path.Tie as tie
 
 bad-world-requires : tie.Need-bad-world-requires
-bad-world-requires c κs = search needs
+bad-world-requires c κs = tt
 
 without-search-requires : tie.Need-without-search-requires
-without-search-requires c κs = search needs
+without-search-requires c κs = tt
 
 returns : tie.Need-returns
 returns c =
@@ -30,10 +29,10 @@ returns c =
     leaves (a .w) (now (a .cells)) (now (a .perms)) (now (a .shapes)) (now (a .boxes)) (a .r) (a .body) (now (a .nodes)) (now (a .front)) (now (a .out)) (some BadWorld) (out-bad-world (a .w) (now (a .cells)) (now (a .perms)) (now (a .shapes)) (now (a .boxes)) (a .r) (a .body) (length (now (a .nodes))) (length (now (a .front))) (length (now (a .out))) way) (c .without-search .ensures) refl refl refl
 
 valid-request-requires : tie.Need-valid-request-requires
-valid-request-requires c κs = search needs
+valid-request-requires c κs = tt
 
 without-search-requires-2 : tie.Need-without-search-requires-2
-without-search-requires-2 c κs = search needs
+without-search-requires-2 c κs = tt
 
 returns-2 : tie.Need-returns-2
 returns-2 c =
@@ -43,10 +42,10 @@ returns-2 c =
     leaves (a .w) (now (a .cells)) (now (a .perms)) (now (a .shapes)) (now (a .boxes)) (a .r) (a .body) (now (a .nodes)) (now (a .front)) (now (a .out)) (some Unreachable) (out-invalid (a .w) (now (a .cells)) (now (a .perms)) (now (a .shapes)) (now (a .boxes)) (a .r) (a .body) (length (now (a .nodes))) (length (now (a .front))) (length (now (a .out))) world way) (c .without-search2 .ensures) refl refl refl
 
 too-large-requires : tie.Need-too-large-requires
-too-large-requires c κs = search needs
+too-large-requires c κs = tt
 
 without-search-requires-3 : tie.Need-without-search-requires-3
-without-search-requires-3 c κs = search needs
+without-search-requires-3 c κs = tt
 
 returns-3 : tie.Need-returns-3
 returns-3 c =
@@ -57,10 +56,10 @@ returns-3 c =
     leaves (a .w) (now (a .cells)) (now (a .perms)) (now (a .shapes)) (now (a .boxes)) (a .r) (a .body) (now (a .nodes)) (now (a .front)) (now (a .out)) (some TooLarge) (out-too-large (a .w) (now (a .cells)) (now (a .perms)) (now (a .shapes)) (now (a .boxes)) (a .r) (a .body) (length (now (a .nodes))) (length (now (a .front))) (length (now (a .out))) world valid way) (c .without-search3 .ensures) refl refl refl
 
 no-room-requires : tie.Need-no-room-requires
-no-room-requires c κs = search needs
+no-room-requires c κs = tt
 
 without-search-requires-4 : tie.Need-without-search-requires-4
-without-search-requires-4 c κs = search needs
+without-search-requires-4 c κs = tt
 
 returns-4 : tie.Need-returns-4
 returns-4 c =
@@ -72,10 +71,10 @@ returns-4 c =
     leaves (a .w) (now (a .cells)) (now (a .perms)) (now (a .shapes)) (now (a .boxes)) (a .r) (a .body) (now (a .nodes)) (now (a .front)) (now (a .out)) (some NoRoom) (out-no-room (a .w) (now (a .cells)) (now (a .perms)) (now (a .shapes)) (now (a .boxes)) (a .r) (a .body) (length (now (a .nodes))) (length (now (a .front))) (length (now (a .out))) world valid small way) (c .without-search4 .ensures) refl refl refl
 
 ends-good-requires : tie.Need-ends-good-requires
-ends-good-requires c κs = search needs
+ends-good-requires c κs = tt
 
 without-search-requires-5 : tie.Need-without-search-requires-5
-without-search-requires-5 c κs = search needs
+without-search-requires-5 c κs = tt
 
 returns-5 : tie.Need-returns-5
 returns-5 c =
@@ -88,7 +87,7 @@ returns-5 c =
     leaves (a .w) (now (a .cells)) (now (a .perms)) (now (a .shapes)) (now (a .boxes)) (a .r) (a .body) (now (a .nodes)) (now (a .front)) (now (a .out)) (some Unreachable) (out-bad-end (a .w) (now (a .cells)) (now (a .perms)) (now (a .shapes)) (now (a .boxes)) (a .r) (a .body) (length (now (a .nodes))) (length (now (a .front))) (length (now (a .out))) world valid small room way) (c .without-search5 .ensures) refl refl refl
 
 without-search-requires-6 : tie.Need-without-search-requires-6
-without-search-requires-6 c κs = search needs
+without-search-requires-6 c κs = tt
 
 returns-6 : tie.Need-returns-6
 returns-6 c =
@@ -109,13 +108,13 @@ search-requires c κs =
     ((small, room .node-room, room .front-room, room .out-room), steps-bounded (a .w) (now (a .cells)) (now (a .perms)) (now (a .shapes)) (now (a .boxes)) (a .r) (a .body) world)
 
 same-length : tie.Need-same-length
-same-length c = search needs
+same-length c = c .before .before .before .before .before .before .search .kept .1 .1 .1 .1 .1 .1 .1 .0
 
 same-length-2 : tie.Need-same-length-2
-same-length-2 c = search needs
+same-length-2 c = c .before .before .before .before .before .before .search .kept .1 .1 .1 .1 .1 .1 .1 .1 .0
 
 same-length-3 : tie.Need-same-length-3
-same-length-3 c = search needs
+same-length-3 c = c .before .before .before .before .before .before .search .kept .1 .1 .1 .1 .1 .1 .1 .1 .1 .0
 
 returns-7 : tie.Need-returns-7
 returns-7 c =

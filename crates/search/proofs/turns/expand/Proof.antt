@@ -18,7 +18,7 @@ use Rattle.search.proofs.turns.expand.Statement.{statement}
 use Rattle.search.proofs.turns.expand.Tie as tie
 
 pick-requires : tie.Need-pick-requires
-pick-requires c κs = search needs
+pick-requires c κs = tt
 
 same-length : tie.Need-same-length
 same-length c = search needs
@@ -30,16 +30,16 @@ returns c =
     turned-rest (a .aim) (space (a .w) (now (a .cells)) (now (a .perms)) (now (a .shapes)) (now (a .boxes))) (a .r) (a .body) (a .c) (now (a .nodes)) (now (a .front)) (c .before .before .before .before .before .before .before .before .before .pre .0 .few) h
 
 close-requires : tie.Need-close-requires
-close-requires c κs = search needs
+close-requires c κs = tt
 
 same-point-requires : tie.Need-same-point-requires
-same-point-requires c κs = search needs
+same-point-requires c κs = tt
 
 same-length-2 : tie.Need-same-length-2
-same-length-2 c = search needs
+same-length-2 c = c .before .before .before .before .before .before .before .before .before .before .close .kept .0
 
 same-length-3 : tie.Need-same-length-3
-same-length-3 c = search needs
+same-length-3 c = c .before .before .before .before .before .before .before .before .before .before .close .kept .1 .0
 
 returns-2 : tie.Need-returns-2
 returns-2 c =
@@ -50,16 +50,16 @@ returns-2 c =
     turned-at (a .aim) (space (a .w) (now (a .cells)) (now (a .perms)) (now (a .shapes)) (now (a .boxes))) (a .r) (a .body) (a .c) (now (a .nodes)) (now (a .front)) (c .before .before .before .before .before .before .before .before .before .before .before .before .before .before .before .before .before .before .before .before .before .before .pre .1 .0) k (c .before .before .before .before .before .before .before .before .before .before .before .before .before .before .pick .ensures) (c .before .before .before .before .before .before .before .before .before .before .before .before .before .if1 .left) shut i
 
 point-of-requires : tie.Need-point-of-requires
-point-of-requires c κs = search needs
+point-of-requires c κs = tt
 
 connector-requires : tie.Need-connector-requires
-connector-requires c κs = search needs
+connector-requires c κs = tt
 
 enum-known-last : tie.Need-enum-known-last
 enum-known-last c = search needs
 
 label-of-requires : tie.Need-label-of-requires
-label-of-requires c κs = search needs
+label-of-requires c κs = tt
 
 enum-told : tie.Need-enum-told
 enum-told c = search needs
@@ -67,13 +67,13 @@ enum-told c = search needs
 columns-requires : tie.Need-columns-requires
 columns-requires c κs =
     let shut = is-closed (c .before .before .before .before .before .before .before .before .before .before .before .before .before .before .before .before .before .before .before .before .before .before .before .before .before .before .before .before .pre .0) (c .before .before .before .before .before .before .before .before .before .before .before .before .before .before .before .before .before .before .before .if1 .left) (c .before .before .before .before .before .before .before .before .before .before .before .before .before .before .before .before .close .ensures) in
-    (ready-after (c .before .before .before .before .before .before .before .before .before .before .before .before .before .before .before .before .before .before .before .before .before .before .before .before .before .before .before .before .pre .0) (shut .near) (omega (arith, c .before .before .before .before .before .before .before .before .before .before .before .before .before .before .before .before .before .before .before .before .before .before .before .before .before .before .before .before .pre .1 .1 (c .before .before .before .before .before .point-of .result))) (omega (arith, c .before .before .before .before .before .before .before .before .before .before .before .before .before .before .before .before .close .kept)) (omega (arith, c .before .before .before .before .before .before .before .before .before .before .before .before .before .before .before .before .close .kept)), omega (arith, c .before .before .before .before .before .before .before .before .before .before .before .before .before .before .before .before .before .before .before .if1 .left, shut .near .more))
+    (ready-after (c .before .before .before .before .before .before .before .before .before .before .before .before .before .before .before .before .before .before .before .before .before .before .before .before .before .before .before .before .pre .0) (shut .near) (omega (arith, c .before .before .before .before .before .before .before .before .before .before .before .before .before .before .before .before .before .before .before .before .before .before .before .before .before .before .before .before .pre .1 .1 (c .before .before .before .before .before .point-of .result))) (c .before .before .before .before .before .before .before .before .before .before .before .before .before .before .before .before .close .kept .0) (c .before .before .before .before .before .before .before .before .before .before .before .before .before .before .before .before .close .kept .1 .0), omega (arith, c .before .before .before .before .before .before .before .before .before .before .before .before .before .before .before .before .before .before .before .if1 .left, shut .near .more))
 
 same-length-4 : tie.Need-same-length-4
-same-length-4 c = search needs
+same-length-4 c = c .before .before .before .before .before .before .before .before .before .before .before .before .before .before .before .before .close .kept .0
 
 same-length-5 : tie.Need-same-length-5
-same-length-5 c = search needs
+same-length-5 c = c .before .before .before .before .before .before .before .before .before .before .before .before .before .before .before .before .close .kept .1 .0
 
 returns-3 : tie.Need-returns-3
 returns-3 c =
@@ -86,10 +86,10 @@ returns-3 c =
     turned-by (a .aim) (space (a .w) (now (a .cells)) (now (a .perms)) (now (a .shapes)) (now (a .boxes))) (a .r) (a .body) (a .c) (now (a .nodes)) (now (a .front)) (c .before .before .before .before .before .before .before .before .before .before .before .before .before .before .before .before .before .before .before .before .before .before .before .before .before .before .before .before .pre .1 .0) k (c .before .before .before .before .before .before .before .before .before .before .before .before .before .before .before .before .before .before .before .before .pick .ensures) (c .before .before .before .before .before .before .before .before .before .before .before .before .before .before .before .before .before .before .before .if1 .left) shut (c .label-of .result) (c .before .before .last .given .0 .0) i j (c .label-of .ensures)
 
 same-length-6 : tie.Need-same-length-6
-same-length-6 c = omega (arith, c .before .before .before .before .columns .kept, c .before .before .before .before .before .before .before .before .before .before .before .before .before .before .before .before .before .before .before .before .before .close .kept)
+same-length-6 c = c .before .before .before .before .columns .kept .1 .1 .1 .1 .1 .1 .1 .0 ∙ c .before .before .before .before .before .before .before .before .before .before .before .before .before .before .before .before .before .before .before .before .before .close .kept .0
 
 same-length-7 : tie.Need-same-length-7
-same-length-7 c = omega (arith, c .before .before .before .before .columns .kept, c .before .before .before .before .before .before .before .before .before .before .before .before .before .before .before .before .before .before .before .before .before .close .kept)
+same-length-7 c = c .before .before .before .before .columns .kept .1 .1 .1 .1 .1 .1 .1 .1 .0 ∙ c .before .before .before .before .before .before .before .before .before .before .before .before .before .before .before .before .before .before .before .before .before .close .kept .1 .0
 
 returns-4 : tie.Need-returns-4
 returns-4 c =

@@ -9,25 +9,25 @@ enum-known-turn : tie.Need-enum-known-turn
 enum-known-turn c = search needs
 
 verdict-requires : tie.Need-verdict-requires
-verdict-requires c κs = search needs
+verdict-requires c κs = tt
 
 enum-known-turn-2 : tie.Need-enum-known-turn-2
 enum-known-turn-2 c = search needs
 
 verdict-requires-2 : tie.Need-verdict-requires-2
-verdict-requires-2 c κs = search needs
+verdict-requires-2 c κs = tt
 
 enum-known-turn-3 : tie.Need-enum-known-turn-3
 enum-known-turn-3 c = search needs
 
 list-at-requires : tie.Need-list-at-requires
-list-at-requires c κs = search needs
+list-at-requires c κs = tt
 
 enum-known-turn-4 : tie.Need-enum-known-turn-4
 enum-known-turn-4 c = search needs
 
 list-by-requires : tie.Need-list-by-requires
-list-by-requires c κs = search needs
+list-by-requires c κs = tt
 
 returns : tie.Need-returns
 returns c =
@@ -40,7 +40,7 @@ returns-2 c =
     concludes-going (now (a .nodes)) (a .goal) (a .turn) _ (now (a .out)) _ (c .before .before .turn2 .given .1) (c .verdict2 .ensures)
 
 same-length : tie.Need-same-length
-same-length c = search needs
+same-length c = c .before .before .list-at .kept .1 .1 .1 .0
 
 returns-3 : tie.Need-returns-3
 returns-3 c =
@@ -48,7 +48,7 @@ returns-3 c =
     concludes-at (now (a .nodes)) (a .goal) (a .turn) _ (now (a .out)) _ _ _ (c .before .before .before .before .before .turn3 .given .1) (c .before .before .list-at .ensures)
 
 same-length-2 : tie.Need-same-length-2
-same-length-2 c = search needs
+same-length-2 c = c .before .before .list-by .kept .1 .1 .1 .1 .1 .0
 
 returns-4 : tie.Need-returns-4
 returns-4 c =
