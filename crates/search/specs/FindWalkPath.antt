@@ -59,6 +59,10 @@ listIn explore.Searching = []
 
 -- ---- before the search
 
+-- the answer where no search began: "retained and closed nodes (0 if no search began)", "On 1 to 5 .. its count is 0"
+abbrev pub unsearched : Outcome → Answer
+unsearched o = record { outcome = o; count = 0; retained = 0; closed = 0 }
+
 -- "5 NoRoom: node or frontier room under node_budget records, output under node_budget + 1": rooms of so many bytes
 unfoldable pub noRoom : ℕ → ℕ → ℕ → ℕ → Bool
 noRoom budget nodes front out = ltb nodes (56 * budget) || ltb front (24 * budget) || ltb out (40 * (budget + 1))
@@ -79,10 +83,10 @@ module _ (w : Window) (cells perms shapes boxes : List ℕ) (r : Request) (body 
       (cond (eqb (r .«node_budget») 0) (some BudgetExceeded)
       none)))))
 
-  -- ---- the answer: "retained and closed nodes (0 if no search began)", "On 1 to 5 .. its count is 0"
+  -- ---- the answer: the search's, or that without one
 
   abbrev pub answerBy : Option Outcome → Answer
-  answerBy (some o) = record { outcome = o; count = 0; retained = 0; closed = 0 }
+  answerBy (some o) = unsearched o
   answerBy none = record {
     outcome = toldBy (endOf here r body);
     count = length (listIn (endOf here r body));

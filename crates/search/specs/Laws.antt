@@ -2,3 +2,5 @@
 pub mod Steps
 pub mod Turns
 pub mod Runs
+pub mod Whole
+pub mod Find

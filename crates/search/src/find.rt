@@ -7,15 +7,19 @@ use world::Request;
 use world::Window;
 ghost use mathlib.Core.Path.{_≡_};
 ghost use lib.ListN.{length};
-ghost use Rattle.search.specs.FindWalkPath.{found, nodesAfter, frontAfter, outAfter};
+ghost use Rattle.search.specs.FindWalkPath.{unsearched, noRoom, found, nodesAfter, frontAfter, outAfter};
 
 // An answer without a search.
-fn without_search(outcome: Outcome) -> Answer {
+fn without_search(outcome: Outcome) -> Answer
+    ensures { λ a. ⌜ a ≡ unsearched outcome ⌝ }
+{
     Answer { outcome, count: 0, retained: 0, closed: 0 }
 }
 
 // Whether rooms of so many bytes are too small for a budget.
-fn no_room(budget: u64, nodes: usize, front: usize, out: usize) -> bool {
+fn no_room(budget: u64, nodes: usize, front: usize, out: usize) -> bool
+    ensures { λ a. ⌜ a ≡ noRoom budget nodes front out ⌝ }
+{
     let n = budget as usize;
     (nodes / 56 < n) | (front / 24 < n) | (out / 40 <= n)
 }

@@ -14,17 +14,24 @@ ghost use mathlib.Core.Option.{none};
 ghost use Prim.Native.Nat.{_+_, _*_, _≤_};
 ghost use lib.ListN.{length};
 ghost use Rattle.world.specs.Space.{space};
-ghost use Rattle.search.specs.FindWalkPath.{answerBy, nodesBy, frontBy, outBy};
-ghost use Rattle.search.specs.Turns.{Bounded};
+ghost use Rattle.rooms.specs.Lists.{written};
+ghost use Rattle.search.specs.FindWalkPath.{listIn, answerBy, nodesBy, frontBy, outBy};
+ghost use Rattle.search.specs.Turns.{Bounded, countsOf};
+ghost use Rattle.search.specs.Laws.Whole.{endQuiet, endAt, answerOf};
 
 // The answer of a search that found no list: nothing waits any more.
-fn verdict(c: Counts) -> Answer {
+fn verdict(c: Counts) -> Answer
+    ensures { λ a. ⌜ a ≡ answerOf c (endQuiet (c .dropped)) ⌝ }
+{
     let outcome = if c.dropped == 0 { Outcome::Unreachable } else { Outcome::BudgetExceeded };
     Answer { outcome, count: 0, retained: c.retained, closed: c.closed }
 }
 
 // The answer that an end of the run makes, with its list written.
-fn conclude(nodes: &[u8], goal: Feet, turn: Turn, out: &mut [u8]) -> Answer {
+fn conclude(nodes: &[u8], goal: Feet, turn: Turn, out: &mut [u8]) -> Answer
+    ensures { λ a. ⌜ a ≡ answerOf (countsOf turn) (endAt (now (nodes .entry)) goal turn) ⌝ }
+    ensures { λ _. ⌜ now (out .exit) ≡ written (listIn (endAt (now (nodes .entry)) goal turn)) (now (out .entry)) ⌝ }
+{
     match turn {
         Turn::Rest(c) => verdict(c),
         Turn::Going(c) => verdict(c),

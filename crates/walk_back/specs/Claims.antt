@@ -18,11 +18,12 @@ use Rattle.world.specs.Space.{Space, space}
 use Rattle.tables.specs.BadWorld.{badWorld}
 use Rattle.request.specs.Request.{validRequest, sizesTooLarge}
 use Rattle.edges.specs.Edges.{inRange, standable}
+use Rattle.ends.specs.Ends.{endsGood}
 use Rattle.steps.specs.Words.{graph}
 use Rattle.walk_back.specs.declared.Walked.{Walked}
 use Rattle.walk_back.specs.declared.Walked.the-variants.{Yes, No, BadWorld, TooLarge}
 use Rattle.walk_back.specs.Listed.{waypoints}
-use Rattle.walk_back.specs.WalkBack.{endsGood, isRouteList, RouteList, walked}
+use Rattle.walk_back.specs.WalkBack.{isRouteList, RouteList, walked}
 
 -- ---- the test of a list
 

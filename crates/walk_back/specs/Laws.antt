@@ -20,6 +20,7 @@ use Rattle.edges.specs.declared.answer.Waypoint.{Waypoint}
 use Rattle.edges.specs.declared.answer.EdgeAnswer.{EdgeAnswer}
 use Rattle.edges.specs.declared.answer.EdgeAnswer.the-variants.{To, Nowhere}
 use Rattle.edges.specs.Edges.{edge, connector}
+use Rattle.ends.specs.Ends.{endsGood}
 use Rattle.heights.specs.declared.Band.{Band}
 use Rattle.heights.specs.declared.Height.{Height}
 use Rattle.heights.specs.declared.Height.the-variants.{At, None}
@@ -38,7 +39,7 @@ use Rattle.walk_back.specs.declared.listed.Listed.{Listed}
 use Rattle.walk_back.specs.declared.pairs.Looked.{Looked}
 use Rattle.walk_back.specs.declared.pairs.Looked.the-variants.{Met, Passed}
 use Rattle.walk_back.specs.Listed.{listedAt, feet, label, entry, entriesFrom, waypoints}
-use Rattle.walk_back.specs.WalkBack.{endsGood, isRouteList}
+use Rattle.walk_back.specs.WalkBack.{isRouteList}
 
 -- ---- one edge, and the edges of a column
 

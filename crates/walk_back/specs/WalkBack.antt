@@ -14,6 +14,7 @@ use Rattle.world.specs.Space.{Space, space}
 use Rattle.tables.specs.BadWorld.{badWorld}
 use Rattle.request.specs.Request.{validRequest, sizesTooLarge}
 use Rattle.edges.specs.Edges.{inRange, standable}
+use Rattle.ends.specs.Ends.{endsGood}
 use Rattle.steps.specs.Words.{graph}
 use Rattle.walk_back.specs.declared.Walked.{Walked}
 use Rattle.walk_back.specs.declared.Walked.the-variants.{Yes, No, BadWorld, TooLarge}
@@ -27,14 +28,10 @@ walkedNumber Yes = 10
 walkedNumber No = 11
 
 module _ (sp : Space) (r : Request) (body : Body) where
-  -- "goal in range; both ends standable"
-  unfoldable pub endsGood : Bool
-  endsGood = inRange r (r .goal) && standable sp body (r .start) && standable sp body (r .goal)
-
   -- The test of a list: no partial record, good ends, and from the start by graph steps to the goal, the last pair allowed to be a connector. An empty list
   -- fails it, and so does a movement above 3, for no edge has one.
   unfoldable pub isRouteList : List ℕ → Bool
-  isRouteList list = eqb (length list % 40) 0 && endsGood && isRoute (graph sp r body) (waypoints list)
+  isRouteList list = eqb (length list % 40) 0 && endsGood sp r body && isRoute (graph sp r body) (waypoints list)
 
   -- "Route: valid request; goal in range; both ends standable; points compared by that rule, the start first (Walk, lift 0); each pair a graph step with its
   -- edge's movement and lift, the last pair allowed to be a connector; the last point equal to the goal": a list of whole records that is one. No search

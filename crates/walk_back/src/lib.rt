@@ -11,7 +11,7 @@ ghost use Rattle.world.specs.Space.{space};
 ghost use Rattle.exploration.specs.WalkBack.{isWay};
 ghost use Rattle.steps.specs.Words.{graph};
 ghost use Rattle.walk_back.specs.Listed.{listedAt, feet, entriesFrom};
-ghost use Rattle.walk_back.specs.WalkBack.{endsGood, isRouteList, walked};
+ghost use Rattle.walk_back.specs.WalkBack.{isRouteList, walked};
 pub use listed::Listed;
 use world::Body;
 use world::Request;
@@ -23,29 +23,6 @@ pub enum Walked {
     No,
     BadWorld,
     TooLarge,
-}
-
-// Whether the goal is in range and both ends are standable.
-fn ends_good(
-    w: Window,
-    cells: &[u8],
-    perms: &[u8],
-    shapes: &[u8],
-    boxes: &[u8],
-    r: Request,
-    body: Body,
-) -> bool
-    ensures { λ a. ⌜ a ≡ endsGood (space w (now (cells .entry)) (now (perms .entry)) (now (shapes .entry)) (now (boxes .entry))) r body ⌝ }
-{
-    let start = r.start;
-    let goal = r.goal;
-    if !edges::in_range(r, goal) {
-        return false;
-    }
-    if !edges::standable(w, cells, perms, shapes, boxes, body, start) {
-        return false;
-    }
-    edges::standable(w, cells, perms, shapes, boxes, body, goal)
 }
 
 // Whether the records behind the first lead from it to the goal.
@@ -102,7 +79,7 @@ fn is_route(
     if !listed::is_start(r.start, listed::listed_at(list, 0)) {
         return false;
     }
-    if !ends_good(w, cells, perms, shapes, boxes, r, body) {
+    if !ends::ends_good(w, cells, perms, shapes, boxes, r, body) {
         return false;
     }
     leads(w, cells, perms, shapes, boxes, r, body, list)

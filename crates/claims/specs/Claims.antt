@@ -1,0 +1,102 @@
+-- What the contract of `find_walk_path` says of a budget, and of its list: one theorem a claim, of the inputs of a call, in the words of 01, of the contract
+-- (FindWalkPath of `search`) and of Words.
+use Prim.Native.Nat.{ℕ, _+_, _*_, _≤_, _<_}
+use mathlib.Core.Path.{_≡_}
+use mathlib.Core.Bool.{true}
+use mathlib.Core.Option.{none}
+use mathlib.Core.List.{List, _++_}
+use mathlib.Core.Logic.{_≢_}
+use native.Mathlib.Omega.{arith}
+use lib.ListN.{length, take, drop}
+use Rattle.exploration.specs.Lists.{has, count}
+use Rattle.exploration.specs.Graph.{Reach}
+use Rattle.world.specs.declared.Body.{Body}
+use Rattle.world.specs.declared.Request.{Request}
+use Rattle.world.specs.declared.Window.{Window}
+use Rattle.world.specs.Space.{Space, space}
+use Rattle.steps.specs.Words.{graph}
+use Rattle.rooms.specs.declared.Feet.{Feet}
+use Rattle.rooms.specs.declared.Label.{Label}
+use Rattle.rooms.specs.Lists.{listBytes}
+use Rattle.rooms.specs.Waypoints.{samePoint}
+use Rattle.search.specs.declared.answers.Answer.{Answer}
+use Rattle.search.specs.declared.answers.Outcome.the-variants.{Found, Unreachable, BudgetExceeded}
+use Rattle.search.specs.FindWalkPath.{outcomeNumber, ended, withoutSearch, found, outAfter}
+use Rattle.walk_back.specs.declared.Walked.the-variants.{Yes}
+use Rattle.walk_back.specs.WalkBack.{walked}
+use Rattle.claims.specs.Words.{withBudget, IsRoute, InF64}
+use Rattle.claims.specs.Laws.Calls as calls
+use Rattle.claims.specs.Laws.Accepted.{accepted}
+
+module _ (w : Window) (cells perms shapes boxes : List ℕ) (r : Request) (body : Body) (nodes front out : List ℕ) where
+  -- the space of the tables; the call's answer, and its answer with another budget and other rooms; what it leaves in the output
+  abbrev sp : Space
+  sp = space w cells perms shapes boxes
+
+  abbrev answer : Answer
+  answer = found w cells perms shapes boxes r body (length nodes) (length front) (length out)
+
+  abbrev answerWith : ℕ → (nodes′ front′ out′ : List ℕ) → Answer
+  answerWith b nodes′ front′ out′ = found w cells perms shapes boxes (withBudget b r) body (length nodes′) (length front′) (length out′)
+
+  abbrev output : List ℕ
+  output = outAfter w cells perms shapes boxes r body nodes front out
+
+  -- Found: the list that the output begins with is a route by 01, of at most one point more than the budget, and the output past it is as it was.
+  pub found-is-a-route : answer .outcome ≡ Found →
+      (t : List (Feet × Label)) × IsRoute sp r body t
+      × (output ≡ listBytes t ++ drop (40 * length t) out)
+      × (answer .count ≡ length t)
+      × (length t ≤ r .«node_budget» + 1)
+  found-is-a-route e =
+      let c = calls.count-of w cells perms shapes boxes r body nodes front out e in (
+        calls.list w cells perms shapes boxes r body nodes front out,
+        calls.route-of w cells perms shapes boxes r body nodes front out e,
+        calls.out-of w cells perms shapes boxes r body nodes front out e,
+        c,
+        omega (arith, calls.count-within w cells perms shapes boxes r body nodes front out),
+      )
+
+  -- Found stays Found under every larger budget that draws no refusal ("Refusals are 3 to 9"), whatever the rooms.
+  pub found-stays-found : answer .outcome ≡ Found → (b : ℕ) (nodes′ front′ out′ : List ℕ) → r .«node_budget» ≤ b →
+      outcomeNumber (answerWith b nodes′ front′ out′ .outcome) < 3 → answerWith b nodes′ front′ out′ .outcome ≡ Found
+  found-stays-found e b nodes′ front′ out′ above h = calls.stays-found w cells perms shapes boxes r body nodes front out b above nodes′ front′ out′ e h
+
+  -- Unreachable stays Unreachable under every larger budget that draws no refusal, whatever the rooms.
+  pub unreachable-stays-unreachable : answer .outcome ≡ Unreachable → (b : ℕ) (nodes′ front′ out′ : List ℕ) → r .«node_budget» ≤ b →
+      outcomeNumber (answerWith b nodes′ front′ out′ .outcome) < 3 → answerWith b nodes′ front′ out′ .outcome ≡ Unreachable
+  unreachable-stays-unreachable e b nodes′ front′ out′ above h =
+      calls.stays-unreachable w cells perms shapes boxes r body nodes front out b above nodes′ front′ out′ e h
+
+  -- Unreachable means that no list at all is a route: of an invalid request and of bad ends too.
+  pub unreachable-has-no-route : answer .outcome ≡ Unreachable → (t : List (Feet × Label)) → IsRoute sp r body t → ⊥
+  unreachable-has-no-route = calls.none-is-route w cells perms shapes boxes r body nodes front out
+
+  -- A budget for every point that graph steps reach from the start is never exceeded: points K cover them by 01's same point, and are no more than the budget.
+  pub enough-budget : (K : List Feet) → ((p : Feet) → Reach (graph sp r body) p → has (λ x. samePoint x p) K ≡ true) →
+      length K ≤ r .«node_budget» →
+      answer .outcome ≢ BudgetExceeded
+  enough-budget = calls.not-exceeded w cells perms shapes boxes r body nodes front out
+
+  -- So where there is a route, and the budget is for every such point and draws no refusal, Found is answered.
+  pub a-route-is-found : (t : List (Feet × Label)) → IsRoute sp r body t →
+      (K : List Feet) → ((p : Feet) → Reach (graph sp r body) p → has (λ x. samePoint x p) K ≡ true) → length K ≤ r .«node_budget» →
+      outcomeNumber (answer .outcome) < 3 → answer .outcome ≡ Found
+  a-route-is-found = calls.found-of w cells perms shapes boxes r body nodes front out
+
+  -- No input makes more retained nodes than the budget, more closed ones than retained ones, or more waypoints than the budget and one;
+  pub within-budget : (answer .retained ≤ r .«node_budget») × (answer .closed ≤ answer .retained) × (answer .count ≤ r .«node_budget» + 1)
+  within-budget = (
+    calls.retained-within w cells perms shapes boxes r body nodes front out,
+    calls.closed-within w cells perms shapes boxes r body nodes front out,
+    calls.count-within w cells perms shapes boxes r body nodes front out,
+  )
+
+  -- and where the search began, the closed count is how many of the nodes that it ended with are closed.
+  pub closed-are-counted : withoutSearch w cells perms shapes boxes r body (length nodes) (length front) (length out) ≡ none →
+      answer .closed ≡ count (λ n. n .closed) (ended sp r body .nodes)
+  closed-are-counted = calls.closed-counted w cells perms shapes boxes r body nodes front out
+
+  -- What the search writes, the walk-back accepts: for a request of f64s, as every caller's is.
+  pub walk-back-accepts : InF64 r → answer .outcome ≡ Found → walked w cells perms shapes boxes r body (take (40 * answer .count) output) ≡ Yes
+  walk-back-accepts = accepted w cells perms shapes boxes r body nodes front out

@@ -1,0 +1,63 @@
+-- The list that a search wrote, as the walk-back reads it.
+use Prim.Native.Nat.{ℕ, _*_}
+use mathlib.Core.Path.{_≡_, ap, _∙_}
+use mathlib.Core.List.{List}
+use lib.ListN.{length, take, drop}
+use Rattle.world.specs.declared.Body.{Body}
+use Rattle.world.specs.declared.Request.{Request}
+use Rattle.world.specs.declared.Window.{Window}
+use Rattle.world.specs.Space.{Space, space}
+use Rattle.steps.specs.Words.{pointOf}
+use Rattle.rooms.specs.declared.Feet.{Feet}
+use Rattle.rooms.specs.declared.Label.{Label}
+use Rattle.rooms.specs.Lists.{listBytes}
+use Rattle.search.specs.declared.answers.Outcome.the-variants.{Found}
+use Rattle.search.specs.declared.answers.Answer.{Answer}
+use Rattle.search.specs.FindWalkPath.{outAfter}
+use Rattle.walk_back.specs.declared.Walked.the-variants.{Yes}
+use Rattle.walk_back.specs.WalkBack.{RouteList, walked}
+use Rattle.walk_back.specs.Claims.{a-route-is-yes}
+use Rattle.claims.specs.Words.{IsRoute, InF64}
+use Rattle.claims.specs.Laws.Calls as calls
+use Rattle.claims.specs.Laws.Fits.{space-tops, steps-made}
+use Rattle.claims.specs.Laws.Below.{route-below}
+use Rattle.claims.specs.Laws.ReadBack.{list-back, list-whole, list-front}
+
+module _ (w : Window) (cells perms shapes boxes : List ℕ) (r : Request) (body : Body) where
+  abbrev sp : Space
+  sp = space w cells perms shapes boxes
+
+  -- a route in bytes is a list that is one
+  route-list : InF64 r → (t : List (Feet × Label)) → IsRoute sp r body t → RouteList sp r body (listBytes t)
+  route-list f t l = record {
+    valid = l .valid;
+    goal-in-range = l .goal-in-range;
+    start-standable = l .start-standable;
+    goal-standable = l .goal-standable;
+    whole = list-whole t;
+    way = rw (list-back (route-below sp r body f (λ p. steps-made sp r body (f .jump) (space-tops w cells perms shapes boxes) (pointOf p)) (l .way))) (l .way);
+  }
+
+  module _ (nodes front out : List ℕ) where
+    abbrev answer : Answer
+    answer = calls.answer w cells perms shapes boxes r body nodes front out
+
+    abbrev after : List ℕ
+    after = outAfter w cells perms shapes boxes r body nodes front out
+
+    abbrev list : List (Feet × Label)
+    list = calls.list w cells perms shapes boxes r body nodes front out
+
+    front-is : answer .outcome ≡ Found → take (40 * answer .count) after ≡ listBytes list
+    front-is e =
+        ap (λ (n : ℕ). take (40 * n) after) (calls.count-of w cells perms shapes boxes r body nodes front out e)
+        ∙ ap (take (40 * length list)) (calls.out-of w cells perms shapes boxes r body nodes front out e)
+        ∙ list-front list (drop (40 * length list) out)
+
+    pub accepted : InF64 r → answer .outcome ≡ Found → walked w cells perms shapes boxes r body (take (40 * answer .count) after) ≡ Yes
+    accepted f e =
+        ap (walked w cells perms shapes boxes r body) (front-is e)
+        ∙ a-route-is-yes w cells perms shapes boxes r body (listBytes list)
+        (calls.good-world w cells perms shapes boxes r body nodes front out e)
+        (calls.small-sizes w cells perms shapes boxes r body nodes front out e)
+        (route-list f list (calls.route-of w cells perms shapes boxes r body nodes front out e))

@@ -1,0 +1,215 @@
+-- The public call: its answer by the order of the tests, and what a search of it came to.
+use Prim.Native.Nat.{ℕ, _+_, _*_, _≤_, _<_}
+use native.Mathlib.Omega.{arith}
+use mathlib.Core.Path.{_≡_, refl, sym, ap, _∙_}
+use mathlib.Core.Bool.{Bool, true, false, _&&_}
+use mathlib.Core.Option.{Option, none, some}
+use mathlib.Core.List.{List, _++_}
+use mathlib.Core.Logic.{_≢_, ⊎-elim}
+use lib.Dec.{eqb}
+use lib.ListN.{length, drop}
+use borrow.Author.Tests.{eqb-true, eqb-false, ne-eqb}
+use Rattle.exploration.specs.Lists.{has, count}
+use Rattle.exploration.specs.Graph.{Reach}
+use Rattle.exploration.specs.Laws.Lists.{or-false, and-both, and-first, and-second}
+use Rattle.world.specs.declared.Body.{Body}
+use Rattle.world.specs.declared.Request.{Request}
+use Rattle.world.specs.declared.Window.{Window}
+use Rattle.world.specs.Space.{Space, space}
+use Rattle.tables.specs.BadWorld.{badWorld}
+use Rattle.request.specs.Request.{validRequest, sizesTooLarge, tooLarge}
+use Rattle.edges.specs.Edges.{inRange, standable}
+use Rattle.ends.specs.Ends.{endsGood}
+use Rattle.steps.specs.Words.{graph}
+use Rattle.rooms.specs.declared.Feet.{Feet}
+use Rattle.rooms.specs.declared.Label.{Label}
+use Rattle.rooms.specs.Lists.{listBytes}
+use Rattle.rooms.specs.Waypoints.{samePoint}
+use Rattle.search.specs.declared.answers.Outcome.{Outcome}
+use Rattle.search.specs.declared.answers.Outcome.the-variants.{Found, Unreachable, BudgetExceeded, BadWorld, TooLarge, NoRoom}
+use Rattle.search.specs.declared.answers.Answer.{Answer}
+use Rattle.search.specs.FindWalkPath.{outcomeNumber, ended, endOf, toldBy, listIn, noRoom, withoutSearch, answerBy, found, outAfter}
+use Rattle.claims.specs.Words.{withBudget, IsRoute}
+use Rattle.claims.specs.Laws.Budget.{valid-budget, ends-budget}
+use Rattle.claims.specs.Laws.Order.{order, told, Began, on-found, on-unreachable, on-exceeded, found-stays, unreachable-stays}
+use Rattle.claims.specs.Laws.Search as search
+
+-- ---- good ends, one by one
+
+module _ (sp : Space) (r : Request) (body : Body) where
+  end-parts : endsGood sp r body ≡ true → (inRange r (r .goal) ≡ true) × ((standable sp body (r .start) ≡ true) × (standable sp body (r .goal) ≡ true))
+  unfolding endsGood
+  end-parts e =
+      let two = and-first (inRange r (r .goal) && standable sp body (r .start)) _ e in (
+        and-first (inRange r (r .goal)) _ two,
+        (and-second (inRange r (r .goal)) _ two, and-second (inRange r (r .goal) && standable sp body (r .start)) _ e),
+      )
+
+  ends-of : {t : List (Feet × Label)} → IsRoute sp r body t → endsGood sp r body ≡ true
+  unfolding endsGood
+  ends-of l = and-both _ _ (and-both _ _ (l .goal-in-range) (l .start-standable)) (l .goal-standable)
+
+-- ---- a call
+
+module _ (w : Window) (cells perms shapes boxes : List ℕ) where
+  abbrev sp : Space
+  sp = space w cells perms shapes boxes
+
+  abbrev bad : Bool
+  bad = badWorld w cells shapes boxes
+
+  module _ (r : Request) (body : Body) (nodes front out : List ℕ) where
+    abbrev pub answer : Answer
+    answer = found w cells perms shapes boxes r body (length nodes) (length front) (length out)
+
+    abbrev pub without : Option Outcome
+    without = withoutSearch w cells perms shapes boxes r body (length nodes) (length front) (length out)
+
+    -- what the search comes to, and its list
+    abbrev came : Outcome
+    came = toldBy (endOf sp r body)
+
+    abbrev pub list : List (Feet × Label)
+    list = listIn (endOf sp r body)
+
+    abbrev full : Bool
+    full = noRoom (r .«node_budget») (length nodes) (length front) (length out)
+
+    abbrev nought : Bool
+    nought = eqb (r .«node_budget») 0
+
+    abbrev tests : Option Outcome
+    tests = order bad (validRequest r body) (tooLarge r body) full (endsGood sp r body) nought
+
+    by-tests : without ≡ tests
+    unfolding withoutSearch
+    by-tests = refl
+
+    by-order : answer .outcome ≡ told came tests
+    unfolding found
+    by-order = go without ∙ ap (told came) by-tests
+      where
+        go : (o : Option Outcome) → answerBy w cells perms shapes boxes r body o .outcome ≡ told came o
+        go (some o) = refl
+        go none = refl
+
+    -- ---- Found
+
+    begun : answer .outcome ≡ Found → Began bad (validRequest r body) (tooLarge r body) (endsGood sp r body) tests × (came ≡ Found)
+    begun e = on-found came bad (validRequest r body) (tooLarge r body) full (endsGood sp r body) nought (sym by-order ∙ e)
+
+    pub route-of : answer .outcome ≡ Found → IsRoute sp r body list
+    route-of e =
+        let b = begun e in let p = end-parts sp r body (b .0 .ends) in
+        record { valid = b .0 .valid; goal-in-range = p .0; start-standable = p .1 .0; goal-standable = p .1 .1; way = search.found-route sp r body (b .1) }
+
+    pub count-of : answer .outcome ≡ Found → answer .count ≡ length list
+    unfolding found
+    count-of e = let n = by-tests ∙ begun e .0 .begun in rw n
+
+    pub out-of : answer .outcome ≡ Found → outAfter w cells perms shapes boxes r body nodes front out ≡ listBytes list ++ drop (40 * length list) out
+    unfolding outAfter
+    out-of e = let n = by-tests ∙ begun e .0 .begun in rw n
+
+    pub good-world : answer .outcome ≡ Found → bad ≡ false
+    good-world e = begun e .0 .good
+
+    pub small-sizes : answer .outcome ≡ Found → sizesTooLarge r body ≡ false
+    unfolding tooLarge
+    small-sizes e = or-false (sizesTooLarge r body) _ (begun e .0 .small) .0
+
+    -- ---- Unreachable
+
+    pub none-is-route : answer .outcome ≡ Unreachable → (t : List (Feet × Label)) → IsRoute sp r body t → ⊥
+    none-is-route e t l = search.unreachable-route sp r body (on-unreachable came bad (tooLarge r body) full nought said) t (l .way)
+      where
+        said : told came (order bad true (tooLarge r body) full true nought) ≡ Unreachable
+        said = let v = l .valid in let g = ends-of sp r body l in rw (v, g) at (sym by-order ∙ e)
+
+    -- ---- BudgetExceeded
+
+    pub not-exceeded : (K : List Feet) → ((p : Feet) → Reach (graph sp r body) p → has (λ x. samePoint x p) K ≡ true) → length K ≤ r .«node_budget» →
+        answer .outcome ≢ BudgetExceeded
+    not-exceeded K c h e =
+        ⊎-elim (λ z. search.covers-some sp r body K c (omega (arith, eqb-true (r .«node_budget») 0 z))) (λ x. search.covered sp r body K c h x)
+        (on-exceeded came bad (validRequest r body) (tooLarge r body) full (endsGood sp r body) nought (sym by-order ∙ e))
+
+    -- so Found is what is left, where nothing is refused
+    pub found-of : (t : List (Feet × Label)) → IsRoute sp r body t →
+        (K : List Feet) → ((p : Feet) → Reach (graph sp r body) p → has (λ x. samePoint x p) K ≡ true) → length K ≤ r .«node_budget» →
+        outcomeNumber (answer .outcome) < 3 → answer .outcome ≡ Found
+    found-of t l K c h n = go (answer .outcome) refl
+      where
+        go : (o : Outcome) → answer .outcome ≡ o → answer .outcome ≡ Found
+        go Found e = e
+        go Unreachable e = absurd (none-is-route e t l)
+        go BudgetExceeded e = absurd (not-exceeded K c h e)
+        go BadWorld e = let z : outcomeNumber (answer .outcome) ≡ 3 = ap outcomeNumber e in absurd (omega arith)
+        go TooLarge e = let z : outcomeNumber (answer .outcome) ≡ 4 = ap outcomeNumber e in absurd (omega arith)
+        go NoRoom e = let z : outcomeNumber (answer .outcome) ≡ 5 = ap outcomeNumber e in absurd (omega arith)
+
+    -- ---- the counts
+
+    pub retained-within : answer .retained ≤ r .«node_budget»
+    unfolding found
+    retained-within = go without
+      where
+        go : (o : Option Outcome) → answerBy w cells perms shapes boxes r body o .retained ≤ r .«node_budget»
+        go (some o) = omega arith
+        go none = search.nodes-within sp r body
+
+    pub closed-within : answer .closed ≤ answer .retained
+    unfolding found
+    closed-within = go without
+      where
+        go : (o : Option Outcome) → answerBy w cells perms shapes boxes r body o .closed ≤ answerBy w cells perms shapes boxes r body o .retained
+        go (some o) = omega arith
+        go none = search.closings-within sp r body
+
+    pub count-within : answer .count ≤ r .«node_budget» + 1
+    unfolding found
+    count-within = go without
+      where
+        go : (o : Option Outcome) → answerBy w cells perms shapes boxes r body o .count ≤ r .«node_budget» + 1
+        go (some o) = omega arith
+        go none = omega (arith, search.list-within sp r body)
+
+    pub closed-counted : without ≡ none → answer .closed ≡ count (λ n. n .closed) (ended sp r body .nodes)
+    unfolding found
+    closed-counted n = rw n (search.closings-counted sp r body)
+
+  -- ---- a call with a larger budget, and other rooms
+
+  module _ (r : Request) (body : Body) (nodes front out : List ℕ) (b : ℕ) (above : r .«node_budget» ≤ b) (nodes′ front′ out′ : List ℕ) where
+    abbrev more : Answer
+    more = answer (withBudget b r) body nodes′ front′ out′
+
+    abbrev full′ : Bool
+    full′ = noRoom b (length nodes′) (length front′) (length out′)
+
+    abbrev large′ : Bool
+    large′ = tooLarge (withBudget b r) body
+
+    abbrev came′ : Outcome
+    came′ = toldBy (endOf sp (withBudget b r) body)
+
+    still : eqb (r .«node_budget») 0 ≡ false → eqb b 0 ≡ false
+    still e = ne-eqb b 0 (λ z. eqb-false (r .«node_budget») 0 e (omega arith))
+
+    more-by-order : more .outcome ≡ told came′ (order bad (validRequest r body) large′ full′ (endsGood sp r body) (eqb b 0))
+    more-by-order =
+        by-order (withBudget b r) body nodes′ front′ out′ ∙ (let v = valid-budget b r body in let g = ends-budget b sp r body in rw (v, g))
+
+    pub stays-found : answer r body nodes front out .outcome ≡ Found → outcomeNumber (more .outcome) < 3 → more .outcome ≡ Found
+    stays-found e h =
+        more-by-order
+        ∙ found-stays (came r body nodes front out) came′ bad (validRequest r body) (endsGood sp r body)
+        (tooLarge r body) (full r body nodes front out) (eqb (r .«node_budget») 0) large′ full′ (eqb b 0) still
+        (search.found-again sp r body b above) (sym (by-order r body nodes front out) ∙ e) (rw more-by-order at h)
+
+    pub stays-unreachable : answer r body nodes front out .outcome ≡ Unreachable → outcomeNumber (more .outcome) < 3 → more .outcome ≡ Unreachable
+    stays-unreachable e h =
+        more-by-order
+        ∙ unreachable-stays (came r body nodes front out) came′ bad (validRequest r body) (endsGood sp r body)
+        (tooLarge r body) (full r body nodes front out) (eqb (r .«node_budget») 0) large′ full′ (eqb b 0) still
+        (search.unreachable-again sp r body b above) (sym (by-order r body nodes front out) ∙ e) (rw more-by-order at h)

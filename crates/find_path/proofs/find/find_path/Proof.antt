@@ -1,0 +1,75 @@
+-- `find_path::find::find_path` meets its contract. Assumes nothing.
+use mathlib.Core.Path.{ap}
+use denote.Ref.{now}
+use Rattle.find_path.specs.declared.answers.Path.the-variants.{Searched}
+use Rattle.find_path.specs.FindPath.{path, nodesAfterPath, frontAfterPath, outAfterPath}
+use Rattle.find_path.specs.Laws.{agree, differ, searched, unsearched}
+use borrow.Author.Needs.{needs}
+use Rattle.find_path.proofs.find.find_path.Statement.{statement}
+use Rattle.find_path.proofs.find.find_path.Tie as tie
+
+fill-permissions-requires : tie.Need-fill-permissions-requires
+fill-permissions-requires c κs = search needs
+
+enum-told : tie.Need-enum-told
+enum-told c = search needs
+
+enum-told-2 : tie.Need-enum-told-2
+enum-told-2 c = search needs
+
+request-of-requires : tie.Need-request-of-requires
+request-of-requires c κs = search needs
+
+find-walk-path-requires : tie.Need-find-walk-path-requires
+find-walk-path-requires c κs = search needs
+
+same-length : tie.Need-same-length
+same-length c = search needs
+
+returns : tie.Need-returns
+unfolding path nodesAfterPath frontAfterPath outAfterPath
+returns c =
+    let fill = c .before .before .before .before .fill-permissions .ensures in
+    let flags = now (c .before .before .before .before .before .before .before .before .before .before .before .before .before .before .args .flags) in
+    let perms = now (c .before .before .before .before .before .before .before .before .before .before .before .before .before .before .args .perms) in
+    let e = differ flags perms (rw (c .enum-told .given .1) at (fill .0)) in
+    (unsearched flags perms _ e, (fill .1, (unsearched flags perms _ e, (unsearched flags perms _ e, unsearched flags perms _ e))))
+
+same-length-2 : tie.Need-same-length-2
+same-length-2 c = search needs
+
+same-length-3 : tie.Need-same-length-3
+same-length-3 c = search needs
+
+same-length-4 : tie.Need-same-length-4
+same-length-4 c = search needs
+
+same-length-5 : tie.Need-same-length-5
+same-length-5 c = search needs
+
+returns-2 : tie.Need-returns-2
+unfolding path nodesAfterPath frontAfterPath outAfterPath
+returns-2 c =
+    let fill = c .before .before .before .before .before .before .before .before .before .before .before .before .before .before .before .before .fill-permissions .ensures in
+    let flags = now (c .before .before .before .before .before .before .before .before .before .before .before .before .before .before .before .before .before .before .before .before .before .before .before .before .before .before .args .flags) in
+    let perms = now (c .before .before .before .before .before .before .before .before .before .before .before .before .before .before .before .before .before .before .before .before .before .before .before .before .before .before .args .perms) in
+    let e = agree flags perms (rw (c .before .before .before .before .before .before .before .before .before .before .before .before .enum-told2 .given .1) at (fill .0)) in
+    let s = rw (fill .1, c .before .before .before .before .before .before .before .before .before .before .before .request-of .ensures) at (c .before .before .before .before .before .before .find-walk-path .ensures) in
+    (searched flags perms _ e (ap Searched (s .0)), (fill .1, (searched flags perms _ e (s .1 .0), (searched flags perms _ e (s .1 .1 .0), searched flags perms _ e (s .1 .1 .1)))))
+
+pub find-path-spec : {M : Type 1} → statement M
+find-path-spec =
+    tie.close
+    (tie.spec
+    fill-permissions-requires
+    enum-told
+    enum-told-2
+    request-of-requires
+    find-walk-path-requires
+    same-length
+    returns
+    same-length-2
+    same-length-3
+    same-length-4
+    same-length-5
+    returns-2)

@@ -1,0 +1,68 @@
+-- What `find_path` answers and what it leaves in the lent slices (01, Policy). Definitions only: the policy's and the search's, one behind the other.
+use Prim.Native.Nat.{ℕ}
+use mathlib.Core.Bool.{Bool, cond}
+use mathlib.Core.List.{List}
+use lib.Dec.{eqb}
+use lib.ListN.{length}
+use Rattle.policy.specs.declared.policy.WalkPolicy.{WalkPolicy}
+use Rattle.policy.specs.Permission.{permissionTable}
+use Rattle.policy.specs.Request.{asked}
+use Rattle.world.specs.declared.Point.{Point}
+use Rattle.world.specs.declared.Body.{Body}
+use Rattle.world.specs.declared.Request.{Request}
+use Rattle.world.specs.declared.Window.{Window}
+use Rattle.search.specs.FindWalkPath.{outcomeNumber, found, nodesAfter, frontAfter, outAfter}
+use Rattle.find_path.specs.declared.answers.Path.{Path}
+use Rattle.find_path.specs.declared.answers.Path.the-variants.{Searched, BadTable}
+
+-- 01's numbers: "`find_path` gives the outcome number", or 8
+abbrev pub pathNumber : Path → ℕ
+pathNumber (Searched a) = outcomeNumber (a .outcome)
+pathNumber BadTable = 8
+
+-- "`find_path` asks range 16, budget 2,048, drop 3, the body's step, and the policy's jump height or 0 if it can't jump" (policy's `asked`)
+unfoldable pub requestOf : WalkPolicy → Point → Point → Body → Request
+requestOf p start goal body =
+    let a = asked p (body .«step_height») in
+    record {
+      start = start;
+      goal = goal;
+      «max_range» = a .«max_range»;
+      «node_budget» = a .«node_budget»;
+      «step_height» = a .«step_height»;
+      «jump_height» = a .«jump_height»;
+      «max_drop» = a .«max_drop»;
+    }
+
+-- "8 BadTable: flag and permission tables differ in length", and else
+unfoldable pub unlessBad : {A : Type 0} → List ℕ → List ℕ → A → A → A
+unlessBad flags perms searched bad = cond (eqb (length flags) (length perms)) searched bad
+
+module _
+    (p : WalkPolicy)
+    (inWater : Bool)
+    (flags : List ℕ)
+    (w : Window)
+    (cells perms shapes boxes : List ℕ)
+    (start goal : Point)
+    (body : Body)
+  where
+    -- "It judges 8, fills the permission table, which stays filled, then searches in the order above": the search with the filled table
+    unfoldable pub path : ℕ → ℕ → ℕ → Path
+    path nodes front out =
+        unlessBad flags perms
+        (Searched (found w cells (permissionTable p inWater flags perms) shapes boxes (requestOf p start goal body) body nodes front out))
+        BadTable
+
+    -- "6, 8 and 9 write nothing", and the search leaves what its own definitions say
+    unfoldable pub nodesAfterPath : List ℕ → List ℕ → List ℕ → List ℕ
+    nodesAfterPath nodes front out =
+        unlessBad flags perms (nodesAfter w cells (permissionTable p inWater flags perms) shapes boxes (requestOf p start goal body) body nodes front out) nodes
+
+    unfoldable pub frontAfterPath : List ℕ → List ℕ → List ℕ → List ℕ
+    frontAfterPath nodes front out =
+        unlessBad flags perms (frontAfter w cells (permissionTable p inWater flags perms) shapes boxes (requestOf p start goal body) body nodes front out) front
+
+    unfoldable pub outAfterPath : List ℕ → List ℕ → List ℕ → List ℕ
+    outAfterPath nodes front out =
+        unlessBad flags perms (outAfter w cells (permissionTable p inWater flags perms) shapes boxes (requestOf p start goal body) body nodes front out) out

@@ -1,0 +1,2 @@
+pub mod FindPath
+pub mod Laws

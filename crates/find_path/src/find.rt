@@ -1,0 +1,73 @@
+// A mob's search: the permission table of its policy, then the search that its policy and its body ask for.
+use crate::answers::Path;
+use policy::Filled;
+use policy::WalkPolicy;
+use world::Body;
+use world::Point;
+use world::Request;
+use world::Window;
+ghost use mathlib.Core.Path.{_≡_};
+ghost use lib.ListN.{length};
+ghost use Rattle.policy.specs.Permission.{permissionTable};
+ghost use Rattle.find_path.specs.FindPath.{requestOf, path, nodesAfterPath, frontAfterPath, outAfterPath};
+
+// What is asked of the search.
+fn request_of(policy: WalkPolicy, start: Point, goal: Point, body: Body) -> Request
+    ensures { λ r. ⌜ r ≡ requestOf policy start goal body ⌝ }
+{
+    let asked = policy.request(body.step_height);
+    Request {
+        start,
+        goal,
+        max_range: asked.max_range,
+        node_budget: asked.node_budget,
+        step_height: asked.step_height,
+        jump_height: asked.jump_height,
+        max_drop: asked.max_drop,
+    }
+}
+
+// A way for a mob from a start to a goal. `perms` is filled by the flags of the states, unless the two differ in length, and stays filled whatever the
+// search answers; the list is written to `out`, `nodes` and `front` are the search's rooms.
+pub fn find_path(
+    policy: WalkPolicy,
+    in_water: bool,
+    flags: &[u8],
+    w: Window,
+    cells: &[u8],
+    perms: &mut [u8],
+    shapes: &[u8],
+    boxes: &[u8],
+    start: Point,
+    goal: Point,
+    body: Body,
+    nodes: &mut [u8],
+    front: &mut [u8],
+    out: &mut [u8],
+) -> Path
+    ensures answer { λ p. ⌜ p ≡ path policy «in_water» (now (flags .entry)) w (now (cells .entry)) (now (perms .entry)) (now (shapes .entry)) (now (boxes .entry)) start goal body (length (now (nodes .entry))) (length (now (front .entry))) (length (now (out .entry))) ⌝ }
+    ensures permissions { λ _. ⌜ now (perms .exit) ≡ permissionTable policy «in_water» (now (flags .entry)) (now (perms .entry)) ⌝ }
+    ensures nodes { λ _. ⌜ now (nodes .exit) ≡ nodesAfterPath policy «in_water» (now (flags .entry)) w (now (cells .entry)) (now (perms .entry)) (now (shapes .entry)) (now (boxes .entry)) start goal body (now (nodes .entry)) (now (front .entry)) (now (out .entry)) ⌝ }
+    ensures front { λ _. ⌜ now (front .exit) ≡ frontAfterPath policy «in_water» (now (flags .entry)) w (now (cells .entry)) (now (perms .entry)) (now (shapes .entry)) (now (boxes .entry)) start goal body (now (nodes .entry)) (now (front .entry)) (now (out .entry)) ⌝ }
+    ensures out { λ _. ⌜ now (out .exit) ≡ outAfterPath policy «in_water» (now (flags .entry)) w (now (cells .entry)) (now (perms .entry)) (now (shapes .entry)) (now (boxes .entry)) start goal body (now (nodes .entry)) (now (front .entry)) (now (out .entry)) ⌝ }
+{
+    match policy.fill_permissions(in_water, flags, perms) {
+        Filled::BadTable => Path::BadTable,
+        Filled::Whole => {
+            let r = request_of(policy, start, goal, body);
+            let answer = search::find_walk_path(
+                w,
+                cells,
+                perms,
+                shapes,
+                boxes,
+                r,
+                body,
+                nodes,
+                front,
+                out,
+            );
+            Path::Searched(answer)
+        }
+    }
+}

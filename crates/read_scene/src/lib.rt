@@ -1,0 +1,91 @@
+// A whole scene in one slice (01, "Scenes and walkprint"): its 64-byte records are handed to the reader of `scene` one after another. A last partial one is
+// handed on as it is, and is bad at its own number.
+pub mod answer;
+
+ghost use mathlib.Core.Path.{_≡_};
+ghost use Prim.Native.Nat.{_<_};
+ghost use lib.ListN.{length};
+ghost use Rattle.scene.specs.Answers.{endedAnswer, readFrom};
+ghost use Rattle.read_scene.specs.Whole.{recordCount, recordAt, records, sceneAnswer, read};
+ghost use Rattle.read_scene.specs.Laws.{tablesOf};
+pub use answer::SceneAnswer;
+use scene::Begun;
+use scene::Ended;
+use scene::Reading;
+use scene::Step;
+
+// How many records so many bytes are, a last partial one counted.
+fn record_count(len: usize) -> usize
+    ensures { λ r. ⌜ r ≡ recordCount len ⌝ }
+{
+    if len % 64 == 0 { len / 64 } else { len / 64 + 1 }
+}
+
+// Record k: 64 bytes, or as many as are left.
+fn record_at(bytes: &[u8], k: usize) -> &[u8]
+    requires { ⌜ k < recordCount (length (now bytes)) ⌝ }
+    ensures { λ r. ⌜ now r ≡ recordAt (now (bytes .entry)) k ⌝ }
+{
+    let at = 64 * k;
+    if bytes.len() - at < 64 {
+        return &bytes[at..];
+    }
+    let end = at + 64;
+    &bytes[at..end]
+}
+
+fn ended_answer(e: Ended) -> SceneAnswer
+    ensures { λ a. ⌜ sceneAnswer a ≡ endedAnswer e ⌝ }
+{
+    match e {
+        Ended::Whole(scene) => SceneAnswer::Whole(scene),
+        Ended::Bad(number) => SceneAnswer::BadScene(number),
+    }
+}
+
+// All records, taken in from a state before the first.
+fn read_from(
+    first: Reading,
+    bytes: &[u8],
+    cells: &mut [u8],
+    perms: &mut [u8],
+    shapes: &mut [u8],
+    boxes: &mut [u8],
+) -> SceneAnswer
+    ensures { λ a. ⌜ sceneAnswer a ≡ readFrom first (tablesOf (now (cells .entry)) (now (perms .entry)) (now (shapes .entry)) (now (boxes .entry))) (records (now (bytes .entry))) .answer ⌝ }
+    ensures { λ _. ⌜ tablesOf (now (cells .exit)) (now (perms .exit)) (now (shapes .exit)) (now (boxes .exit)) ≡ readFrom first (tablesOf (now (cells .entry)) (now (perms .entry)) (now (shapes .entry)) (now (boxes .entry))) (records (now (bytes .entry))) .tables ⌝ }
+{
+    let n = record_count(bytes.len());
+    let mut state = first;
+    let mut k: usize = 0;
+    while k < n {
+        let bytes_of = record_at(bytes, k);
+        let Step::On(next) = scene::read_record(state, bytes_of, cells, perms, shapes, boxes) else {
+            return SceneAnswer::BadScene(state.number);
+        };
+        state = next;
+        k += 1;
+    }
+    ended_answer(scene::end(state))
+}
+
+// A scene and the part of each lent table that it made; the first bad record, and the tables hold what those before it made; or no room, and nothing is
+// written.
+pub fn read_scene(
+    bytes: &[u8],
+    cells: &mut [u8],
+    perms: &mut [u8],
+    shapes: &mut [u8],
+    boxes: &mut [u8],
+) -> SceneAnswer
+    ensures { λ a. ⌜ sceneAnswer a ≡ read (now (bytes .entry)) (now (cells .entry)) (now (perms .entry)) (now (shapes .entry)) (now (boxes .entry)) .answer ⌝ }
+    ensures { λ _. ⌜ now (cells .exit) ≡ read (now (bytes .entry)) (now (cells .entry)) (now (perms .entry)) (now (shapes .entry)) (now (boxes .entry)) .tables .cells ⌝ }
+    ensures { λ _. ⌜ now (perms .exit) ≡ read (now (bytes .entry)) (now (cells .entry)) (now (perms .entry)) (now (shapes .entry)) (now (boxes .entry)) .tables .perms ⌝ }
+    ensures { λ _. ⌜ now (shapes .exit) ≡ read (now (bytes .entry)) (now (cells .entry)) (now (perms .entry)) (now (shapes .entry)) (now (boxes .entry)) .tables .shapes ⌝ }
+    ensures { λ _. ⌜ now (boxes .exit) ≡ read (now (bytes .entry)) (now (cells .entry)) (now (perms .entry)) (now (shapes .entry)) (now (boxes .entry)) .tables .boxes ⌝ }
+{
+    let Begun::Ready(first) = scene::begin(cells, perms, shapes, boxes) else {
+        return SceneAnswer::NoRoom;
+    };
+    read_from(first, bytes, cells, perms, shapes, boxes)
+}

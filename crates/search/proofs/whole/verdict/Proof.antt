@@ -1,0 +1,13 @@
+-- `search::whole::verdict` meets its contract. Assumes nothing.
+use Rattle.search.specs.Laws.Whole.{verdict-none, verdict-some}
+use Rattle.search.proofs.whole.verdict.Statement.{statement}
+use Rattle.search.proofs.whole.verdict.Tie as tie
+
+returns : tie.Need-returns
+returns c = verdict-none (c .before .before .args .c) (c .if1 .taken)
+
+returns-2 : tie.Need-returns-2
+returns-2 c = verdict-some (c .before .before .args .c) (c .if1 .left)
+
+pub verdict-spec : {M : Type 1} → statement M
+verdict-spec = tie.close (tie.spec returns returns-2)

@@ -1,0 +1,256 @@
+-- What the end of a run makes of a search: its outcome and its list are those of the theory's final state, and the node room holds that state's nodes.
+use mathlib.Core.Path.{_≡_, refl, sym, ap, subst, _∙_}
+use mathlib.Core.Logic.{_≢_}
+use mathlib.Core.Option.{none}
+use mathlib.Core.List.{List, [], _∷_, _++_}
+use Prim.Native.Nat.{ℕ, zero, suc, _+_, _*_, _/_, _≤_}
+use native.Mathlib.Omega.{arith}
+use lib.ListN.{length, drop, replicate}
+use borrow.Author.Tests.{le-leb}
+use Rattle.exploration.specs.Graph.{Graph}
+use Rattle.exploration.specs.Policy.{Policy}
+use Rattle.exploration.specs.Explore as explore
+use Rattle.exploration.specs.Explore.{State, arrive, run, outcome, outcomeBy}
+use Rattle.exploration.specs.Claims.{found-is-route}
+use Rattle.exploration.specs.Laws.Lists.{none-some}
+use Rattle.exploration.specs.Laws.Endings.{found-outcome}
+use Rattle.exploration.specs.Laws.Expansions.{Done, at-found, at-end, final-done}
+use Rattle.fields.specs.Pieces.{Bytes}
+use Rattle.fields.specs.RecordLaws.{length-firsts}
+use Rattle.world.specs.declared.Body.{Body}
+use Rattle.world.specs.declared.Request.{Request}
+use Rattle.world.specs.declared.Window.{Window}
+use Rattle.world.specs.Space.{Space, space}
+use Rattle.steps.specs.Words.{feetOf, graph}
+use Rattle.steps.specs.GraphLaws.{graph-laws}
+use Rattle.rooms.specs.declared.Feet.{Feet}
+use Rattle.rooms.specs.declared.Label.{Label}
+use Rattle.rooms.specs.declared.Counts.{Counts}
+use Rattle.rooms.specs.Lists.{listOf, listBytes, written, Listed}
+use Rattle.rooms.specs.Rooms.{Note, nobody, nodesOf, stateOf, nodeRoom}
+use Rattle.rooms.specs.Laws.Lists.{arrive-list}
+use Rattle.rooms.specs.Laws.Rooms.{node-room}
+use Rattle.visits.specs.declared.Aim.{Aim}
+use Rattle.visits.specs.Best.{best}
+use Rattle.visits.specs.Visits.{Ready, Started, Begun}
+use Rattle.visits.specs.Laws.Policy.{best-laws}
+use Rattle.visits.specs.Laws.Visits.{kept-trans, begun}
+use Rattle.search.specs.declared.Turn.{Turn}
+use Rattle.search.specs.declared.Turn.the-variants.{Rest, Going, At, By}
+use Rattle.search.specs.declared.answers.Answer.{Answer}
+use Rattle.search.specs.declared.answers.Outcome.{Outcome}
+use Rattle.search.specs.declared.answers.Outcome.the-variants.{Found, Unreachable, BudgetExceeded}
+use Rattle.search.specs.FindWalkPath.{ended, endOf, toldBy, listIn, answerBy, nodesBy, frontBy, outBy}
+use Rattle.search.specs.Turns.{mostSteps, countsOf, after, Quiet}
+use Rattle.search.specs.Runs.{Spun}
+
+-- ---- what the code makes of an end of the run
+
+-- where nothing waits, and so many points were dropped
+abbrev pub endQuiet : ℕ → explore.Outcome (Feet × Label)
+endQuiet zero = explore.Unreachable
+endQuiet (suc d) = explore.BudgetExceeded
+
+-- on the node room; a run as long as the budget that is still `Going` has nothing that waits either (`going-quiet` below)
+abbrev pub endAt : List ℕ → Feet → Turn → explore.Outcome (Feet × Label)
+endAt a goal (Rest c) = endQuiet (c .dropped)
+endAt a goal (Going c) = endQuiet (c .dropped)
+endAt a goal (At c k) = explore.Found (listOf a (c .retained) k [])
+endAt a goal (By c k l) = explore.Found (listOf a (c .retained) k ((goal, l) ∷ []))
+
+abbrev pub told : Counts → Outcome → ℕ → Answer
+told c o n = record { outcome = o; count = n; retained = c .retained; closed = c .closed }
+
+abbrev pub answerOf : Counts → explore.Outcome (Feet × Label) → Answer
+answerOf c e = told c (toldBy e) (length (listIn e))
+
+pub verdict-none : (c : Counts) → c .dropped ≡ 0 → told c Unreachable 0 ≡ answerOf c (endQuiet (c .dropped))
+verdict-none c h = rw h
+
+pub verdict-some : (c : Counts) → c .dropped ≢ 0 → told c BudgetExceeded 0 ≡ answerOf c (endQuiet (c .dropped))
+verdict-some c h = go (c .dropped) h
+  where
+    go : (d : ℕ) → d ≢ 0 → told c BudgetExceeded 0 ≡ answerOf c (endQuiet d)
+    go zero i = absurd (i refl)
+    go (suc d) i = refl
+
+-- a list that has room is written, and no list changes nothing
+written-is : (l : List (Feet × Label)) (old : List ℕ) → 40 * length l ≤ length old → written l old ≡ listBytes l ++ drop (40 * length l) old
+unfolding written
+written-is l old h = let e = le-leb (length l) (length old / 40) (omega arith) in rw e
+
+written-quiet : (d : ℕ) (old : List ℕ) → old ≡ written (listIn (endQuiet d)) old
+written-quiet zero old = sym (written-is [] old (omega arith))
+written-quiet (suc d) old = sym (written-is [] old (omega arith))
+
+abbrev pub Concludes : List ℕ → Feet → Turn → Answer → List ℕ → List ℕ → Type 0
+Concludes a goal t x old out = (x ≡ answerOf (countsOf t) (endAt a goal t)) × (out ≡ written (listIn (endAt a goal t)) old)
+
+module _ (a : List ℕ) (goal : Feet) (t : Turn) (c : Counts) (old : List ℕ) where
+  pub concludes-rest : (x : Answer) → t ≡ Rest c → x ≡ answerOf c (endQuiet (c .dropped)) → Concludes a goal t x old old
+  concludes-rest x e h = rw e (h, written-quiet (c .dropped) old)
+
+  pub concludes-going : (x : Answer) → t ≡ Going c → x ≡ answerOf c (endQuiet (c .dropped)) → Concludes a goal t x old old
+  concludes-going x e h = rw e (h, written-quiet (c .dropped) old)
+
+  pub concludes-at : (k m : ℕ) (out : List ℕ) → t ≡ At c k → Listed a (c .retained) k [] m old out → Concludes a goal t (told c Found m) old out
+  concludes-at k m out e h = rw e (ap (told c Found) (h .count), h .bytes)
+
+  pub concludes-by : (k : ℕ) (l : Label) (m : ℕ) (out : List ℕ) → t ≡ By c k l → Listed a (c .retained) k ((goal, l) ∷ []) m old out
+      → Concludes a goal t (told c Found m) old out
+  concludes-by k l m out e h = rw e (ap (told c Found) (h .count), h .bytes)
+
+-- ---- it is what the theory says of the final state
+
+abbrev pub aimTo : Request → Feet → Aim
+aimTo r goal = record { budget = r .«node_budget»; goal = goal }
+
+module _ (sp : Space) (r : Request) (body : Body) where
+  abbrev 𝓖 : Graph Feet Label
+  𝓖 = graph sp r body
+
+  abbrev 𝓟 : Policy Feet Label Note ℕ
+  𝓟 = best (feetOf (r .goal))
+
+  abbrev aim : Aim
+  aim = aimTo r (feetOf (r .goal))
+
+  quiet-end : (d : ℕ) → outcomeBy 𝓖 𝓟 none none d ≡ endQuiet d
+  quiet-end zero = refl
+  quiet-end (suc d) = refl
+
+  rest-end : (c : Counts) (b g : List ℕ) → Quiet aim b g (Rest c) → stateOf b g c ≡ ended sp r body → endOf sp r body ≡ endQuiet (c .dropped)
+  unfolding endOf outcome stateOf
+  rest-end c b g q e = ap (outcome 𝓖 𝓟) (sym e) ∙ rw q (quiet-end (c .dropped))
+
+  -- a run that is not seen to have ended has ended all the same
+  going-quiet : (c : Counts) (b g : List ℕ) → stateOf b g c ≡ ended sp r body → Quiet aim b g (Rest c)
+  unfolding stateOf ended
+  going-quiet c b g e = go (subst (Done 𝓖 𝓟) (sym e) (final-done 𝓖 𝓟 (graph-laws sp r body) (best-laws (feetOf (r .goal))) (r .«node_budget»)))
+    where
+      go : Done 𝓖 𝓟 (stateOf b g c) → Quiet aim b g (Rest c)
+      go (at-found t h) = absurd (none-some h)
+      go (at-end h p) = p
+
+  found-end : (c : Counts) (k : ℕ) (t : List (Feet × Label)) (b g : List ℕ) → c .retained ≤ nobody → 56 * c .retained ≤ length b
+      → arrive (stateOf b g c) k t ≡ ended sp r body → endOf sp r body ≡ explore.Found (listOf b (c .retained) k t)
+  unfolding endOf
+  found-end c k t b g small room e = ap (outcome 𝓖 𝓟) (sym e) ∙ found-outcome 𝓖 𝓟 (arrive (stateOf b g c) k t) _ (arrive-list b g c k t small room)
+
+  end-is : (t : Turn) (b g : List ℕ) → countsOf t .retained ≤ nobody → 56 * countsOf t .retained ≤ length b → Quiet aim b g t
+      → after aim t b g ≡ ended sp r body → endAt b (feetOf (r .goal)) t ≡ endOf sp r body
+  end-is (Rest c) b g small room q e = sym (rest-end c b g q e)
+  end-is (Going c) b g small room q e = sym (rest-end c b g (going-quiet c b g e) e)
+  end-is (At c k) b g small room q e = sym (found-end c k [] b g small room e)
+  end-is (By c k l) b g small room q e = sym (found-end c k ((feetOf (r .goal), l) ∷ []) b g small room e)
+
+  nodes-after : (goal : Feet) (t : Turn) (b g : List ℕ) → after (aimTo r goal) t b g .nodes ≡ nodesOf (countsOf t .retained) b g
+  unfolding stateOf
+  nodes-after goal (Rest c) b g = refl
+  nodes-after goal (Going c) b g = refl
+  nodes-after goal (At c k) b g = refl
+  nodes-after goal (By c k l) b g = refl
+
+  closed-after : (goal : Feet) (t : Turn) (b g : List ℕ) → after (aimTo r goal) t b g .closings ≡ countsOf t .closed
+  unfolding stateOf
+  closed-after goal (Rest c) b g = refl
+  closed-after goal (Going c) b g = refl
+  closed-after goal (At c k) b g = refl
+  closed-after goal (By c k l) b g = refl
+
+  -- the list that is found has at most one point more than the budget
+  list-room : length (listIn (endOf sp r body)) ≤ r .«node_budget» + 1
+  unfolding endOf ended
+  list-room = go (endOf sp r body) refl
+    where
+      go : (e : explore.Outcome (Feet × Label)) → endOf sp r body ≡ e → length (listIn e) ≤ r .«node_budget» + 1
+      go (explore.Found t) e = omega (arith, found-is-route 𝓖 𝓟 (graph-laws sp r body) (best-laws (feetOf (r .goal))) (r .«node_budget») t e .1)
+      go explore.Unreachable e = omega arith
+      go explore.BudgetExceeded e = omega arith
+      go explore.Searching e = omega arith
+
+  module _ {c : Counts} {a f a1 f1 b g : List ℕ} (t : Turn) (begun : Begun (r .«node_budget») (feetOf (r .start)) c a f a1 f1)
+      (spun : Spun aim sp r body c (r .«node_budget») t a1 f1 b g) where
+    state-last : after aim t b g ≡ ended sp r body
+    unfolding ended graph
+    state-last = spun .state ∙ ap (run 𝓖 𝓟 (r .«node_budget») (r .«node_budget»)) (begun .state 𝓖 refl refl (feetOf (r .goal)))
+
+    nodes-last : nodesOf (countsOf t .retained) b g ≡ ended sp r body .nodes
+    nodes-last = sym (nodes-after (feetOf (r .goal)) t b g) ∙ ap (λ (s : State Feet Label Note ℕ). s .nodes) state-last
+
+    retained-last : countsOf t .retained ≡ length (ended sp r body .nodes)
+    retained-last = sym (length-firsts (countsOf t .retained) _) ∙ ap length nodes-last
+
+    closed-last : countsOf t .closed ≡ ended sp r body .closings
+    closed-last = sym (closed-after (feetOf (r .goal)) t b g) ∙ ap (λ (s : State Feet Label Note ℕ). s .closings) state-last
+
+    module _ (small : r .«node_budget» ≤ 4096) (room : 56 * r .«node_budget» ≤ length b) where
+      end-last : endAt b (feetOf (r .goal)) t ≡ endOf sp r body
+      end-last = end-is t b g (omega (arith, spun .near .few)) (omega (arith, spun .near .few)) (spun .quiet) state-last
+
+      pub answer-last : answerOf (countsOf t) (endAt b (feetOf (r .goal)) t)
+          ≡ record {
+            outcome = toldBy (endOf sp r body);
+            count = length (listIn (endOf sp r body));
+            retained = length (ended sp r body .nodes);
+            closed = ended sp r body .closings;
+          }
+      answer-last = let e = end-last in let n = retained-last in let s = closed-last in
+          λ i. record { outcome = toldBy (e i); count = length (listIn (e i)); retained = n i; closed = s i }
+
+      pub nodes-room-last : Bytes b → b ≡ nodeRoom a (ended sp r body .nodes)
+      nodes-room-last h = node-room a b g (countsOf t .retained) h (omega (arith, spun .near .few))
+          (kept-trans (spun .near .more) (begun .kept) (spun .kept) .nodes (countsOf t .retained) (omega arith)) ∙ ap (nodeRoom a) nodes-last
+
+      pub out-last : (old : List ℕ) → 40 * (r .«node_budget» + 1) ≤ length old → written (listIn (endAt b (feetOf (r .goal)) t)) old
+          ≡ listBytes (listIn (endOf sp r body)) ++ drop (40 * length (listIn (endOf sp r body))) old
+      out-last old h = ap (λ (e : explore.Outcome (Feet × Label)). written (listIn e) old) end-last
+          ∙ written-is (listIn (endOf sp r body)) old (omega (arith, list-room))
+
+-- ---- the whole search
+
+pub record Roomy (r : Request) (a f o : List ℕ) : Type 0 where
+  pub few : r .«node_budget» ≤ 4096
+  pub node-room : 56 * r .«node_budget» ≤ length a
+  pub front-room : 24 * r .«node_budget» ≤ length f
+  pub out-room : 40 * (r .«node_budget» + 1) ≤ length o
+
+module _ (r : Request) {start : Feet} {c : Counts} {a f o a1 f1 : List ℕ} (roomy : Roomy r a f o)
+    (start-is : start ≡ feetOf (r .start)) (started : Started (r .«node_budget») start c a f a1 f1) where
+  begins : Begun (r .«node_budget») (feetOf (r .start)) c a f a1 f1
+  begins = begun (r .«node_budget») (feetOf (r .start)) a f (roomy .node-room) (roomy .front-room)
+      (subst (λ (p : Feet). Started (r .«node_budget») p c a f a1 f1) start-is started)
+
+  -- the rooms after the start are ready for as many expansions as the budget
+  pub ready-spin : length a1 ≡ length a → length f1 ≡ length f → Ready a1 f1 (r .«node_budget») ((mostSteps + 1) * r .«node_budget» + 1) c
+  ready-spin m n = let h = begins .near in record {
+    node-room = omega (arith, roomy .node-room);
+    front-room = omega (arith, roomy .front-room);
+    numbered = omega (arith, roomy .few);
+    few = h .few;
+    pushes = omega (arith, roomy .few, h .pushes);
+    drops = omega (arith, roomy .few, h .drops);
+    closes = omega (arith, roomy .few, h .closes);
+  }
+
+  module _ (w : Window) (cells perms shapes boxes : List ℕ) (body : Body) {goal : Feet} {t : Turn} {b g z p : List ℕ} {x : Answer}
+      (goal-is : goal ≡ feetOf (r .goal)) (spun : Spun (aimTo r goal) (space w cells perms shapes boxes) r body c (r .«node_budget») t a1 f1 b g)
+      (bytes : Bytes b) (nodes-kept : length b ≡ length a) (front-kept : length g ≡ length f)
+      (concludes : Concludes b goal t x o p) (zeroed : z ≡ replicate (length g) 0) where
+    abbrev sp : Space
+    sp = space w cells perms shapes boxes
+
+    spins : Spun (aimTo r (feetOf (r .goal))) sp r body c (r .«node_budget») t a1 f1 b g
+    spins = subst (λ (q : Feet). Spun (aimTo r q) sp r body c (r .«node_budget») t a1 f1 b g) goal-is spun
+
+    ends : Concludes b (feetOf (r .goal)) t x o p
+    ends = subst (λ (q : Feet). Concludes b q t x o p) goal-is concludes
+
+    pub searched : (x ≡ answerBy w cells perms shapes boxes r body none) × (b ≡ nodesBy w cells perms shapes boxes r body none a)
+        × (z ≡ frontBy w cells perms shapes boxes r body none f) × (p ≡ outBy w cells perms shapes boxes r body none o)
+    searched =
+        let room : 56 * r .«node_budget» ≤ length b = omega (arith, roomy .node-room) in
+        (ends .0 ∙ answer-last sp r body t begins spins (roomy .few) room,
+        nodes-room-last sp r body t begins spins (roomy .few) room bytes,
+        zeroed ∙ ap (λ (n : ℕ). replicate n 0) front-kept,
+        ends .1 ∙ out-last sp r body t begins spins (roomy .few) room o (roomy .out-room))

@@ -1,0 +1,3 @@
+pub mod Records
+pub mod Answers
+pub mod Scenes

@@ -1,0 +1,51 @@
+// One edge of the graph (01, The graph), for comparing and timing.
+ghost use mathlib.Core.Path.{_≡_};
+ghost use Rattle.world.specs.Space.{space};
+ghost use Rattle.edges.specs.Edges.{edge};
+ghost use Rattle.walk_c.specs.Records.{windowIn, requestIn, bodyIn};
+ghost use Rattle.walk_c.specs.Answers.{edgeNumber};
+use crate::records::body_in;
+use crate::records::request_in;
+use crate::records::window_in;
+use edges::EdgeAnswer;
+use world::Point;
+
+fn edge_number(a: EdgeAnswer) -> u64
+    ensures { λ r. ⌜ r ≡ edgeNumber a ⌝ }
+{
+    match a {
+        EdgeAnswer::To(w) => {
+            let movement = w.movement;
+            steps::movement_number(movement)
+        }
+        EdgeAnswer::Nowhere => 4,
+    }
+}
+
+// The movement's number of the edge from one point to another, 0 to 3, or 4 where there is none.
+#[no_mangle]
+pub extern "C" fn walkprint_edge(
+    window: &[u8],
+    cells: &[u8],
+    permissions: &[u8],
+    shapes: &[u8],
+    boxes: &[u8],
+    request: &[u8],
+    body: &[u8],
+    from_x: f64,
+    from_y: f64,
+    from_z: f64,
+    to_x: f64,
+    to_y: f64,
+    to_z: f64,
+) -> u64
+    ensures { λ r. ⌜ r ≡ edgeNumber (edge (space (windowIn (now (window .entry))) (now (cells .entry)) (now (permissions .entry)) (now (shapes .entry)) (now (boxes .entry))) (requestIn (now (request .entry))) (bodyIn (now (body .entry))) (record { x = «from_x»; y = «from_y»; z = «from_z» }) (record { x = «to_x»; y = «to_y»; z = «to_z» })) ⌝ }
+{
+    let w = window_in(window);
+    let r = request_in(request);
+    let b = body_in(body);
+    let from = Point { x: from_x, y: from_y, z: from_z };
+    let to = Point { x: to_x, y: to_y, z: to_z };
+    let a = edges::edge(w, cells, permissions, shapes, boxes, r, b, from, to);
+    edge_number(a)
+}

@@ -1,0 +1,20 @@
+// The height of a jump (01, Policy).
+ghost use mathlib.Core.Path.{_≡_};
+ghost use Rattle.policy.specs.Jump.{jumpApex};
+ghost use Rattle.walk_c.specs.Answers.{firstWritten};
+use policy::Apex;
+
+// 0, and the height in the first 8 bytes of `height`; or 6 EndlessJump, and nothing is written.
+#[no_mangle]
+pub extern "C" fn walkprint_jump_apex(power: f32, gravity: f64, height: &mut [u8]) -> u64
+    ensures { λ r. ⌜ r ≡ jumpApex power gravity .0 ⌝ }
+    ensures { λ _. ⌜ now (height .exit) ≡ firstWritten (jumpApex power gravity .1) (now (height .entry)) ⌝ }
+{
+    match policy::jump_apex(power, gravity) {
+        Apex::Height(h) => {
+            fields::put_f64(height, 0, h);
+            0
+        }
+        Apex::Endless => 6,
+    }
+}

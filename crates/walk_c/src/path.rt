@@ -1,0 +1,39 @@
+// The search (01, "Numbers given back": "Search order").
+ghost use mathlib.Core.Path.{_≡_};
+ghost use lib.ListN.{length};
+ghost use Rattle.search.specs.FindWalkPath.{outcomeNumber, found, nodesAfter, frontAfter, outAfter};
+ghost use Rattle.walk_c.specs.Records.{windowIn, requestIn, bodyIn};
+ghost use Rattle.walk_c.specs.Answers.{answerWritten};
+use crate::answers::put_answer;
+use crate::records::body_in;
+use crate::records::request_in;
+use crate::records::window_in;
+
+// The outcome's number, 0 to 5: the list goes to `out`, `nodes` and `front` are the search's rooms, and `answer` gets the outcome, the list's count, and the
+// retained and closed nodes.
+#[no_mangle]
+pub extern "C" fn walkprint_find_walk_path(
+    window: &[u8],
+    cells: &[u8],
+    permissions: &[u8],
+    shapes: &[u8],
+    boxes: &[u8],
+    request: &[u8],
+    body: &[u8],
+    nodes: &mut [u8],
+    front: &mut [u8],
+    out: &mut [u8],
+    answer: &mut [u8],
+) -> u64
+    ensures outcome { λ r. ⌜ r ≡ outcomeNumber (found (windowIn (now (window .entry))) (now (cells .entry)) (now (permissions .entry)) (now (shapes .entry)) (now (boxes .entry)) (requestIn (now (request .entry))) (bodyIn (now (body .entry))) (length (now (nodes .entry))) (length (now (front .entry))) (length (now (out .entry))) .outcome) ⌝ }
+    ensures nodes { λ _. ⌜ now (nodes .exit) ≡ nodesAfter (windowIn (now (window .entry))) (now (cells .entry)) (now (permissions .entry)) (now (shapes .entry)) (now (boxes .entry)) (requestIn (now (request .entry))) (bodyIn (now (body .entry))) (now (nodes .entry)) (now (front .entry)) (now (out .entry)) ⌝ }
+    ensures front { λ _. ⌜ now (front .exit) ≡ frontAfter (windowIn (now (window .entry))) (now (cells .entry)) (now (permissions .entry)) (now (shapes .entry)) (now (boxes .entry)) (requestIn (now (request .entry))) (bodyIn (now (body .entry))) (now (nodes .entry)) (now (front .entry)) (now (out .entry)) ⌝ }
+    ensures out { λ _. ⌜ now (out .exit) ≡ outAfter (windowIn (now (window .entry))) (now (cells .entry)) (now (permissions .entry)) (now (shapes .entry)) (now (boxes .entry)) (requestIn (now (request .entry))) (bodyIn (now (body .entry))) (now (nodes .entry)) (now (front .entry)) (now (out .entry)) ⌝ }
+    ensures answer { λ _. ⌜ now (answer .exit) ≡ answerWritten (found (windowIn (now (window .entry))) (now (cells .entry)) (now (permissions .entry)) (now (shapes .entry)) (now (boxes .entry)) (requestIn (now (request .entry))) (bodyIn (now (body .entry))) (length (now (nodes .entry))) (length (now (front .entry))) (length (now (out .entry)))) (now (answer .entry)) ⌝ }
+{
+    let w = window_in(window);
+    let r = request_in(request);
+    let b = body_in(body);
+    let a = search::find_walk_path(w, cells, permissions, shapes, boxes, r, b, nodes, front, out);
+    put_answer(a, answer)
+}

@@ -1,0 +1,45 @@
+// Reading a scene (01, "Scenes and walkprint").
+ghost use mathlib.Core.Path.{_≡_};
+ghost use Rattle.read_scene.specs.Whole.{read, sceneAnswer};
+ghost use Rattle.walk_c.specs.Scenes.{sceneNumber, sceneWritten};
+use crate::made::put_scene;
+use read_scene::SceneAnswer;
+
+fn put_answer(a: SceneAnswer, made: &mut [u8]) -> u64
+    ensures { λ r. ⌜ r ≡ sceneNumber (sceneAnswer a) ⌝ }
+    ensures { λ _. ⌜ now (made .exit) ≡ sceneWritten (sceneAnswer a) (now (made .entry)) ⌝ }
+{
+    match a {
+        SceneAnswer::Whole(x) => {
+            put_scene(x, made);
+            0
+        }
+        SceneAnswer::BadScene(k) => {
+            fields::put_u64(made, 0, k);
+            7
+        }
+        SceneAnswer::NoRoom => 5,
+    }
+}
+
+// 0, and the request, the body, the window and the sizes in use in `made`; 7 BadScene, and the bad record's number in the first 8 bytes of `made`; or
+// 5 NoRoom, and nothing is written.
+#[no_mangle]
+pub extern "C" fn walkprint_read_scene(
+    bytes: &[u8],
+    cells: &mut [u8],
+    permissions: &mut [u8],
+    shapes: &mut [u8],
+    boxes: &mut [u8],
+    made: &mut [u8],
+) -> u64
+    ensures number { λ r. ⌜ r ≡ sceneNumber (read (now (bytes .entry)) (now (cells .entry)) (now (permissions .entry)) (now (shapes .entry)) (now (boxes .entry)) .answer) ⌝ }
+    ensures cells { λ _. ⌜ now (cells .exit) ≡ read (now (bytes .entry)) (now (cells .entry)) (now (permissions .entry)) (now (shapes .entry)) (now (boxes .entry)) .tables .cells ⌝ }
+    ensures permissions { λ _. ⌜ now (permissions .exit) ≡ read (now (bytes .entry)) (now (cells .entry)) (now (permissions .entry)) (now (shapes .entry)) (now (boxes .entry)) .tables .perms ⌝ }
+    ensures shapes { λ _. ⌜ now (shapes .exit) ≡ read (now (bytes .entry)) (now (cells .entry)) (now (permissions .entry)) (now (shapes .entry)) (now (boxes .entry)) .tables .shapes ⌝ }
+    ensures boxes { λ _. ⌜ now (boxes .exit) ≡ read (now (bytes .entry)) (now (cells .entry)) (now (permissions .entry)) (now (shapes .entry)) (now (boxes .entry)) .tables .boxes ⌝ }
+    ensures made { λ _. ⌜ now (made .exit) ≡ sceneWritten (read (now (bytes .entry)) (now (cells .entry)) (now (permissions .entry)) (now (shapes .entry)) (now (boxes .entry)) .answer) (now (made .entry)) ⌝ }
+{
+    let a = read_scene::read_scene(bytes, cells, permissions, shapes, boxes);
+    put_answer(a, made)
+}

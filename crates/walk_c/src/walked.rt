@@ -1,0 +1,40 @@
+// The walk-back (01, Modules 5).
+ghost use mathlib.Core.Path.{_≡_};
+ghost use Rattle.walk_back.specs.WalkBack.{walked, walkedNumber};
+ghost use Rattle.walk_c.specs.Records.{windowIn, requestIn, bodyIn};
+use crate::records::body_in;
+use crate::records::request_in;
+use crate::records::window_in;
+use walk_back::Walked;
+
+fn walked_number(a: Walked) -> u64
+    ensures { λ r. ⌜ r ≡ walkedNumber a ⌝ }
+{
+    match a {
+        Walked::BadWorld => 3,
+        Walked::TooLarge => 4,
+        Walked::Yes => 10,
+        Walked::No => 11,
+    }
+}
+
+// Whether a list of waypoint records is a route: 3 BadWorld, 4 TooLarge, 10 yes, 11 no.
+#[no_mangle]
+pub extern "C" fn walkprint_walk_back(
+    window: &[u8],
+    cells: &[u8],
+    permissions: &[u8],
+    shapes: &[u8],
+    boxes: &[u8],
+    request: &[u8],
+    body: &[u8],
+    list: &[u8],
+) -> u64
+    ensures { λ r. ⌜ r ≡ walkedNumber (walked (windowIn (now (window .entry))) (now (cells .entry)) (now (permissions .entry)) (now (shapes .entry)) (now (boxes .entry)) (requestIn (now (request .entry))) (bodyIn (now (body .entry))) (now (list .entry))) ⌝ }
+{
+    let w = window_in(window);
+    let r = request_in(request);
+    let b = body_in(body);
+    let a = walk_back::walk_back(w, cells, permissions, shapes, boxes, r, b, list);
+    walked_number(a)
+}
