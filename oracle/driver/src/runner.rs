@@ -69,7 +69,7 @@ pub fn run(name: &str, numbers: &Numbers, check: Check) -> bool {
         mismatches += parted;
     }
     println!(
-        "{name}, scenes {} to {}: {counts}, {mismatches} mismatches",
+        "{name}, {} to {}: {counts}, {mismatches} mismatches",
         numbers.from,
         numbers.from + numbers.count - 1
     );
@@ -86,7 +86,7 @@ fn part(numbers: &Numbers, thread: u64, check: Check, stop: &AtomicBool) -> (Cou
             stop.store(true, Ordering::Relaxed);
             let name = makers.maker(number).0;
             println!(
-                "scene {number} ({name}): {}\n{}",
+                "{number} ({name}): {}\n{}",
                 mismatch.what, mismatch.scene
             );
             return (counts, 1);
