@@ -27,7 +27,7 @@ fn run_hits(part: &[u8], boxes: u32, by: Point, area: Aabb) -> bool
                 return false;
             }
             Found::Here(b) => {
-                if world::intersects(world::offset(b, by), area) {
+                if boxes::intersects(boxes::offset(b, by), area) {
                     return true;
                 }
             }
@@ -64,14 +64,14 @@ fn cell_free(
 ) -> bool
     ensures { λ r. ⌜ r ≡ free area (corner x y z) (space w (now (cells .entry)) (now (perms .entry)) (now (shapes .entry)) (now (boxes .entry)) x y z) ⌝ }
 {
-    let p = world::corner_of(x, y, z);
-    let meets = world::intersects(world::voxel_at(p), area);
+    let p = boxes::corner_of(x, y, z);
+    let meets = boxes::intersects(boxes::voxel_at(p), area);
     match world::cell_at(w, cells, perms, shapes, x, y, z) {
         Cell::Unknown => {
             if meets {
                 return false;
             }
-            !world::intersects(world::offset(world::unit(), p), area)
+            !boxes::intersects(boxes::offset(boxes::unit(), p), area)
         }
         Cell::Known {
             occupied,

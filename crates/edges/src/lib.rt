@@ -45,12 +45,12 @@ pub fn standable(
 ) -> bool
     ensures { λ a. ⌜ a ≡ standable (space w (now (cells .entry)) (now (perms .entry)) (now (shapes .entry)) (now (boxes .entry))) body p ⌝ }
 {
-    let area = world::from_feet(p, body.width, body.height);
+    let area = boxes::from_feet(p, body.width, body.height);
     if !clear::clear_area(w, cells, perms, shapes, boxes, area) {
         return false;
     }
     let width = body.width;
-    support::supported_segment(w, cells, perms, shapes, boxes, width, p, p)
+    segments::supported_segment(w, cells, perms, shapes, boxes, width, p, p)
 }
 
 // The edge from one point to another.

@@ -12,7 +12,7 @@ use world::Window;
 fn swept(body: Body, feet: Point, by: Point) -> Aabb
     ensures { λ a. ⌜ a ≡ swept body feet by ⌝ }
 {
-    world::expand_towards(world::from_feet(feet, body.width, body.height), by)
+    boxes::expand_towards(boxes::from_feet(feet, body.width, body.height), by)
 }
 
 // Whether the lift, crossing and settle areas are clear.
@@ -49,11 +49,11 @@ fn way_clear(
         y,
         z: to.z,
     };
-    let crossing = swept(body, raised, world::difference(across, raised));
+    let crossing = swept(body, raised, boxes::difference(across, raised));
     if !clear::clear_area(w, cells, perms, shapes, boxes, crossing) {
         return false;
     }
-    let settling = swept(body, across, world::difference(to, across));
+    let settling = swept(body, across, boxes::difference(to, across));
     clear::clear_area(w, cells, perms, shapes, boxes, settling)
 }
 
@@ -90,5 +90,5 @@ pub(crate) fn passable(
         return false;
     }
     let width = body.width;
-    support::supported_segment(w, cells, perms, shapes, boxes, width, from, to)
+    segments::supported_segment(w, cells, perms, shapes, boxes, width, from, to)
 }

@@ -20,7 +20,8 @@ use Rattle.exploration.specs.Choose.{choose, Least, Ordered}
 use Rattle.exploration.specs.Estimates.{Comparison, sooner, Before, First}
 use Rattle.exploration.specs.Laws.Budgets.{Compared, equal, parted, compare-final}
 use Rattle.exploration.specs.Laws.Choices.{chosen-least, least-chosen}
-use Rattle.exploration.specs.Laws.Endings.{found-of, found-outcome, found-route, unreachable-route, exceeded-cover, found-again, end-of, done-ended, ended-done, done-final, enough-done}
+use Rattle.exploration.specs.Laws.Endings.{found-of, found-outcome, found-route, unreachable-route, exceeded-cover, found-again}
+use Rattle.exploration.specs.Laws.Endings.{end-of, done-ended, ended-done, done-final, enough-done}
 use Rattle.exploration.specs.Laws.Estimates.{chosen-first, first-chosen}
 use Rattle.exploration.specs.Laws.Expansions.{sound-room, sound-counted, final-sound, final-done}
 use Rattle.exploration.specs.Laws.FloatOrder.{float-comparison}
@@ -55,7 +56,8 @@ module _ {P L A B : Type 0} (𝓖 : Graph P L) (𝓟 : Policy P L A B) (𝓛 : G
   -- Found stays Found under a larger budget.
   pub found-stays-found : (b c : ℕ) → b ≤ c → (t : List (P × L)) → answer 𝓖 𝓟 b ≡ Found t → (u : List (P × L)) × (answer 𝓖 𝓟 c ≡ Found u)
   found-stays-found b c h t e = let p = smaller-budget-keeps-the-first b c h .0 in
-      let u = found-again 𝓖 𝓟 𝓛 𝓠 b c (final 𝓖 𝓟 b) (final 𝓖 𝓟 c) (p .0, sym (p .1)) (final-sound 𝓖 𝓟 𝓛 𝓠 b) (final-sound 𝓖 𝓟 𝓛 𝓠 c) (final-done 𝓖 𝓟 𝓛 𝓠 c) t (found-of 𝓖 𝓟 (final 𝓖 𝓟 b) t e) in
+      let u = found-again 𝓖 𝓟 𝓛 𝓠 b c (final 𝓖 𝓟 b) (final 𝓖 𝓟 c) (p .0, sym (p .1))
+      (final-sound 𝓖 𝓟 𝓛 𝓠 b) (final-sound 𝓖 𝓟 𝓛 𝓠 c) (final-done 𝓖 𝓟 𝓛 𝓠 c) t (found-of 𝓖 𝓟 (final 𝓖 𝓟 b) t e) in
       (u .0, found-outcome 𝓖 𝓟 (final 𝓖 𝓟 c) (u .0) (u .1))
 
   -- Unreachable stays Unreachable under a larger budget.
@@ -67,8 +69,13 @@ module _ {P L A B : Type 0} (𝓖 : Graph P L) (𝓟 : Policy P L A B) (𝓛 : G
       go (parted o) = absurd (omega (arith, o .lost, end-of 𝓖 𝓟 (final 𝓖 𝓟 b) e .2))
 
   -- A search ends after at most budget closings, and its count of closings is the number of closed nodes.
-  pub ends-within-budget : (b : ℕ) → (answer 𝓖 𝓟 b ≢ Searching) × ((final 𝓖 𝓟 b) .closings ≤ b) × ((final 𝓖 𝓟 b) .closings ≡ count (λ n. n .closed) ((final 𝓖 𝓟 b) .nodes))
-  ends-within-budget b = (done-ended 𝓖 𝓟 (final 𝓖 𝓟 b) (final-done 𝓖 𝓟 𝓛 𝓠 b), omega (arith, k, sound-room 𝓖 𝓟 (final-sound 𝓖 𝓟 𝓛 𝓠 b), count-le (λ n. n .closed) ((final 𝓖 𝓟 b) .nodes)), k)
+  pub ends-within-budget : (b : ℕ) →
+      (answer 𝓖 𝓟 b ≢ Searching) × ((final 𝓖 𝓟 b) .closings ≤ b) × ((final 𝓖 𝓟 b) .closings ≡ count (λ n. n .closed) ((final 𝓖 𝓟 b) .nodes))
+  ends-within-budget b = (
+    done-ended 𝓖 𝓟 (final 𝓖 𝓟 b) (final-done 𝓖 𝓟 𝓛 𝓠 b),
+    omega (arith, k, sound-room 𝓖 𝓟 (final-sound 𝓖 𝓟 𝓛 𝓠 b), count-le (λ n. n .closed) ((final 𝓖 𝓟 b) .nodes)),
+    k,
+  )
     where
       k : (final 𝓖 𝓟 b) .closings ≡ count (λ n. n .closed) ((final 𝓖 𝓟 b) .nodes)
       k = sound-counted 𝓖 𝓟 (final-sound 𝓖 𝓟 𝓛 𝓠 b)
@@ -77,7 +84,10 @@ module _ {P L A B : Type 0} (𝓖 : Graph P L) (𝓟 : Policy P L A B) (𝓛 : G
   -- in which the whole search ends.
   pub every-division-ends-alike : (b : ℕ) (lots : List ℕ) → (b ≤ total lots → outcome 𝓖 𝓟 (runs 𝓖 𝓟 b lots (begin 𝓖 𝓟 b)) ≢ Searching)
       × (outcome 𝓖 𝓟 (runs 𝓖 𝓟 b lots (begin 𝓖 𝓟 b)) ≢ Searching → runs 𝓖 𝓟 b lots (begin 𝓖 𝓟 b) ≡ final 𝓖 𝓟 b)
-  every-division-ends-alike b lots = rw (runs-run 𝓖 𝓟 b lots (begin 𝓖 𝓟 b)) (λ h. done-ended 𝓖 𝓟 _ (enough-done 𝓖 𝓟 𝓛 𝓠 b (total lots) h), λ n. done-final 𝓖 𝓟 𝓛 𝓠 b (total lots) (ended-done 𝓖 𝓟 _ n))
+  every-division-ends-alike b lots = rw (runs-run 𝓖 𝓟 b lots (begin 𝓖 𝓟 b)) (
+    λ h. done-ended 𝓖 𝓟 _ (enough-done 𝓖 𝓟 𝓛 𝓠 b (total lots) h),
+    λ n. done-final 𝓖 𝓟 𝓛 𝓠 b (total lots) (ended-done 𝓖 𝓟 _ n),
+  )
 
 -- ---- two policies over one graph
 
@@ -105,7 +115,8 @@ module _ {P L A B C D : Type 0} (𝓖 : Graph P L) (𝓛 : GraphLaws 𝓖) (𝓟
 
 -- ---- two guides by turns
 
-module _ {P L A B Q M C D : Type 0} (𝓖 : Graph P L) (𝓗 : Graph Q M) (𝓟 : Policy P L A B) (𝓡 : Policy Q M C D) (𝓛 : GraphLaws 𝓖) (𝓜 : GraphLaws 𝓗) (𝓠 : PolicyLaws 𝓟) (𝓢 : PolicyLaws 𝓡) where
+module _ {P L A B Q M C D : Type 0} (𝓖 : Graph P L) (𝓗 : Graph Q M) (𝓟 : Policy P L A B) (𝓡 : Policy Q M C D)
+    (𝓛 : GraphLaws 𝓖) (𝓜 : GraphLaws 𝓗) (𝓠 : PolicyLaws 𝓟) (𝓢 : PolicyLaws 𝓡) where
   -- Each guide ends in the state in which it would end alone, and while it is searching it waits for at most one expansion of the other.
   pub guides-by-turns : (b c : ℕ) → (play 𝓖 𝓗 𝓟 𝓡 b c (turns 𝓖 𝓗 𝓟 𝓡 b c) (beginBoth 𝓖 𝓗 𝓟 𝓡 b c) ≡ (final 𝓖 𝓟 b, final 𝓗 𝓡 c))
       × Fair 𝓖 𝓗 𝓟 𝓡 b c (turns 𝓖 𝓗 𝓟 𝓡 b c) (beginBoth 𝓖 𝓗 𝓟 𝓡 b c)
@@ -120,28 +131,37 @@ route-test-exact 𝓖 t = (is-route 𝓖 t, route-is 𝓖)
 -- ---- the next of the frontier
 
 -- Where the order is total and transitive on the waiting elements that are present, the scan keeps the least of them, and only the least.
-pub picks-the-least : {A : Type 0} (waits : A → Bool) (beats : A → A → Bool) (xs : List A) → Ordered waits beats xs → (r : ℕ × A) → (choose waits beats xs ≡ some r) ↔ Least waits beats xs r
+pub picks-the-least : {A : Type 0} (waits : A → Bool) (beats : A → A → Bool) (xs : List A) → Ordered waits beats xs → (r : ℕ × A) →
+    (choose waits beats xs ≡ some r) ↔ Least waits beats xs r
 picks-the-least waits beats xs o r = (chosen-least waits beats xs o r, least-chosen waits beats xs o r)
 
-module _ {A E : Type 0} (below level : E → E → Bool) (Number : E → Type 0) (laws : Comparison below level Number) (waits : A → Bool) (estimate : A → E) (order : A → ℕ) where
+module _ {A E : Type 0} (below level : E → E → Bool) (Number : E → Type 0) (laws : Comparison below level Number)
+    (waits : A → Bool) (estimate : A → E) (order : A → ℕ) where
   -- By estimate and push order: where the waiting estimates are numbers, what is picked has the lowest estimate, of those the earliest push, and where pushes
   -- tie the lowest place; and only that one is picked.
   pub picks-lowest-estimate-then-earliest-push : (xs : List A) → ((k : ℕ) (x : A) → nth xs k ≡ some x → waits x ≡ true → Number (estimate x)) → (r : ℕ × A)
       → (choose waits (sooner below level estimate order) xs ≡ some r) ↔ First below level estimate order waits xs r
-  picks-lowest-estimate-then-earliest-push xs n r = (chosen-first below level Number laws estimate order waits xs (λ k x w. n k x (w .0) (w .1)) r, first-chosen below level Number laws estimate order waits xs (λ k x w. n k x (w .0) (w .1)) r)
+  picks-lowest-estimate-then-earliest-push xs n r = (
+    chosen-first below level Number laws estimate order waits xs (λ k x w. n k x (w .0) (w .1)) r,
+    first-chosen below level Number laws estimate order waits xs (λ k x w. n k x (w .0) (w .1)) r,
+  )
 
   -- Where no two pushes tie, the place decides nothing: every other waiting one has a higher estimate, or an equal one and a later push.
   pub distinct-pushes-decide : (xs : List A) → ((k : ℕ) (x : A) → nth xs k ≡ some x → waits x ≡ true → Number (estimate x))
-      → ((j k : ℕ) (x y : A) → nth xs j ≡ some x → nth xs k ≡ some y → order x ≡ order y → j ≡ k) → (r : ℕ × A) → choose waits (sooner below level estimate order) xs ≡ some r
-      → (k : ℕ) (x : A) → nth xs k ≡ some x → waits x ≡ true → k ≢ r .0 → (below (estimate (r .1)) (estimate x) ≡ true) ⊎ ((level (estimate (r .1)) (estimate x) ≡ true) × (order (r .1) < order x))
+      → ((j k : ℕ) (x y : A) → nth xs j ≡ some x → nth xs k ≡ some y → order x ≡ order y → j ≡ k)
+      → (r : ℕ × A) → choose waits (sooner below level estimate order) xs ≡ some r
+      → (k : ℕ) (x : A) → nth xs k ≡ some x → waits x ≡ true → k ≢ r .0
+      → (below (estimate (r .1)) (estimate x) ≡ true) ⊎ ((level (estimate (r .1)) (estimate x) ≡ true) × (order (r .1) < order x))
   distinct-pushes-decide xs n distinct r e k x i w h = let f = picks-lowest-estimate-then-earliest-push xs n r .0 e in go (f .0 .0) (f .1 k x (i, w) h)
     where
-      go : nth xs (r .0) ≡ some (r .1) → Before below level estimate order (r .0) (r .1) k x → (below (estimate (r .1)) (estimate x) ≡ true) ⊎ ((level (estimate (r .1)) (estimate x) ≡ true) × (order (r .1) < order x))
+      go : nth xs (r .0) ≡ some (r .1) → Before below level estimate order (r .0) (r .1) k x →
+          (below (estimate (r .1)) (estimate x) ≡ true) ⊎ ((level (estimate (r .1)) (estimate x) ≡ true) × (order (r .1) < order x))
       go j (inl p) = inl p
       go j (inr (p, inl q)) = inr (p, q)
       go j (inr (p, inr q)) = absurd (h (distinct k (r .0) x (r .1) i j (sym (q .0))))
 
 -- And so it is for f64 estimates that are no NaN.
-pub picks-lowest-f64-then-earliest-push : {A : Type 0} (waits : A → Bool) (estimate : A → Float) (order : A → ℕ) (xs : List A) → ((k : ℕ) (x : A) → nth xs k ≡ some x → waits x ≡ true → isNan (estimate x) ≡ false) → (r : ℕ × A)
+pub picks-lowest-f64-then-earliest-push : {A : Type 0} (waits : A → Bool) (estimate : A → Float) (order : A → ℕ) (xs : List A)
+    → ((k : ℕ) (x : A) → nth xs k ≡ some x → waits x ≡ true → isNan (estimate x) ≡ false) → (r : ℕ × A)
     → (choose waits (sooner lt eq estimate order) xs ≡ some r) ↔ First lt eq estimate order waits xs r
 picks-lowest-f64-then-earliest-push = picks-lowest-estimate-then-earliest-push lt eq (λ x. isNan x ≡ false) float-comparison

@@ -255,7 +255,7 @@ fn told_yes(
             let area = Aabb { min, max };
             clear::clear_area(s.window, cells, perms, shapes, boxes, area)
         }
-        _ => support::supported_segment(
+        _ => segments::supported_segment(
             s.window,
             cells,
             perms,

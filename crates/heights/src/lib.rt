@@ -114,7 +114,7 @@ fn run_next(
         let Found::Here(b) = world::box_at(part, at) else {
             return least;
         };
-        least = take_box(band, x, z, after, least, world::offset(b, by));
+        least = take_box(band, x, z, after, least, boxes::offset(b, by));
         left -= 1;
         at += 48;
     }
@@ -170,7 +170,7 @@ fn cell_next(
             count,
         } => {
             if support {
-                let by = world::corner_of(cx, y, cz);
+                let by = boxes::corner_of(cx, y, cz);
                 table_next(boxes, first, count, by, band, x, z, after, best)
             } else {
                 best

@@ -11,7 +11,7 @@ use Rattle.scene.specs.Scene.{cellsRead, permsRead, shapesRead, boxesRead}
 use Rattle.scene.specs.Answers.{Answer, given, refused, step, ended}
 use Rattle.search.specs.declared.answers.Answer as search
 use Rattle.search.specs.FindWalkPath.{outcomeNumber, found, nodesAfter, frontAfter, outAfter}
-use Rattle.report.specs.Length.{lengthOf}
+use Rattle.lengths.specs.Length.{lengthOf}
 use Rattle.report.specs.Lines.{firstLine, waypointLine}
 use Rattle.print.specs.declared.types.Progress.{Progress}
 use Rattle.print.specs.declared.types.Progress.the-variants.{Going, Refused}

@@ -66,7 +66,7 @@ fn told_of(a: Answer, out: &[u8]) -> Told
 {
     let outcome = a.outcome;
     let n = a.count;
-    let total = report::length_of(list_of(out, n));
+    let total = lengths::length_of(list_of(out, n));
     Told {
         number: number_of(outcome),
         bad: 0,

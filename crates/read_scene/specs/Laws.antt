@@ -61,22 +61,27 @@ module _ (r : Reading) (s : List ℕ) where
 
 -- record k of the scene is read, and the tables behind it are c, p, h and b
 module _ (r : Reading) (cells perms shapes boxes s : List ℕ) (k n : ℕ) (piece : List ℕ) (is : piece ≡ recordAt s k)
-    (c p h b : List ℕ) (cs : c ≡ cellsRead r piece cells) (ps : p ≡ permsRead r piece perms) (hs : h ≡ shapesRead r piece shapes) (bs : b ≡ boxesRead r piece boxes) where
-  -- a good record is left behind
-  pub goes-on : (r' : Reading) → k < n → given r' ≡ step r piece →
-      readFrom r (tablesOf cells perms shapes boxes) (recordsFrom s k (n - k)) ≡ readFrom r' (tablesOf c p h b) (recordsFrom s (k + 1) (n - (k + 1)))
-  unfolding readFrom
-  goes-on r' l e =
-      let g = took r piece r' e (goodIn r piece) refl in
-      rw (from-more s k n l, ← is, g .0, ← g .1, ← cs, ← ps, ← hs, ← bs)
+    (c p h b : List ℕ)
+    (cs : c ≡ cellsRead r piece cells)
+    (ps : p ≡ permsRead r piece perms)
+    (hs : h ≡ shapesRead r piece shapes)
+    (bs : b ≡ boxesRead r piece boxes)
+  where
+    -- a good record is left behind
+    pub goes-on : (r' : Reading) → k < n → given r' ≡ step r piece →
+        readFrom r (tablesOf cells perms shapes boxes) (recordsFrom s k (n - k)) ≡ readFrom r' (tablesOf c p h b) (recordsFrom s (k + 1) (n - (k + 1)))
+    unfolding readFrom
+    goes-on r' l e =
+        let g = took r piece r' e (goodIn r piece) refl in
+        rw (from-more s k n l, ← is, g .0, ← g .1, ← cs, ← ps, ← hs, ← bs)
 
-  -- a bad one ends it
-  pub stops : (m q : ℕ) → k < n → refused m q ≡ step r piece →
-      readFrom r (tablesOf cells perms shapes boxes) (recordsFrom s k (n - k)) ≡ record { answer = refused 7 (r .number); tables = tablesOf c p h b }
-  unfolding readFrom
-  stops m q l e =
-      let g = left r piece m q e (goodIn r piece) refl in
-      rw (from-more s k n l, ← is, g, cs, ps, hs, bs, nothing r piece (tablesOf cells perms shapes boxes) g)
+    -- a bad one ends it
+    pub stops : (m q : ℕ) → k < n → refused m q ≡ step r piece →
+        readFrom r (tablesOf cells perms shapes boxes) (recordsFrom s k (n - k)) ≡ record { answer = refused 7 (r .number); tables = tablesOf c p h b }
+    unfolding readFrom
+    stops m q l e =
+        let g = left r piece m q e (goodIn r piece) refl in
+        rw (from-more s k n l, ← is, g, cs, ps, hs, bs, nothing r piece (tablesOf cells perms shapes boxes) g)
 
 -- after the last one the input ends
 pub ends : (r : Reading) (t : Tables) (s : List ℕ) (k n : ℕ) → n ≤ k → readFrom r t (recordsFrom s k (n - k)) ≡ record { answer = ended r; tables = t }

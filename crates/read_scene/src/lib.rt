@@ -18,7 +18,11 @@ use scene::Step;
 fn record_count(len: usize) -> usize
     ensures { λ r. ⌜ r ≡ recordCount len ⌝ }
 {
-    if len % 64 == 0 { len / 64 } else { len / 64 + 1 }
+    if len % 64 == 0 {
+        len / 64
+    } else {
+        len / 64 + 1
+    }
 }
 
 // Record k: 64 bytes, or as many as are left.

@@ -43,20 +43,29 @@ fn put_outcome(out: &mut [u8], number: u64) -> usize
 }
 
 // A movement's word, by its number.
+fn movement_word(movement: u64) -> [u8; 4]
+    requires { ⌜ movement ≤ 3 ⌝ }
+    ensures { λ r. ⌜ r ≡ movementWord movement ⌝ }
+{
+    if movement == 0 {
+        return [b'w', b'a', b'l', b'k'];
+    }
+    if movement == 1 {
+        return [b's', b't', b'e', b'p'];
+    }
+    if movement == 2 {
+        return [b'j', b'u', b'm', b'p'];
+    }
+    [b'd', b'r', b'o', b'p']
+}
+
+// The same, written.
 fn put_movement(out: &mut [u8], at: usize, movement: u64) -> usize
     requires { ⌜ (at + 21 ≤ length (now out)) × (movement ≤ 3) ⌝ }
     ensures { λ r. ⌜ Field (now (out .entry)) (now (out .exit)) at r (movementWord movement) 32 ⌝ }
 {
-    if movement == 0 {
-        return put_word(out, at, b"walk");
-    }
-    if movement == 1 {
-        return put_word(out, at, b"step");
-    }
-    if movement == 2 {
-        return put_word(out, at, b"jump");
-    }
-    put_word(out, at, b"drop")
+    let word = movement_word(movement);
+    put_word(out, at, &word)
 }
 
 // Line 1 of a search that was not refused.

@@ -15,6 +15,7 @@ pub use records::put_entry;
 pub use records::put_node;
 pub use scans::pick;
 pub use scans::same_point;
+pub use scans::same_word;
 pub use scans::seek;
 pub use scans::zero;
 

@@ -91,14 +91,14 @@ pub fn get_entry(front: &[u8], k: usize) -> Entry
 fn put_word(room: &mut [u8], at: usize, v: u64)
     ensures { λ _. ⌜ (now (room .exit) ≡ withField 8 (now (room .entry)) at v) × (v < 256 ^ 8) ⌝ }
 {
-    fields::put_u64(room, at, v);
+    stores::put_u64(room, at, v);
 }
 
 // Half a word written, and that it is one.
 fn put_half(room: &mut [u8], at: usize, v: u32)
     ensures { λ _. ⌜ (now (room .exit) ≡ withField 4 (now (room .entry)) at v) × (v < 256 ^ 4) ⌝ }
 {
-    fields::put_u32(room, at, v);
+    stores::put_u32(room, at, v);
 }
 
 // A waypoint record written at an offset.

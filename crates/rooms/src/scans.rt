@@ -18,7 +18,8 @@ fn canonical_word(n: u64) -> u64
     if n == 0x8000_0000_0000_0000 { 0 } else { n }
 }
 
-fn same_word(a: u64, b: u64) -> bool
+// Whether two coordinates, or two lifts, are the same.
+pub fn same_word(a: u64, b: u64) -> bool
     ensures { λ r. ⌜ r ≡ sameWord a b ⌝ }
 {
     canonical_word(a) == canonical_word(b)

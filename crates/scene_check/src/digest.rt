@@ -53,7 +53,7 @@ fn of_body(d: u64, b: Body) -> u64 {
 }
 
 fn signed(d: u64, x: i32) -> u64 {
-    number(d, fields::unsigned_of(x) as u64, 4)
+    number(d, stores::unsigned_of(x) as u64, 4)
 }
 
 fn of_window(d: u64, w: Window) -> u64 {

@@ -43,9 +43,9 @@ fn damage(
     let n = fields::u32_at(&d, 0) as usize;
     let place = fields::u32_at(&d, 4) as usize;
     let old = fields::u64_at(scene, place);
-    fields::put_u64(scene, place, fields::u64_at(&d, 8));
+    stores::put_u64(scene, place, fields::u64_at(&d, 8));
     line(case::read_front(scene, n, cells, perms, shapes, boxes));
-    fields::put_u64(scene, place, old);
+    stores::put_u64(scene, place, old);
 }
 
 fn damages(

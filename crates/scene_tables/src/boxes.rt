@@ -11,7 +11,7 @@ pub fn put_box(boxes: &mut [u8], k: u32, bytes: &[u8])
     let mut j: usize = 0;
     while j < 6 {
         let word = fields::u64_at(bytes, 8 + 8 * j);
-        fields::put_u64(boxes, at + 8 * j, word);
+        stores::put_u64(boxes, at + 8 * j, word);
         j += 1;
     }
 }

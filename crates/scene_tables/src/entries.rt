@@ -8,8 +8,8 @@ pub(crate) fn put_entry(table: &mut [u8], i: usize, a: u32, b: u32)
     requires { ⌜ i < 2 ^ 40 ⌝ }
     ensures { λ _. ⌜ now (table .exit) ≡ withEntry a b i (now (table .entry)) ⌝ }
 {
-    fields::put_u32(table, 8 * i, a);
-    fields::put_u32(table, 8 * i + 4, b);
+    stores::put_u32(table, 8 * i, a);
+    stores::put_u32(table, 8 * i + 4, b);
 }
 
 // The first n cells, unfilled.
@@ -42,5 +42,5 @@ pub fn put_shape(shapes: &mut [u8], from: u32, n: u32, first: u32, count: u32)
 {
     let at = n as usize;
     empty_shapes(shapes, from, at + 1, first);
-    fields::put_u32(shapes, 8 * at + 4, count);
+    stores::put_u32(shapes, 8 * at + 4, count);
 }

@@ -1,19 +1,14 @@
-// Supported segments (01, The graph): whether what lies under the way from one point to another carries a body.
-//
-// There is no list to gather intervals in. So the shapes under the footprint are passed over as often as the part of the centre line that is covered
-// grows. The first pass sees every shape, and so any that refuses. `line` has the part above one box, `pass` the loops over the cells.
-mod line;
-mod pass;
+// What carries a body (01, The graph, supported segments): which shapes count under the way from one point to another, and what one of them does to
+// it. `line` has the part of the centre line above one box, `shape` what one more shape makes of what is covered. The crate `segments` goes over the
+// cells; what a supported segment is, is defined here.
+pub mod line;
+pub mod shape;
 
-ghost use mathlib.Core.Path.{_≡_};
-ghost use Rattle.world.specs.Space.{space};
-ghost use Rattle.cells.specs.RangeLaws.{Near};
-ghost use Rattle.support.specs.Support.{allShapes, carried, supported};
-use cells::Range;
 pub use line::support_interval;
+pub use shape::footprint;
+pub use shape::reach_shape;
 use world::Aabb;
 use world::Point;
-use world::Window;
 
 // A part of the centre line, borders included: 0 is at the one foot and 1 at the other.
 pub struct Interval {
@@ -28,66 +23,14 @@ pub enum Span {
 }
 
 // A way from one foot to the other, and its footprint.
-struct Way {
-    from: Point,
-    to: Point,
-    under: Aabb,
+pub struct Way {
+    pub from: Point,
+    pub to: Point,
+    pub under: Aabb,
 }
 
 // How far a pass covers the centre line from 0 on, or that a shape refuses it.
-enum Reach {
+pub enum Reach {
     Refused,
     To(f64),
-}
-
-// Passes over the shapes under a way, as long as they cover more of it.
-fn carries(
-    w: Window,
-    cells: &[u8],
-    perms: &[u8],
-    shapes: &[u8],
-    boxes: &[u8],
-    way: Way,
-    ys: Range,
-    xs: Range,
-    zs: Range,
-) -> bool
-    requires { ⌜ Near ys × Near xs × Near zs ⌝ }
-    ensures { λ r. ⌜ r ≡ carried (way .under) (way .from) (way .to) (allShapes (space w (now (cells .entry)) (now (perms .entry)) (now (shapes .entry)) (now (boxes .entry))) ys xs zs) ⌝ }
-{
-    let mut covered = 0.0;
-    loop {
-        let reach = pass::reach_all(w, cells, perms, shapes, boxes, way, ys, xs, zs, covered);
-        let Reach::To(next) = reach else {
-            return false;
-        };
-        if 1.0 - floats::E <= next {
-            return true;
-        }
-        if !(covered < next) {
-            return false;
-        }
-        covered = next;
-    }
-}
-
-// Whether the way from one point to another is supported.
-pub fn supported_segment(
-    w: Window,
-    cells: &[u8],
-    perms: &[u8],
-    shapes: &[u8],
-    boxes: &[u8],
-    width: f64,
-    from: Point,
-    to: Point,
-) -> bool
-    ensures { λ r. ⌜ r ≡ supported (space w (now (cells .entry)) (now (perms .entry)) (now (shapes .entry)) (now (boxes .entry))) width from to ⌝ }
-{
-    let f = pass::footprint(width, from, to);
-    let ys = cells::floors(f.min.y, f.max.y, 2);
-    let xs = cells::reached(f.min.x, f.max.x, 0);
-    let zs = cells::reached(f.min.z, f.max.z, 0);
-    let way = Way { from, to, under: f };
-    carries(w, cells, perms, shapes, boxes, way, ys, xs, zs)
 }

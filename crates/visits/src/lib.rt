@@ -3,13 +3,13 @@
 // `visit`, `close` and `begin` answer for every input. Where the rooms are too small for the budget, or the counts are no counts of such a search, `visit`
 // and `close` leave all as it is.
 pub mod costs;
-mod steps;
+mod visiting;
 
 use rooms::Counts;
 use rooms::NodeRecord;
-pub use steps::begin;
-pub use steps::close;
-pub use steps::visit;
+pub use visiting::begin;
+pub use visiting::close;
+pub use visiting::visit;
 
 // What is searched: how many nodes may be retained, and the goal.
 pub struct Aim {

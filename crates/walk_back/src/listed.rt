@@ -3,12 +3,13 @@ ghost use mathlib.Core.Path.{_≡_};
 ghost use mathlib.Core.Bool.{_&&_};
 ghost use Prim.Native.Nat.{_*_, _≤_};
 ghost use lib.ListN.{length};
-ghost use Rattle.rooms.specs.Waypoints.{canonicalWord, sameWord, samePoint, alike, standing};
+ghost use Rattle.rooms.specs.Waypoints.{samePoint, alike, standing};
 ghost use Rattle.steps.specs.Words.{pointOf, feetOf, labelOf};
 ghost use Rattle.walk_back.specs.Listed.{listedAt, feet, label};
 ghost use Rattle.walk_back.specs.Laws.{leadsTo};
 use edges::Waypoint;
 use rooms::Feet;
+use rooms::same_word;
 use world::Point;
 
 // A waypoint record as its words: the patterns of the feet and of the lift, and the movement's number.
@@ -44,30 +45,26 @@ pub(crate) fn listed_at(list: &[u8], k: usize) -> Listed
 pub(crate) fn point_at(v: Listed) -> Point
     ensures { λ p. ⌜ p ≡ pointOf (feet v) ⌝ }
 {
-    steps::point_of(Feet { x: v.x, y: v.y, z: v.z })
-}
-
-// -0.0's pattern as 0.0's, and any other as it is.
-fn canonical_word(n: u64) -> u64
-    ensures { λ r. ⌜ r ≡ canonicalWord n ⌝ }
-{
-    if n == 0x8000_0000_0000_0000 { 0 } else { n }
-}
-
-fn same_word(a: u64, b: u64) -> bool
-    ensures { λ r. ⌜ r ≡ sameWord a b ⌝ }
-{
-    canonical_word(a) == canonical_word(b)
+    steps::point_of(Feet {
+        x: v.x,
+        y: v.y,
+        z: v.z,
+    })
 }
 
 // Whether a point is a record's.
 fn same_feet(p: Point, v: Listed) -> bool
     ensures { λ r. ⌜ r ≡ samePoint (feetOf p) (feet v) ⌝ }
 {
-    let x = floats::bits_of(p.x);
-    let y = floats::bits_of(p.y);
-    let z = floats::bits_of(p.z);
-    same_word(x, v.x) & same_word(y, v.y) & same_word(z, v.z)
+    let feet = steps::feet_of(p);
+    rooms::same_point(
+        feet,
+        Feet {
+            x: v.x,
+            y: v.y,
+            z: v.z,
+        },
+    )
 }
 
 // Whether an edge leads to a record: its point, its movement and its lift.
@@ -98,8 +95,13 @@ pub(crate) fn is_start(start: Point, v: Listed) -> bool
 pub(crate) fn is_goal(goal: Point, v: Listed) -> bool
     ensures { λ r. ⌜ r ≡ samePoint (feet v) (feetOf goal) ⌝ }
 {
-    let x = floats::bits_of(goal.x);
-    let y = floats::bits_of(goal.y);
-    let z = floats::bits_of(goal.z);
-    same_word(v.x, x) & same_word(v.y, y) & same_word(v.z, z)
+    let feet = steps::feet_of(goal);
+    rooms::same_point(
+        Feet {
+            x: v.x,
+            y: v.y,
+            z: v.z,
+        },
+        feet,
+    )
 }

@@ -14,15 +14,24 @@ use Rattle.scene_records.specs.Layout.{pointAt}
 -- "Window: origin three i32, sizes three u32": 24 bytes
 unfoldable pub windowIn : List ℕ → Window
 windowIn s = record {
-  x = signedField s 0; y = signedField s 4; z = signedField s 8;
-  sx = field 4 s 12; sy = field 4 s 16; sz = field 4 s 20;
+  x = signedField s 0;
+  y = signedField s 4;
+  z = signedField s 8;
+  sx = field 4 s 12;
+  sy = field 4 s 16;
+  sz = field 4 s 20;
 }
 
 -- a request, 88 bytes: start, goal, max_range, step_height, jump_height and max_drop, ten f64, and node_budget, u64
 unfoldable pub requestIn : List ℕ → Request
 requestIn s = record {
-  start = pointAt s 0; goal = pointAt s 24; «max_range» = floatField s 48; «node_budget» = field 8 s 80;
-  «step_height» = floatField s 56; «jump_height» = floatField s 64; «max_drop» = floatField s 72;
+  start = pointAt s 0;
+  goal = pointAt s 24;
+  «max_range» = floatField s 48;
+  «node_budget» = field 8 s 80;
+  «step_height» = floatField s 56;
+  «jump_height» = floatField s 64;
+  «max_drop» = floatField s 72;
 }
 
 -- a body, 24 bytes: width, height and step_height, three f64
@@ -32,8 +41,14 @@ bodyIn s = record { width = floatField s 0; height = floatField s 8; «step_heig
 -- a policy: a bit for each wish, and the lift of one jump
 unfoldable pub policyIn : ℕ → Float → WalkPolicy
 policyIn bits jump = record {
-  «avoid_water» = has 1 bits; «avoid_damage_blocks» = has 2 bits; «can_jump» = has 4 bits; «jump_height» = jump;
-  «can_pass_doors» = has 8 bits; «can_open_doors» = has 16 bits; «can_open_iron_doors» = has 32 bits; «door_breaker» = has 64 bits;
+  «avoid_water» = has 1 bits;
+  «avoid_damage_blocks» = has 2 bits;
+  «can_jump» = has 4 bits;
+  «jump_height» = jump;
+  «can_pass_doors» = has 8 bits;
+  «can_open_doors» = has 16 bits;
+  «can_open_iron_doors» = has 32 bits;
+  «door_breaker» = has 64 bits;
 }
 
 -- and a bit for a body in water

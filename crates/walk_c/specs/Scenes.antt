@@ -22,8 +22,9 @@ withPoint p at s = withFloat (withFloat (withFloat s at (p .x)) (at + 8) (p .y))
 unfoldable pub withRequest : Request → List ℕ → List ℕ
 withRequest r s =
     withField 8
-    (withFloat (withFloat (withFloat (withFloat (withPoint (r .goal) 24 (withPoint (r .start) 0 s)) 48 (r .«max_range»)) 56 (r .«step_height»)) 64 (r .«jump_height»)) 72
-    (r .«max_drop»))
+    (withFloat
+    (withFloat (withFloat (withFloat (withPoint (r .goal) 24 (withPoint (r .start) 0 s)) 48 (r .«max_range»)) 56 (r .«step_height»)) 64 (r .«jump_height»))
+    72 (r .«max_drop»))
     80 (r .«node_budget»)
 
 -- bytes 88 to 111

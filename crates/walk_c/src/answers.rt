@@ -35,9 +35,9 @@ pub(crate) fn put_answer(a: Answer, answer: &mut [u8]) -> u64
     if answer.len() < 32 {
         return number;
     }
-    fields::put_u64(answer, 0, number);
-    fields::put_u64(answer, 8, wide(a.count));
-    fields::put_u64(answer, 16, wide(a.retained));
-    fields::put_u64(answer, 24, a.closed);
+    stores::put_u64(answer, 0, number);
+    stores::put_u64(answer, 8, wide(a.count));
+    stores::put_u64(answer, 16, wide(a.retained));
+    stores::put_u64(answer, 24, a.closed);
     number
 }

@@ -44,8 +44,16 @@ pub extern "C" fn walkprint_edge(
     let w = window_in(window);
     let r = request_in(request);
     let b = body_in(body);
-    let from = Point { x: from_x, y: from_y, z: from_z };
-    let to = Point { x: to_x, y: to_y, z: to_z };
+    let from = Point {
+        x: from_x,
+        y: from_y,
+        z: from_z,
+    };
+    let to = Point {
+        x: to_x,
+        y: to_y,
+        z: to_z,
+    };
     let a = edges::edge(w, cells, permissions, shapes, boxes, r, b, from, to);
     edge_number(a)
 }

@@ -12,7 +12,7 @@ pub extern "C" fn walkprint_jump_apex(power: f32, gravity: f64, height: &mut [u8
 {
     match policy::jump_apex(power, gravity) {
         Apex::Height(h) => {
-            fields::put_f64(height, 0, h);
+            stores::put_f64(height, 0, h);
             0
         }
         Apex::Endless => 6,

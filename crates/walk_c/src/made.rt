@@ -14,9 +14,9 @@ fn put_point(p: Point, at: usize, made: &mut [u8])
     requires { ⌜ at < 2 ^ 32 ⌝ }
     ensures { λ _. ⌜ now (made .exit) ≡ withPoint p at (now (made .entry)) ⌝ }
 {
-    fields::put_f64(made, at, p.x);
-    fields::put_f64(made, at + 8, p.y);
-    fields::put_f64(made, at + 16, p.z);
+    stores::put_f64(made, at, p.x);
+    stores::put_f64(made, at + 8, p.y);
+    stores::put_f64(made, at + 16, p.z);
 }
 
 fn put_request(r: Request, made: &mut [u8])
@@ -24,39 +24,39 @@ fn put_request(r: Request, made: &mut [u8])
 {
     put_point(r.start, 0, made);
     put_point(r.goal, 24, made);
-    fields::put_f64(made, 48, r.max_range);
-    fields::put_f64(made, 56, r.step_height);
-    fields::put_f64(made, 64, r.jump_height);
-    fields::put_f64(made, 72, r.max_drop);
-    fields::put_u64(made, 80, r.node_budget);
+    stores::put_f64(made, 48, r.max_range);
+    stores::put_f64(made, 56, r.step_height);
+    stores::put_f64(made, 64, r.jump_height);
+    stores::put_f64(made, 72, r.max_drop);
+    stores::put_u64(made, 80, r.node_budget);
 }
 
 fn put_body(b: Body, made: &mut [u8])
     ensures { λ _. ⌜ now (made .exit) ≡ withBody b (now (made .entry)) ⌝ }
 {
-    fields::put_f64(made, 88, b.width);
-    fields::put_f64(made, 96, b.height);
-    fields::put_f64(made, 104, b.step_height);
+    stores::put_f64(made, 88, b.width);
+    stores::put_f64(made, 96, b.height);
+    stores::put_f64(made, 104, b.step_height);
 }
 
 fn put_window(w: Window, made: &mut [u8])
     ensures { λ _. ⌜ now (made .exit) ≡ withWindow w (now (made .entry)) ⌝ }
 {
-    fields::put_i32(made, 112, w.x);
-    fields::put_i32(made, 116, w.y);
-    fields::put_i32(made, 120, w.z);
-    fields::put_u32(made, 124, w.sx);
-    fields::put_u32(made, 128, w.sy);
-    fields::put_u32(made, 132, w.sz);
+    stores::put_i32(made, 112, w.x);
+    stores::put_i32(made, 116, w.y);
+    stores::put_i32(made, 120, w.z);
+    stores::put_u32(made, 124, w.sx);
+    stores::put_u32(made, 128, w.sy);
+    stores::put_u32(made, 132, w.sz);
 }
 
 fn put_in_use(u: InUse, made: &mut [u8])
     ensures { λ _. ⌜ now (made .exit) ≡ withInUse u (now (made .entry)) ⌝ }
 {
-    fields::put_u64(made, 136, wide(u.cells));
-    fields::put_u64(made, 144, wide(u.perms));
-    fields::put_u64(made, 152, wide(u.shapes));
-    fields::put_u64(made, 160, wide(u.boxes));
+    stores::put_u64(made, 136, wide(u.cells));
+    stores::put_u64(made, 144, wide(u.perms));
+    stores::put_u64(made, 152, wide(u.shapes));
+    stores::put_u64(made, 160, wide(u.boxes));
 }
 
 // The whole record, where it fits.

@@ -79,6 +79,21 @@ pub extern "C" fn walkprint_find_path(
     let start = point_at(ends, 0);
     let goal = point_at(ends, 24);
     let b = body_in(body);
-    let a = find_path::find_path(p, wet, flags, w, cells, permissions, shapes, boxes, start, goal, b, nodes, front, out);
+    let a = find_path::find_path(
+        p,
+        wet,
+        flags,
+        w,
+        cells,
+        permissions,
+        shapes,
+        boxes,
+        start,
+        goal,
+        b,
+        nodes,
+        front,
+        out,
+    );
     put_path(a, answer)
 }

@@ -34,6 +34,17 @@ pub extern "C" fn walkprint_find_walk_path(
     let w = window_in(window);
     let r = request_in(request);
     let b = body_in(body);
-    let a = search::find_walk_path(w, cells, permissions, shapes, boxes, r, b, nodes, front, out);
+    let a = search::find_walk_path(
+        w,
+        cells,
+        permissions,
+        shapes,
+        boxes,
+        r,
+        b,
+        nodes,
+        front,
+        out,
+    );
     put_answer(a, answer)
 }

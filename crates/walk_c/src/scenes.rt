@@ -15,7 +15,7 @@ fn put_answer(a: SceneAnswer, made: &mut [u8]) -> u64
             0
         }
         SceneAnswer::BadScene(k) => {
-            fields::put_u64(made, 0, k);
+            stores::put_u64(made, 0, k);
             7
         }
         SceneAnswer::NoRoom => 5,

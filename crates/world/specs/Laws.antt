@@ -29,7 +29,7 @@ use Rattle.world.specs.declared.Found.the-variants.{Here, End}
 use Rattle.world.specs.declared.Entry.{Entry}
 use Rattle.world.specs.declared.Entry.the-variants.{Of, Missing}
 use Rattle.world.specs.Boxes.{moved, cube, corner}
-use Rattle.world.specs.Space.{place, recordOf, entryAt, mayOccupy, maySupport, collides, ofParts, known, knownBy, cellIn, cellAt, boxAt, boxHere, run, blockOf, space}
+use Rattle.world.specs.Space.{place, recordOf, entryAt, mayOccupy, maySupport, collides, ofParts, known, knownBy, cellIn, cellAt, pointAt, boxAt, boxHere, run, blockOf, space}
 
 -- ---- a box record, where there is one
 
@@ -40,6 +40,14 @@ no-box s at h = rw (lt-leb (at + 48) (length s) h)
 pub a-box : (s : List ℕ) (at : ℕ) → at + 48 ≤ length s → boxHere s at ≡ Here (boxAt s at)
 unfolding boxHere
 a-box s at h = rw (le-leb (at + 48) (length s) h)
+
+-- a box record is its two corners
+pub two-corners : (s : List ℕ) (at : ℕ) → record { min = pointAt s at; max = pointAt s (at + 24) } ≡ boxAt s at
+unfolding pointAt boxAt
+two-corners s at =
+    let y : at + 24 + 8 ≡ at + 32 = omega arith in
+    let z : at + 24 + 16 ≡ at + 40 = omega arith in
+    rw (y, z)
 
 -- and back
 pub box-past : (s : List ℕ) (at : ℕ) → boxHere s at ≡ End → length s < at + 48

@@ -1,19 +1,9 @@
 // The world (01, "Boxes" and "Tables"): points, boxes, and what stands in a cell.
 //
-// The types stand here; `boxes` works with boxes, and `space` reads the tables. Every public function answers for every input: a cell that the
-// tables do not have is unknown, and a run of boxes ends where its table does.
-pub mod boxes;
+// The types stand here, and `space` reads the tables; what is done with boxes is the crate `boxes`. Every public function answers for every input:
+// a cell that the tables do not have is unknown, and a run of boxes ends where its table does.
 pub mod space;
 
-pub use boxes::corner_of;
-pub use boxes::difference;
-pub use boxes::expand_towards;
-pub use boxes::from_feet;
-pub use boxes::intersects;
-pub use boxes::offset;
-pub use boxes::sum;
-pub use boxes::unit;
-pub use boxes::voxel_at;
 pub use space::box_at;
 pub use space::cell_at;
 pub use space::entry_at;

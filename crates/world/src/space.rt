@@ -3,7 +3,8 @@
 ghost use mathlib.Core.Path.{_≡_};
 ghost use Prim.Native.Nat.{_+_, _*_, _<_, _≤_};
 ghost use lib.IntN.{_-ℤ_};
-ghost use Rattle.world.specs.Space.{place, recordOf, entryAt, ofParts, known, cellAt, boxHere};
+ghost use lib.ListN.{length};
+ghost use Rattle.world.specs.Space.{place, recordOf, entryAt, ofParts, known, cellAt, pointAt, boxHere};
 use crate::Aabb;
 use crate::Cell;
 use crate::Entry;
@@ -118,6 +119,18 @@ pub fn cell_at(w: Window, cells: &[u8], perms: &[u8], shapes: &[u8], x: i64, y: 
     known_cell(perms, shapes, state, shape)
 }
 
+// The point whose three numbers stand from an offset on.
+fn point_at(s: &[u8], at: usize) -> Point
+    requires { ⌜ at + 24 ≤ length (now s) ⌝ }
+    ensures { λ r. ⌜ r ≡ pointAt (now (s .entry)) at ⌝ }
+{
+    Point {
+        x: fields::f64_at(s, at),
+        y: fields::f64_at(s, at + 8),
+        z: fields::f64_at(s, at + 16),
+    }
+}
+
 // The box record at an offset of the box table, or of a part of it.
 pub fn box_at(s: &[u8], at: usize) -> Found
     ensures { λ r. ⌜ r ≡ boxHere (now (s .entry)) at ⌝ }
@@ -130,15 +143,7 @@ pub fn box_at(s: &[u8], at: usize) -> Found
         return Found::End;
     }
     Found::Here(Aabb {
-        min: Point {
-            x: fields::f64_at(s, at),
-            y: fields::f64_at(s, at + 8),
-            z: fields::f64_at(s, at + 16),
-        },
-        max: Point {
-            x: fields::f64_at(s, at + 24),
-            y: fields::f64_at(s, at + 32),
-            z: fields::f64_at(s, at + 40),
-        },
+        min: point_at(s, at),
+        max: point_at(s, at + 24),
     })
 }

@@ -32,16 +32,16 @@ cell c =
     sym (simp (toZ-ofZ, f, g, h) at (c .cell-at .ensures))
 
 corner-of-requires : tie.Need-corner-of-requires
-corner-of-requires c κs = search needs
+corner-of-requires c κs = tt
 
 voxel-at-requires : tie.Need-voxel-at-requires
-voxel-at-requires c κs = search needs
+voxel-at-requires c κs = tt
 
 intersects-requires : tie.Need-intersects-requires
-intersects-requires c κs = search needs
+intersects-requires c κs = tt
 
 cell-at-requires : tie.Need-cell-at-requires
-cell-at-requires c κs = search needs
+cell-at-requires c κs = tt
 
 enum-told : tie.Need-enum-told
 enum-told c = search needs
@@ -51,19 +51,19 @@ unfolding space
 returns c = rw (cell (c .before .before .before) ∙ c .before .enum-told .given .1) (sym (unknown-met _ _ _ (met (c .before .before .before .before) ∙ c .if1 .taken)))
 
 unit-requires : tie.Need-unit-requires
-unit-requires c κs = search needs
+unit-requires c κs = tt
 
 offset-requires : tie.Need-offset-requires
-offset-requires c κs = search needs
+offset-requires c κs = tt
 
 intersects-requires-2 : tie.Need-intersects-requires-2
-intersects-requires-2 c κs = search needs
+intersects-requires-2 c κs = tt
 
 enum-known-occupied : tie.Need-enum-known-occupied
 enum-known-occupied c = search needs
 
 table-hits-requires : tie.Need-table-hits-requires
-table-hits-requires c κs = search needs
+table-hits-requires c κs = tt
 
 returns-2 : tie.Need-returns-2
 unfolding space
@@ -74,7 +74,7 @@ unfolding space
 returns-3 c = rw (cell (c .before .before .before .before .before) ∙ c .before .before .before .occupied .given .1) (sym (may-not _ _ _ _ _ _ _ (c .before .if2 .left) (met (c .before .before .before .before .before .before) ∙ c .if3 .taken)))
 
 table-hits-requires-2 : tie.Need-table-hits-requires-2
-table-hits-requires-2 c κs = search needs
+table-hits-requires-2 c κs = tt
 
 returns-4 : tie.Need-returns-4
 unfolding space

@@ -1,20 +1,19 @@
 -- `clear::clear_area` meets its contract. Assumes nothing.
 use native.Mathlib.Omega.{arith}
 use mathlib.Core.Path.{_∙_}
-use borrow.Author.Needs.{needs}
 use Rattle.cells.specs.RangeLaws.{less-none, reached-near}
 use Rattle.clear.specs.Clear.{clear}
 use Rattle.clear.proofs.clear_area.Statement.{statement}
 use Rattle.clear.proofs.clear_area.Tie as tie
 
 reached-requires : tie.Need-reached-requires
-reached-requires c κs = search needs
+reached-requires c κs = tt
 
 reached-requires-2 : tie.Need-reached-requires-2
-reached-requires-2 c κs = search needs
+reached-requires-2 c κs = tt
 
 reached-requires-3 : tie.Need-reached-requires-3
-reached-requires-3 c κs = search needs
+reached-requires-3 c κs = tt
 
 all-free-requires : tie.Need-all-free-requires
 all-free-requires c κs = (

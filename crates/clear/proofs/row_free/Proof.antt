@@ -4,7 +4,6 @@ use native.Mathlib.Omega.{arith}
 use mathlib.Core.Bool.{Bool}
 use mathlib.Core.List.{List}
 use mathlib.Core.Path.{_≡_, sym, _∙_}
-use borrow.Author.Needs.{needs}
 use borrow.Author.Tests.{not-true, not-false}
 use denote.Ref.{now}
 use mir.Syntax.{w64}
@@ -53,7 +52,7 @@ add-z : tie.Need-add-z Inv-loop μ-loop
 add-z c = number-fits (c .before .before .before .before .before .before .before .before .before .args .zs) (c .before .before .before .before .before .before .before .before .before .pre) (c .before .before .before .before .loop .k) (c .before .before .if1 .taken)
 
 cell-free-requires : tie.Need-cell-free-requires Inv-loop μ-loop
-cell-free-requires c κs = search needs
+cell-free-requires c κs = tt
 
 returns : tie.Need-returns Inv-loop μ-loop
 returns c = sym (whole (c .before .before .before .before .before .before .before .before .before .before .before) ∙ c .before .before .before .before .before .before .loop .inv ∙ fails (at (c .before .before .before .before .before .before .before .before .before .before .before)) (c .before .before .before .before .before .before .loop .k) (c .before .before .before .before .before .before .before .before .before .before .before .args .zs .count) (c .before .before .before .before .if1 .taken) (one (c .before) ∙ not-true _ (c .if2 .taken)))

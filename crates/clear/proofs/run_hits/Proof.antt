@@ -32,7 +32,7 @@ loop-holds : tie.Need-loop-holds Inv-loop μ-loop
 loop-holds c = (omega arith, refl)
 
 box-at-requires : tie.Need-box-at-requires Inv-loop μ-loop
-box-at-requires c κs = search needs
+box-at-requires c κs = tt
 
 enum-told : tie.Need-enum-told Inv-loop μ-loop
 enum-told c = search needs
@@ -44,10 +44,10 @@ enum-known-b : tie.Need-enum-known-b Inv-loop μ-loop
 enum-known-b c = search needs
 
 offset-requires : tie.Need-offset-requires Inv-loop μ-loop
-offset-requires c κs = search needs
+offset-requires c κs = tt
 
 intersects-requires : tie.Need-intersects-requires Inv-loop μ-loop
-intersects-requires c κs = search needs
+intersects-requires c κs = tt
 
 returns-2 : tie.Need-returns-2 Inv-loop μ-loop
 returns-2 c = sym (c .before .before .before .before .before .before .before .before .loop .inv .1 ∙ run-hit (c .before .before .before .before .before .before .before .before .before .before .args .area) (c .before .before .before .before .before .before .before .before .before .before .args .by) (now (c .before .before .before .before .before .before .before .before .before .before .args .part)) (c .before .before .before .before .before .before .before .before .loop .at) (c .before .before .before .before .before .before .before .before .loop .left) _ (c .before .before .before .before .before .before .before .loop-test .taken) (here (c .before .before .before .before)) (touch (c .before) ∙ c .if1 .taken))

@@ -20,7 +20,7 @@ part-run-hits-end : tie.Need-part-run-hits-end
 part-run-hits-end c = search needs
 
 run-hits-requires : tie.Need-run-hits-requires
-run-hits-requires c κs = search needs
+run-hits-requires c κs = tt
 
 returns : tie.Need-returns
 returns c = rw (part-is (48 * c .before .before .before .before .args .first) (now (c .before .before .before .before .args .table))) at (c .run-hits .ensures)

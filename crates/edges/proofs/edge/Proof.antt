@@ -7,7 +7,7 @@ use Rattle.edges.proofs.edge.Statement.{statement}
 use Rattle.edges.proofs.edge.Tie as tie
 
 moving-requires : tie.Need-moving-requires
-moving-requires c κs = search needs
+moving-requires c κs = tt
 
 enum-known-movement : tie.Need-enum-known-movement
 enum-known-movement c = search needs
@@ -20,7 +20,7 @@ unfolding edge
 returns c = rw (sym (c .before .before .moving .ensures) ∙ c .enum-told .given .1)
 
 passable-requires : tie.Need-passable-requires
-passable-requires c κs = search needs
+passable-requires c κs = tt
 
 returns-2 : tie.Need-returns-2
 unfolding edge

@@ -1,17 +1,16 @@
 -- `edges::in_range` meets its contract. Assumes nothing.
-use borrow.Author.Needs.{needs}
 use Rattle.edges.specs.Edges.{inRange}
 use Rattle.edges.proofs.in_range.Statement.{statement}
 use Rattle.edges.proofs.in_range.Tie as tie
 
 near-requires : tie.Need-near-requires
-near-requires c κs = search needs
+near-requires c κs = tt
 
 near-requires-2 : tie.Need-near-requires-2
-near-requires-2 c κs = search needs
+near-requires-2 c κs = tt
 
 near-requires-3 : tie.Need-near-requires-3
-near-requires-3 c κs = search needs
+near-requires-3 c κs = tt
 
 returns : tie.Need-returns
 unfolding inRange

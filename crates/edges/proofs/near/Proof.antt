@@ -1,10 +1,9 @@
 -- `edges::near` meets its contract. Assumes nothing.
-use borrow.Author.Needs.{needs}
 use Rattle.edges.proofs.near.Statement.{statement}
 use Rattle.edges.proofs.near.Tie as tie
 
 abs-requires : tie.Need-abs-requires
-abs-requires c κs = search needs
+abs-requires c κs = tt
 
 returns : tie.Need-returns
 returns c = rw (c .abs .ensures)

@@ -1,22 +1,21 @@
 -- `edges::standable` meets its contract. Assumes nothing.
 use mathlib.Core.Path.{_≡_, sym, _∙_}
 use borrow.Author.Tests.{not-true, not-false}
-use borrow.Author.Needs.{needs}
 use Rattle.edges.specs.Laws.{no-room, by-support}
 use Rattle.edges.proofs.standable.Statement.{statement}
 use Rattle.edges.proofs.standable.Tie as tie
 
 from-feet-requires : tie.Need-from-feet-requires
-from-feet-requires c κs = search needs
+from-feet-requires c κs = tt
 
 clear-area-requires : tie.Need-clear-area-requires
-clear-area-requires c κs = search needs
+clear-area-requires c κs = tt
 
 returns : tie.Need-returns
 returns c = sym (no-room _ _ _ (rw (c .before .before .from-feet .ensures) at (sym (c .before .clear-area .ensures) ∙ not-true _ (c .if1 .taken))))
 
 supported-segment-requires : tie.Need-supported-segment-requires
-supported-segment-requires c κs = search needs
+supported-segment-requires c κs = tt
 
 returns-2 : tie.Need-returns-2
 returns-2 c = c .supported-segment .ensures ∙ sym (by-support _ _ _ (rw (c .before .before .before .from-feet .ensures) at (sym (c .before .before .clear-area .ensures) ∙ not-false _ (c .before .if1 .left))))

@@ -1,17 +1,16 @@
 -- `heights::band_from` meets its contract. Assumes nothing.
 use Rattle.heights.specs.Heights.{bandFrom}
-use borrow.Author.Needs.{needs}
 use Rattle.heights.proofs.band_from.Statement.{statement}
 use Rattle.heights.proofs.band_from.Tie as tie
 
 max-requires : tie.Need-max-requires
-max-requires c κs = search needs
+max-requires c κs = tt
 
 max-requires-2 : tie.Need-max-requires-2
-max-requires-2 c κs = search needs
+max-requires-2 c κs = tt
 
 min-requires : tie.Need-min-requires
-min-requires c κs = search needs
+min-requires c κs = tt
 
 returns : tie.Need-returns
 unfolding bandFrom

@@ -1,15 +1,14 @@
 -- `heights::better_of` meets its contract. Assumes nothing.
 use mathlib.Core.Path.{sym, _∙_}
 use Rattle.heights.specs.Next.{better}
-use borrow.Author.Needs.{needs}
 use Rattle.heights.proofs.better_of.Statement.{statement}
 use Rattle.heights.proofs.better_of.Tie as tie
 
 is-beyond-requires : tie.Need-is-beyond-requires
-is-beyond-requires c κs = search needs
+is-beyond-requires c κs = tt
 
 lower-of-requires : tie.Need-lower-of-requires
-lower-of-requires c κs = search needs
+lower-of-requires c κs = tt
 
 returns : tie.Need-returns
 unfolding better

@@ -27,7 +27,7 @@ point c =
     simp (toZ-ofZ, f, g, h) at (c .corner-of .ensures)
 
 cell-at-requires : tie.Need-cell-at-requires
-cell-at-requires c κs = search needs
+cell-at-requires c κs = tt
 
 enum-told : tie.Need-enum-told
 enum-told c = search needs
@@ -36,10 +36,10 @@ enum-known-support : tie.Need-enum-known-support
 enum-known-support c = search needs
 
 corner-of-requires : tie.Need-corner-of-requires
-corner-of-requires c κs = search needs
+corner-of-requires c κs = tt
 
 table-next-requires : tie.Need-table-next-requires
-table-next-requires c κs = search needs
+table-next-requires c κs = tt
 
 returns : tie.Need-returns
 unfolding space

@@ -79,7 +79,7 @@ add-y : tie.Need-add-y Inv-loop μ-loop
 add-y c = rw (first c, number c) (fits c)
 
 cell-next-requires : tie.Need-cell-next-requires Inv-loop μ-loop
-cell-next-requires c κs = search needs
+cell-next-requires c κs = tt
 
 add-k : tie.Need-add-k Inv-loop μ-loop
 add-k c = omega (arith, c .before .before .before .before .before .before .before .before .pre .count)

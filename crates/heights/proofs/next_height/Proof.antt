@@ -27,13 +27,13 @@ found c =
     rw (f, g, c .before .floors .ensures) at (c .column-next .ensures)
 
 floor-cell-requires : tie.Need-floor-cell-requires
-floor-cell-requires c κs = search needs
+floor-cell-requires c κs = tt
 
 floor-cell-requires-2 : tie.Need-floor-cell-requires-2
-floor-cell-requires-2 c κs = search needs
+floor-cell-requires-2 c κs = tt
 
 floors-requires : tie.Need-floors-requires
-floors-requires c κs = search needs
+floors-requires c κs = tt
 
 column-next-requires : tie.Need-column-next-requires
 column-next-requires c κs = rw (c .floors .ensures) (floors-near (c .before .before .before .before .before .before .before .args .band .low) (c .before .before .before .before .before .before .before .args .band .high) 2 (omega arith))

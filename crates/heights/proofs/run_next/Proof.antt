@@ -27,7 +27,7 @@ loop-holds : tie.Need-loop-holds Inv-loop μ-loop
 loop-holds c = (omega arith, refl)
 
 box-at-requires : tie.Need-box-at-requires Inv-loop μ-loop
-box-at-requires c κs = search needs
+box-at-requires c κs = tt
 
 enum-known-b : tie.Need-enum-known-b Inv-loop μ-loop
 enum-known-b c = search needs
@@ -39,10 +39,10 @@ returns : tie.Need-returns Inv-loop μ-loop
 returns c = sym (c .before .before .before .before .loop .inv .1 ∙ run-end (c .before .before .before .before .before .before .args .band) (c .before .before .before .before .before .before .args .x) (c .before .before .before .before .before .before .args .z) (c .before .before .before .before .before .before .args .after) (c .before .before .before .before .before .before .args .by) _ _ _ _ (c .before .before .before .loop-test .taken) (sym (c .before .before .box-at .ensures) ∙ c .enum-told .given .1))
 
 offset-requires : tie.Need-offset-requires Inv-loop μ-loop
-offset-requires c κs = search needs
+offset-requires c κs = tt
 
 take-box-requires : tie.Need-take-box-requires Inv-loop μ-loop
-take-box-requires c κs = search needs
+take-box-requires c κs = tt
 
 sub-left : tie.Need-sub-left Inv-loop μ-loop
 sub-left c = search needs

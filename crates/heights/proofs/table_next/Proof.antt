@@ -21,7 +21,7 @@ part-run-next-end : tie.Need-part-run-next-end
 part-run-next-end c = search needs
 
 run-next-requires : tie.Need-run-next-requires
-run-next-requires c κs = search needs
+run-next-requires c κs = tt
 
 returns : tie.Need-returns
 returns c = rw (part-is (48 * c .before .before .before .before .args .first) (now (c .before .before .before .before .args .table))) at (c .run-next .ensures)

@@ -1,14 +1,13 @@
 -- `heights::take_box` meets its contract. Assumes nothing.
 use mathlib.Core.Path.{sym, _∙_}
-use borrow.Author.Needs.{needs}
 use Rattle.heights.proofs.take_box.Statement.{statement}
 use Rattle.heights.proofs.take_box.Tie as tie
 
 reaches-to-requires : tie.Need-reaches-to-requires
-reaches-to-requires c κs = search needs
+reaches-to-requires c κs = tt
 
 better-of-requires : tie.Need-better-of-requires
-better-of-requires c κs = search needs
+better-of-requires c κs = tt
 
 returns : tie.Need-returns
 returns c = rw (sym (c .before .before .reaches-to .ensures) ∙ c .before .if1 .taken) (c .better-of .ensures)

@@ -15,7 +15,7 @@ use Rattle.read_scene.proofs.read_from.Tie as tie
 abbrev Inv-loop : tie.InvT-loop
 Inv-loop bytes cells₀ perms₀ shapes₀ boxes₀ n state₀ k₀ cells perms shapes boxes state k =
     (readFrom state₀ (tablesOf cells₀ perms₀ shapes₀ boxes₀) (records bytes) ≡ readFrom state (tablesOf cells perms shapes boxes) (recordsFrom bytes k (n - k)))
-        × (length cells ≡ length cells₀) × (length perms ≡ length perms₀) × (length shapes ≡ length shapes₀) × (length boxes ≡ length boxes₀)
+    × (length cells ≡ length cells₀) × (length perms ≡ length perms₀) × (length shapes ≡ length shapes₀) × (length boxes ≡ length boxes₀)
 
 abbrev μ-loop : tie.MeasureT-loop
 μ-loop bytes cells₀ perms₀ shapes₀ boxes₀ n state₀ k₀ cells perms shapes boxes state k = n - k
@@ -25,8 +25,7 @@ record-count-requires c κs = search needs
 
 loop-holds : tie.Need-loop-holds Inv-loop μ-loop
 loop-holds c =
-    let a = c .before .before .before .before .before .before .args in
-    (
+    let a = c .before .before .before .before .before .before .args in (
       ap (λ (ss : List (List ℕ)). readFrom (a .first) (tablesOf (now (a .cells)) (now (a .perms)) (now (a .shapes)) (now (a .boxes))) ss) (from-first (now (a .bytes)) (c .record-count .result) (c .record-count .ensures)),
       refl,
       refl,
@@ -63,8 +62,8 @@ returns c =
     let l = c .before .before .before .before .before .before .before .before .before .before .before .before .before .before .before .before .before .loop in
     let r = c .before .before .before .before .before .before .before .before .before .before .read-record in
     let q = l .inv .0
-        ∙ stops (l .state) (l .cells) (l .perms) (l .shapes) (l .boxes) (now (c .before .before .before .before .before .before .before .before .before .before .before .before .before .before .before .before .before .before .before .before .before .before .before .before .args .bytes)) (l .k) (c .before .before .before .before .before .before .before .before .before .before .before .before .before .before .before .before .before .before .record-count .result) _ (c .before .before .before .before .before .before .before .before .before .before .before .before .before .before .before .record-at .ensures) _ _ _ _
-            (r .ensures .1 .0) (r .ensures .1 .1 .0) (r .ensures .1 .1 .1 .0) (r .ensures .1 .1 .1 .1) 7 _ (c .before .before .before .before .before .before .before .before .before .before .before .before .before .before .before .before .loop-test .taken) (ap stepAnswer (sym (c .enum-told .given .1)) ∙ r .ensures .0) in
+    ∙ stops (l .state) (l .cells) (l .perms) (l .shapes) (l .boxes) (now (c .before .before .before .before .before .before .before .before .before .before .before .before .before .before .before .before .before .before .before .before .before .before .before .before .args .bytes)) (l .k) (c .before .before .before .before .before .before .before .before .before .before .before .before .before .before .before .before .before .before .record-count .result) _ (c .before .before .before .before .before .before .before .before .before .before .before .before .before .before .before .record-at .ensures) _ _ _ _
+    (r .ensures .1 .0) (r .ensures .1 .1 .0) (r .ensures .1 .1 .1 .0) (r .ensures .1 .1 .1 .1) 7 _ (c .before .before .before .before .before .before .before .before .before .before .before .before .before .before .before .before .loop-test .taken) (ap stepAnswer (sym (c .enum-told .given .1)) ∙ r .ensures .0) in
     (sym (ap (λ (x : Read). x .answer) q), sym (ap (λ (x : Read). x .tables) q))
 
 add-k : tie.Need-add-k Inv-loop μ-loop
@@ -76,11 +75,10 @@ loop-less c = omega (arith, c .before .before .before .before .before .before .b
 loop-again : tie.Need-loop-again Inv-loop μ-loop
 loop-again c =
     let l = c .before .before .before .before .before .before .before .before .before .before .before .before .before .before .before .before .before .before .loop in
-    let r = c .before .before .before .before .before .before .before .before .before .before .before .read-record in
-    (
+    let r = c .before .before .before .before .before .before .before .before .before .before .before .read-record in (
       l .inv .0
           ∙ goes-on (l .state) (l .cells) (l .perms) (l .shapes) (l .boxes) (now (c .before .before .before .before .before .before .before .before .before .before .before .before .before .before .before .before .before .before .before .before .before .before .before .before .before .args .bytes)) (l .k) (c .before .before .before .before .before .before .before .before .before .before .before .before .before .before .before .before .before .before .before .record-count .result) _ (c .before .before .before .before .before .before .before .before .before .before .before .before .before .before .before .before .record-at .ensures) _ _ _ _
-              (r .ensures .1 .0) (r .ensures .1 .1 .0) (r .ensures .1 .1 .1 .0) (r .ensures .1 .1 .1 .1) (c .before .next .given .0 .0) (c .before .before .before .before .before .before .before .before .before .before .before .before .before .before .before .before .before .loop-test .taken) (ap stepAnswer (sym (c .before .next .given .1)) ∙ r .ensures .0),
+          (r .ensures .1 .0) (r .ensures .1 .1 .0) (r .ensures .1 .1 .1 .0) (r .ensures .1 .1 .1 .1) (c .before .next .given .0 .0) (c .before .before .before .before .before .before .before .before .before .before .before .before .before .before .before .before .before .loop-test .taken) (ap stepAnswer (sym (c .before .next .given .1)) ∙ r .ensures .0),
       search needs,
       search needs,
       search needs,
@@ -109,7 +107,7 @@ returns-2 : tie.Need-returns-2 Inv-loop μ-loop
 returns-2 c =
     let l = c .before .before .before .loop in
     let q = l .inv .0
-        ∙ ends (l .state) (tablesOf (l .cells) (l .perms) (l .shapes) (l .boxes)) (now (c .before .before .before .before .before .before .before .before .before .before .args .bytes)) (l .k) (c .before .before .before .before .record-count .result) (c .before .before .loop-test .left) in
+    ∙ ends (l .state) (tablesOf (l .cells) (l .perms) (l .shapes) (l .boxes)) (now (c .before .before .before .before .before .before .before .before .before .before .args .bytes)) (l .k) (c .before .before .before .before .record-count .result) (c .before .before .loop-test .left) in
     (c .ended-answer .ensures ∙ c .before .end .ensures ∙ sym (ap (λ (x : Read). x .answer) q), sym (ap (λ (x : Read). x .tables) q))
 
 pub read-from-spec : {M : Type 1} → statement M

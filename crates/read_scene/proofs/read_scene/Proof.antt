@@ -32,8 +32,7 @@ same-length-4 c = search needs
 returns : tie.Need-returns
 returns c =
     let a = c .before .before .before .before .before .before .before .before .before .before .before .before .args in
-    let q = no-room (tablesOf (now (a .cells)) (now (a .perms)) (now (a .shapes)) (now (a .boxes))) (records (now (a .bytes))) 5 0 (ap begunAnswer (sym (c .enum-told .given .1)) ∙ c .before .before .begin .ensures) in
-    (
+    let q = no-room (tablesOf (now (a .cells)) (now (a .perms)) (now (a .shapes)) (now (a .boxes))) (records (now (a .bytes))) 5 0 (ap begunAnswer (sym (c .enum-told .given .1)) ∙ c .before .before .begin .ensures) in (
       sym (ap (λ (x : Read). x .answer) q),
       (sym (ap (λ (x : Read). x .tables .cells) q), (sym (ap (λ (x : Read). x .tables .perms) q), (sym (ap (λ (x : Read). x .tables .shapes) q), sym (ap (λ (x : Read). x .tables .boxes) q)))),
     )
@@ -57,8 +56,7 @@ returns-2 : tie.Need-returns-2
 returns-2 c =
     let a = c .before .before .before .before .before .before .before .before .before .before .before .before .before .before .before .before .before .before .before .before .before .before .before .before .before .before .args in
     let r = c .before .before .before .before .before .before .before .before .read-from .ensures in
-    let q = begins (tablesOf (now (a .cells)) (now (a .perms)) (now (a .shapes)) (now (a .boxes))) (records (now (a .bytes))) _ (ap begunAnswer (sym (c .before .before .before .before .before .before .before .before .before .before .before .before .before .before .first .given .1)) ∙ c .before .before .before .before .before .before .before .before .before .before .before .before .before .before .before .before .begin .ensures) in
-    (
+    let q = begins (tablesOf (now (a .cells)) (now (a .perms)) (now (a .shapes)) (now (a .boxes))) (records (now (a .bytes))) _ (ap begunAnswer (sym (c .before .before .before .before .before .before .before .before .before .before .before .before .before .before .first .given .1)) ∙ c .before .before .before .before .before .before .before .before .before .before .before .before .before .before .before .before .begin .ensures) in (
       r .0 ∙ sym (ap (λ (x : Read). x .answer) q),
       (
         ap (λ (t : Tables). t .cells) (r .1) ∙ sym (ap (λ (x : Read). x .tables .cells) q),

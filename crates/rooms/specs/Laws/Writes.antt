@@ -39,9 +39,9 @@ apart (suc k) (suc j) h = ⊎-elim (λ l. inl (omega arith)) (λ l. inr (omega a
 
 -- ---- inside the room
 
-pub put-node : (a : List ℕ) (k : ℕ) (r : NodeRecord) → Fill nodeLayout (nodeWords r) → PutNode a k r (withNode a k r)
+put-node-is : (a : List ℕ) (k : ℕ) (r : NodeRecord) → Fill nodeLayout (nodeWords r) → PutNode a k r (withNode a k r)
 unfolding nodeAt withNode
-put-node a k r fill = record {
+put-node-is a k r fill = record {
   is = refl;
   wrote = λ room. record {
     here = ap nodeFrom (record-back nodeLayout a (56 * k) 0 (nodeWords r) fill (omega arith));
@@ -50,9 +50,12 @@ put-node a k r fill = record {
   };
 }
 
-pub put-entry : (a : List ℕ) (k : ℕ) (e : Entry) → Fill entryLayout (entryWords e) → PutEntry a k e (withEntry a k e)
+pub put-node : (a : List ℕ) (k : ℕ) (r : NodeRecord) {b : List ℕ} → Fill nodeLayout (nodeWords r) → b ≡ withNode a k r → PutNode a k r b
+put-node a k r fill e = subst (PutNode a k r) (sym e) (put-node-is a k r fill)
+
+put-entry-is : (a : List ℕ) (k : ℕ) (e : Entry) → Fill entryLayout (entryWords e) → PutEntry a k e (withEntry a k e)
 unfolding entryAt withEntry
-put-entry a k e fill = record {
+put-entry-is a k e fill = record {
   is = refl;
   wrote = λ room. record {
     here = ap entryFrom (record-back entryLayout a (24 * k) 0 (entryWords e) fill (omega arith));
@@ -60,6 +63,9 @@ put-entry a k e fill = record {
     past = λ m h. drop-record entryLayout a (24 * k) 0 (entryWords e) (24 * m) (omega arith);
   };
 }
+
+pub put-entry : (a : List ℕ) (k : ℕ) (e : Entry) {b : List ℕ} → Fill entryLayout (entryWords e) → b ≡ withEntry a k e → PutEntry a k e b
+put-entry a k e fill i = subst (PutEntry a k e) (sym i) (put-entry-is a k e fill)
 
 -- ---- past its end: a read gives zeros, a write changes nothing
 

@@ -5,7 +5,7 @@ use Rattle.root.proofs.distance.Statement.{statement}
 use Rattle.root.proofs.distance.Tie as tie
 
 square-root-requires : tie.Need-square-root-requires
-square-root-requires c κs = search needs
+square-root-requires c κs = tt
 
 returns : tie.Need-returns
 unfolding distance

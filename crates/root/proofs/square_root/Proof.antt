@@ -11,7 +11,7 @@ returns : tie.Need-returns
 returns c = of-infinity (c .before .args .x) (c .if1 .taken)
 
 root-requires : tie.Need-root-requires
-root-requires c κs = search needs
+root-requires c κs = tt
 
 enum-known-r : tie.Need-enum-known-r
 enum-known-r c = search needs

@@ -32,7 +32,7 @@ mul-box-at : tie.Need-mul-box-at Inv-loop μ-loop
 mul-box-at c = omega arith
 
 box-at-requires : tie.Need-box-at-requires Inv-loop μ-loop
-box-at-requires c κs = search needs
+box-at-requires c κs = tt
 
 enum-known-b : tie.Need-enum-known-b Inv-loop μ-loop
 enum-known-b c = search needs
@@ -44,7 +44,7 @@ returns : tie.Need-returns Inv-loop μ-loop
 returns c = let e : length (now (c .before .before .before .before .before .args .boxes)) / 48 ≡ c .before .before .before .loop .i = omega (arith, box-past _ _ (sym (c .before .before .box-at .ensures) ∙ c .enum-told .given .1)) in rw e (sym (c .before .before .before .loop .inv .1))
 
 box-good-requires : tie.Need-box-good-requires Inv-loop μ-loop
-box-good-requires c κs = search needs
+box-good-requires c κs = tt
 
 returns-2 : tie.Need-returns-2 Inv-loop μ-loop
 returns-2 c = sym (one-found _ _ _ (below (c .before)) (sym (told (c .before)) ∙ c .if1 .taken))

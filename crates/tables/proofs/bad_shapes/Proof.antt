@@ -29,7 +29,7 @@ loop-holds : tie.Need-loop-holds Inv-loop μ-loop
 loop-holds c = (omega arith, none-below _)
 
 entry-at-requires : tie.Need-entry-at-requires Inv-loop μ-loop
-entry-at-requires c κs = search needs
+entry-at-requires c κs = tt
 
 enum-known-first : tie.Need-enum-known-first Inv-loop μ-loop
 enum-known-first c = search needs
@@ -41,7 +41,7 @@ returns : tie.Need-returns Inv-loop μ-loop
 returns c = let e : length (now (c .before .before .before .before .before .args .shapes)) / 8 ≡ c .before .before .before .loop .i = omega (arith, entry-past _ _ (sym (c .before .before .entry-at .ensures) ∙ c .enum-told .given .1)) in rw e (sym (c .before .before .before .loop .inv .1))
 
 bad-run-requires : tie.Need-bad-run-requires Inv-loop μ-loop
-bad-run-requires c κs = search needs
+bad-run-requires c κs = tt
 
 returns-2 : tie.Need-returns-2 Inv-loop μ-loop
 returns-2 c = sym (one-found _ _ _ (below (c .before)) (sym (told (c .before)) ∙ c .if1 .taken))

@@ -5,7 +5,6 @@ use lib.ListN.{length}
 use denote.Ref.{now}
 use Rattle.tables.specs.BadWorld.{sizeAbove, cellBytes}
 use Rattle.tables.specs.Laws.{sizes-of, bad-size, bad-cells, part-shapes, part-boxes, bad-shape, by-boxes}
-use borrow.Author.Needs.{needs}
 use Rattle.tables.proofs.bad_world.Statement.{statement}
 use Rattle.tables.proofs.bad_world.Tie as tie
 
@@ -17,7 +16,7 @@ eight : (c : tie.Else2) → length (now (c .before .before .before .before .befo
 eight c = c .if2 .left ∙ c .before .cell-bytes .ensures
 
 size-above-requires : tie.Need-size-above-requires
-size-above-requires c κs = search needs
+size-above-requires c κs = tt
 
 returns : tie.Need-returns
 returns c = bad-size _ _ _ _ (sym (c .before .size-above .ensures) ∙ c .if1 .taken)
@@ -35,13 +34,13 @@ returns-4 : tie.Need-returns-4
 returns-4 c = part-boxes _ _ _ _ (small (c .before .before .before .before)) (eight (c .before .before)) (c .before .if3 .left) (c .if4 .taken)
 
 bad-shapes-requires : tie.Need-bad-shapes-requires
-bad-shapes-requires c κs = search needs
+bad-shapes-requires c κs = tt
 
 returns-5 : tie.Need-returns-5
 returns-5 c = bad-shape _ _ _ _ (small (c .before .before .before .before .before .before)) (eight (c .before .before .before .before)) (c .before .before .before .if3 .left) (c .before .before .if4 .left) (sym (c .before .bad-shapes .ensures) ∙ c .if5 .taken)
 
 bad-boxes-requires : tie.Need-bad-boxes-requires
-bad-boxes-requires c κs = search needs
+bad-boxes-requires c κs = tt
 
 returns-6 : tie.Need-returns-6
 returns-6 c = c .bad-boxes .ensures ∙ by-boxes _ _ _ _ (small (c .before .before .before .before .before .before .before)) (eight (c .before .before .before .before .before)) (c .before .before .before .before .if3 .left) (c .before .before .before .if4 .left) (sym (c .before .before .bad-shapes .ensures) ∙ c .before .if5 .left)

@@ -1,15 +1,14 @@
 -- `tables::box_good` meets its contract. Assumes nothing.
 use Rattle.tables.specs.BadWorld.{eachOf, each, ordered}
 use Rattle.tables.specs.Laws.{rule-is}
-use borrow.Author.Needs.{needs}
 use Rattle.tables.proofs.box_good.Statement.{statement}
 use Rattle.tables.proofs.box_good.Tie as tie
 
 inside-requires : tie.Need-inside-requires
-inside-requires c κs = search needs
+inside-requires c κs = tt
 
 inside-requires-2 : tie.Need-inside-requires-2
-inside-requires-2 c κs = search needs
+inside-requires-2 c κs = tt
 
 returns : tie.Need-returns
 unfolding each ordered

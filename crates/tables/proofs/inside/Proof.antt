@@ -1,17 +1,16 @@
 -- `tables::inside` meets its contract. Assumes nothing.
 use Rattle.tables.specs.BadWorld.{eachOf}
-use borrow.Author.Needs.{needs}
 use Rattle.tables.proofs.inside.Statement.{statement}
 use Rattle.tables.proofs.inside.Tie as tie
 
 from-to-requires : tie.Need-from-to-requires
-from-to-requires c κs = search needs
+from-to-requires c κs = tt
 
 from-to-requires-2 : tie.Need-from-to-requires-2
-from-to-requires-2 c κs = search needs
+from-to-requires-2 c κs = tt
 
 from-to-requires-3 : tie.Need-from-to-requires-3
-from-to-requires-3 c κs = search needs
+from-to-requires-3 c κs = tt
 
 returns : tie.Need-returns
 unfolding eachOf

@@ -9,6 +9,8 @@ use native.Mathlib.Omega.{arith}
 use native.Mathlib.Numerals.{add-one}
 use lib.Dec.{ltb, leb, eqb}
 use lib.ListN.{length, drop, set}
+use mir.Syntax.{w64}
+use mir.Val.{Fits}
 use borrow.Author.Tests.{eq-eqb, ne-eqb, lt-ltb, le-ltb, le-leb, ltb-true, leb-true}
 use Rattle.exploration.specs.Graph.{Graph}
 use Rattle.exploration.specs.Policy.{Node}
@@ -85,6 +87,31 @@ module _ (a f : List ℕ) (budget k : ℕ) (c : Counts) where
       let w = ltb-true (c .dropped) (2 ^ 63) (and-second (ltb (c .pushed) (2 ^ 63)) (ltb (c .dropped) (2 ^ 63)) two) in
       let x = ltb-true (c .closed) (2 ^ 63) (and-second (ltb (c .pushed) (2 ^ 63) && ltb (c .dropped) (2 ^ 63)) (ltb (c .closed) (2 ^ 63)) grows) in
       (record { node-room = omega arith; front-room = omega arith; numbered = s; few = t; pushes = omega arith; drops = omega arith; closes = omega arith }, u)
+
+-- ---- what readiness gives: a node's records are inside the rooms, its number is not none's, and the counts can grow
+
+module _ {a f : List ℕ} {budget d : ℕ} {c : Counts} (r : Ready a f budget d c) where
+  pub node-inside : (j : ℕ) → j < budget → 56 * j + 56 ≤ length a
+  node-inside j l = omega (arith, r .node-room)
+
+  pub entry-inside : (j : ℕ) → j < budget → 24 * j + 24 ≤ length f
+  entry-inside j l = omega (arith, r .front-room)
+
+  pub numbered : (k : ℕ) → k < c .retained → k < nobody
+  numbered k l = omega (arith, r .numbered, r .few)
+
+module _ {a f : List ℕ} {budget : ℕ} {c : Counts} (r : Ready a f budget 1 c) where
+  pub retains-fit : Fits w64 (c .retained + 1)
+  retains-fit = omega (arith, r .numbered, r .few)
+
+  pub pushes-fit : Fits w64 (c .pushed + 1)
+  pushes-fit = omega (arith, r .pushes)
+
+  pub drops-fit : Fits w64 (c .dropped + 1)
+  drops-fit = omega (arith, r .drops)
+
+  pub closes-fit : Fits w64 (c .closed + 1)
+  closes-fit = omega (arith, r .closes)
 
 -- ---- a step
 

@@ -31,19 +31,19 @@ add-next : tie.Need-add-next Inv-loop μ-loop
 add-next c = search needs
 
 point-at-requires : tie.Need-point-at-requires Inv-loop μ-loop
-point-at-requires c κs = search needs
+point-at-requires c κs = tt
 
 listed-at-requires-2 : tie.Need-listed-at-requires-2 Inv-loop μ-loop
 listed-at-requires-2 c κs = omega (arith, c .before .loop-test .taken)
 
 has-step-requires : tie.Need-has-step-requires Inv-loop μ-loop
-has-step-requires c κs = search needs
+has-step-requires c κs = tt
 
 returns : tie.Need-returns Inv-loop μ-loop
 returns c = let a = c .before .before .before .before .before .before .before .before .before .before .before .before .before .args in let sp = space (a .w) (now (a .cells)) (now (a .perms)) (now (a .shapes)) (now (a .boxes)) in sym (c .before .before .before .before .before .before .loop .inv ∙ pair-broken sp (a .r) (a .body) (now (a .list)) (c .before .before .before .before .before .before .loop .last) (c .before .before .before .before .before .before .loop .k) (c .before .before .before .before .before .loop-test .taken) _ _ (c .before .before .before .listed-at2 .ensures) (c .before .before .before .before .point-at .ensures) (sym (c .before .before .has-step .ensures) ∙ not-true _ (c .before .if1 .taken)) (c .if2 .taken))
 
 connects-requires : tie.Need-connects-requires Inv-loop μ-loop
-connects-requires c κs = search needs
+connects-requires c κs = tt
 
 returns-2 : tie.Need-returns-2 Inv-loop μ-loop
 returns-2 c = let a = c .before .before .before .before .before .before .before .before .before .before .before .before .before .before .args in let sp = space (a .w) (now (a .cells)) (now (a .perms)) (now (a .shapes)) (now (a .boxes)) in c .connects .ensures ∙ sym (c .before .before .before .before .before .before .before .loop .inv ∙ pair-last sp (a .r) (a .body) (now (a .list)) (c .before .before .before .before .before .before .before .loop .last) (c .before .before .before .before .before .before .before .loop .k) (c .before .before .before .before .before .before .loop-test .taken) _ _ (c .before .before .before .before .listed-at2 .ensures) (c .before .before .before .before .before .point-at .ensures) (sym (c .before .before .before .has-step .ensures) ∙ not-true _ (c .before .before .if1 .taken)) (c .before .if2 .left))
@@ -55,7 +55,7 @@ loop-again : tie.Need-loop-again Inv-loop μ-loop
 loop-again c = let a = c .before .before .before .before .before .before .before .before .before .before .before .before .args in let sp = space (a .w) (now (a .cells)) (now (a .perms)) (now (a .shapes)) (now (a .boxes)) in c .before .before .before .before .before .loop .inv ∙ pair-on sp (a .r) (a .body) (now (a .list)) (c .before .before .before .before .before .loop .last) (c .before .before .before .before .before .loop .k) (c .before .before .before .before .loop-test .taken) _ _ (c .before .before .listed-at2 .ensures) (c .before .before .before .point-at .ensures) (sym (c .before .has-step .ensures) ∙ not-false _ (c .if1 .left))
 
 is-goal-requires : tie.Need-is-goal-requires Inv-loop μ-loop
-is-goal-requires c κs = search needs
+is-goal-requires c κs = tt
 
 returns-3 : tie.Need-returns-3 Inv-loop μ-loop
 returns-3 c = let a = c .before .before .before .before .before .before .before .before .before .args in let sp = space (a .w) (now (a .cells)) (now (a .perms)) (now (a .shapes)) (now (a .boxes)) in c .is-goal .ensures ∙ sym (c .before .before .loop .inv ∙ at-end sp (a .r) (a .body) (now (a .list)) (c .before .before .loop .last) (c .before .before .loop .k) (c .before .loop-test .left))

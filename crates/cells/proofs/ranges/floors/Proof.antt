@@ -37,7 +37,7 @@ last : (c : tie.After-floor-cell2) → toZ w64 (ofZ w64 (c .floor-cell2 .result)
 last c = toZ-ofZ (search needs) ∙ c .floor-cell2 .ensures
 
 floor-cell-requires : tie.Need-floor-cell-requires
-floor-cell-requires c κs = search needs
+floor-cell-requires c κs = tt
 
 cast-first : tie.Need-cast-first
 cast-first c = search needs
@@ -46,7 +46,7 @@ sub-first : tie.Need-sub-first
 sub-first c = rw (floor c, step c) (fits c)
 
 floor-cell-requires-2 : tie.Need-floor-cell-requires-2
-floor-cell-requires-2 c κs = search needs
+floor-cell-requires-2 c κs = tt
 
 between-requires : tie.Need-between-requires
 between-requires c κs =

@@ -47,7 +47,7 @@ module _ (c : tie.After-ceil-cell) where
   high = rw ceil (toZ-ofZ ceil-fits)
 
 floor-cell-requires : tie.Need-floor-cell-requires
-floor-cell-requires c κs = search needs
+floor-cell-requires c κs = tt
 
 cast-low : tie.Need-cast-low
 cast-low c = search needs
@@ -56,7 +56,7 @@ sub-low : tie.Need-sub-low
 sub-low c = rw (floor c, step c) (fits c)
 
 ceil-cell-requires : tie.Need-ceil-cell-requires
-ceil-cell-requires c κs = search needs
+ceil-cell-requires c κs = tt
 
 sub-high : tie.Need-sub-high
 sub-high c = rw (ceil c) (ceil-fits c)

@@ -1,25 +1,24 @@
 -- `edges::lift::moving` meets its contract. Assumes nothing.
-use borrow.Author.Needs.{needs}
 use Rattle.edges.specs.Edges.{moving}
 use Rattle.edges.proofs.lift.moving.Statement.{statement}
 use Rattle.edges.proofs.lift.moving.Tie as tie
 
 rising-requires : tie.Need-rising-requires
-rising-requires c κs = search needs
+rising-requires c κs = tt
 
 returns : tie.Need-returns
 unfolding moving
 returns c = rw (c .before .if1 .taken) (c .rising .ensures)
 
 falling-requires : tie.Need-falling-requires
-falling-requires c κs = search needs
+falling-requires c κs = tt
 
 returns-2 : tie.Need-returns-2
 unfolding moving
 returns-2 c = rw (c .before .before .if1 .left, c .before .if2 .taken) (c .falling .ensures)
 
 max-requires : tie.Need-max-requires
-max-requires c κs = search needs
+max-requires c κs = tt
 
 returns-3 : tie.Need-returns-3
 unfolding moving

@@ -1,11 +1,10 @@
 -- `edges::lift::rising` meets its contract. Assumes nothing.
-use borrow.Author.Needs.{needs}
 use Rattle.edges.specs.Edges.{rising}
 use Rattle.edges.proofs.lift.rising.Statement.{statement}
 use Rattle.edges.proofs.lift.rising.Tie as tie
 
 step-height-requires : tie.Need-step-height-requires
-step-height-requires c κs = search needs
+step-height-requires c κs = tt
 
 returns : tie.Need-returns
 unfolding rising

@@ -1,11 +1,10 @@
 -- `edges::lift::step_height` meets its contract. Assumes nothing.
-use borrow.Author.Needs.{needs}
 use Rattle.edges.specs.Edges.{stepHeight}
 use Rattle.edges.proofs.lift.step_height.Statement.{statement}
 use Rattle.edges.proofs.lift.step_height.Tie as tie
 
 min-requires : tie.Need-min-requires
-min-requires c κs = search needs
+min-requires c κs = tt
 
 returns : tie.Need-returns
 unfolding stepHeight

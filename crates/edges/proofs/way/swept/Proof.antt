@@ -1,14 +1,13 @@
 -- `edges::way::swept` meets its contract. Assumes nothing.
-use borrow.Author.Needs.{needs}
 use Rattle.edges.specs.Edges.{swept}
 use Rattle.edges.proofs.way.swept.Statement.{statement}
 use Rattle.edges.proofs.way.swept.Tie as tie
 
 from-feet-requires : tie.Need-from-feet-requires
-from-feet-requires c κs = search needs
+from-feet-requires c κs = tt
 
 expand-towards-requires : tie.Need-expand-towards-requires
-expand-towards-requires c κs = search needs
+expand-towards-requires c κs = tt
 
 returns : tie.Need-returns
 unfolding swept

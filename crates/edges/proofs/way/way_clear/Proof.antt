@@ -1,28 +1,27 @@
 -- `edges::way::way_clear` meets its contract. Assumes nothing.
 use mathlib.Core.Path.{_≡_, sym, _∙_}
 use borrow.Author.Tests.{not-true, not-false}
-use borrow.Author.Needs.{needs}
 use Rattle.edges.specs.Laws.{lift-met, crossing-met, by-settling}
 use Rattle.edges.proofs.way.way_clear.Statement.{statement}
 use Rattle.edges.proofs.way.way_clear.Tie as tie
 
 swept-requires : tie.Need-swept-requires
-swept-requires c κs = search needs
+swept-requires c κs = tt
 
 clear-area-requires : tie.Need-clear-area-requires
-clear-area-requires c κs = search needs
+clear-area-requires c κs = tt
 
 returns : tie.Need-returns
 returns c = sym (lift-met _ _ _ _ _ (rw (c .before .before .swept .ensures) at (sym (c .before .clear-area .ensures) ∙ not-true _ (c .if1 .taken))))
 
 difference-requires : tie.Need-difference-requires
-difference-requires c κs = search needs
+difference-requires c κs = tt
 
 swept-requires-2 : tie.Need-swept-requires-2
-swept-requires-2 c κs = search needs
+swept-requires-2 c κs = tt
 
 clear-area-requires-2 : tie.Need-clear-area-requires-2
-clear-area-requires-2 c κs = search needs
+clear-area-requires-2 c κs = tt
 
 returns-2 : tie.Need-returns-2
 returns-2 c =
@@ -32,13 +31,13 @@ returns-2 c =
     (rw (c .before .before .swept2 .ensures, c .before .before .before .difference .ensures) at (sym (c .before .clear-area2 .ensures) ∙ not-true _ (c .if2 .taken))))
 
 difference-requires-2 : tie.Need-difference-requires-2
-difference-requires-2 c κs = search needs
+difference-requires-2 c κs = tt
 
 swept-requires-3 : tie.Need-swept-requires-3
-swept-requires-3 c κs = search needs
+swept-requires-3 c κs = tt
 
 clear-area-requires-3 : tie.Need-clear-area-requires-3
-clear-area-requires-3 c κs = search needs
+clear-area-requires-3 c κs = tt
 
 returns-3 : tie.Need-returns-3
 returns-3 c =

@@ -2,7 +2,6 @@
 use mathlib.Core.Path.{_≡_, refl, sym, ap, _∙_}
 use Prim.Native.Nat.{_≤_, _-_}
 use native.Mathlib.Omega.{arith}
-use borrow.Author.Needs.{needs}
 use lib.Ieee.{ofBits}
 use Rattle.policy.specs.JumpLaws.{endless, at-rest, ticked, drag-bits}
 use Rattle.policy.specs.Jump.{jumpApex, apexOf, after}
@@ -17,7 +16,7 @@ abbrev μ-loop : tie.MeasureT-loop
 μ-loop power gravity height₀ velocity₀ ticks₀ height velocity ticks = 65536 - ticks
 
 f32-to-f64-with-nan-requires : tie.Need-f32-to-f64-with-nan-requires Inv-loop μ-loop
-f32-to-f64-with-nan-requires c κs = search needs
+f32-to-f64-with-nan-requires c κs = tt
 
 loop-holds : tie.Need-loop-holds Inv-loop μ-loop
 unfolding ofBits

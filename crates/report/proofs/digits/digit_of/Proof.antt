@@ -1,20 +1,20 @@
 -- `report::digits::digit_of` meets its contract. Assumes nothing.
+use native.Mathlib.Omega.{arith}
 use Rattle.report.specs.DigitLaws.{low-digit, high-digit}
-use borrow.Author.Needs.{needs}
 use Rattle.report.proofs.digits.digit_of.Statement.{statement}
 use Rattle.report.proofs.digits.digit_of.Tie as tie
 
 add-result : tie.Need-add-result
-add-result c = search needs
+add-result c = record { fits = omega arith }
 
 cast-result : tie.Need-cast-result
-cast-result c = search needs
+cast-result c = record { fits = omega arith }
 
 add-result-2 : tie.Need-add-result-2
-add-result-2 c = search needs
+add-result-2 c = record { fits = omega arith }
 
 cast-result-2 : tie.Need-cast-result-2
-cast-result-2 c = search needs
+cast-result-2 c = record { fits = omega arith }
 
 returns : tie.Need-returns
 returns c = low-digit (c .before .args .d) (c .if1 .taken)

@@ -1,4 +1,5 @@
 -- `report::digits::put_decimal` meets its contract. Assumes nothing.
+use native.Mathlib.Omega.{arith}
 use denote.Ref.{now}
 use Rattle.report.specs.DigitLaws.{decimal-field}
 use borrow.Author.Needs.{needs}
@@ -6,19 +7,19 @@ use Rattle.report.proofs.digits.put_decimal.Statement.{statement}
 use Rattle.report.proofs.digits.put_decimal.Tie as tie
 
 places-of-requires : tie.Need-places-of-requires
-places-of-requires c κs = search needs
+places-of-requires c κs = tt
 
 put-digits-requires : tie.Need-put-digits-requires
-put-digits-requires c κs = search needs
+put-digits-requires c κs = (omega arith, omega arith, omega arith)
 
 add-last : tie.Need-add-last
-add-last c = search needs
+add-last c = record { fits = omega arith }
 
 slice-write-out : tie.Need-slice-write-out
-slice-write-out c = search needs
+slice-write-out c = omega arith
 
 add-result : tie.Need-add-result
-add-result c = search needs
+add-result c = record { fits = omega arith }
 
 same-length : tie.Need-same-length
 same-length c = search needs

@@ -1,4 +1,5 @@
 -- `report::digits::put_hex` meets its contract. Assumes nothing.
+use native.Mathlib.Omega.{arith}
 use denote.Ref.{now}
 use Rattle.report.specs.DigitLaws.{hex-field}
 use borrow.Author.Needs.{needs}
@@ -6,16 +7,16 @@ use Rattle.report.proofs.digits.put_hex.Statement.{statement}
 use Rattle.report.proofs.digits.put_hex.Tie as tie
 
 put-digits-requires : tie.Need-put-digits-requires
-put-digits-requires c κs = search needs
+put-digits-requires c κs = (omega arith, omega arith, omega arith)
 
 add-last : tie.Need-add-last
-add-last c = search needs
+add-last c = record { fits = omega arith }
 
 slice-write-out : tie.Need-slice-write-out
-slice-write-out c = search needs
+slice-write-out c = omega arith
 
 add-result : tie.Need-add-result
-add-result c = search needs
+add-result c = record { fits = omega arith }
 
 same-length : tie.Need-same-length
 same-length c = search needs

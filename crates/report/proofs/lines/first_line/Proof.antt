@@ -1,4 +1,5 @@
 -- `report::lines::first_line` meets its contract. Assumes nothing.
+use native.Mathlib.Omega.{arith}
 use Rattle.report.specs.LineLaws.{shown, too-short, outcome-first, refusal-first}
 use borrow.Author.Needs.{needs}
 use Rattle.report.proofs.lines.first_line.Statement.{statement}
@@ -8,10 +9,10 @@ returns : tie.Need-returns
 returns c = too-short _ _ (c .if1 .taken)
 
 bits-of-requires : tie.Need-bits-of-requires
-bits-of-requires c κs = search needs
+bits-of-requires c κs = tt
 
 line-one-requires : tie.Need-line-one-requires
-line-one-requires c κs = search needs
+line-one-requires c κs = (omega arith, omega arith)
 
 same-length : tie.Need-same-length
 same-length c = search needs
@@ -23,7 +24,7 @@ returns-2 c =
     (outcome-first (a .number) (a .bad) (a .waypoints) (a .retained) (a .closed) (a .total) _ (c .before .before .before .before .before .if2 .taken) (c .before .before .before .bits-of .ensures))
 
 refused-line-requires : tie.Need-refused-line-requires
-refused-line-requires c κs = search needs
+refused-line-requires c κs = omega arith
 
 same-length-2 : tie.Need-same-length-2
 same-length-2 c = search needs

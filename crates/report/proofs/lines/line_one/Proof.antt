@@ -8,19 +8,19 @@ use Rattle.report.proofs.lines.line_one.Statement.{statement}
 use Rattle.report.proofs.lines.line_one.Tie as tie
 
 put-outcome-requires : tie.Need-put-outcome-requires
-put-outcome-requires c κs = search needs
+put-outcome-requires c κs = (omega arith, omega arith)
 
 put-decimal-requires : tie.Need-put-decimal-requires
-put-decimal-requires c κs = search needs
+put-decimal-requires c κs = omega arith
 
 put-decimal-requires-2 : tie.Need-put-decimal-requires-2
-put-decimal-requires-2 c κs = search needs
+put-decimal-requires-2 c κs = omega arith
 
 put-decimal-requires-3 : tie.Need-put-decimal-requires-3
-put-decimal-requires-3 c κs = search needs
+put-decimal-requires-3 c κs = omega arith
 
 put-hex-requires : tie.Need-put-hex-requires
-put-hex-requires c κs = search needs
+put-hex-requires c κs = omega arith
 
 same-length : tie.Need-same-length
 same-length c = search needs

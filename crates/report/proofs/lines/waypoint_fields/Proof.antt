@@ -8,22 +8,22 @@ use Rattle.report.proofs.lines.waypoint_fields.Statement.{statement}
 use Rattle.report.proofs.lines.waypoint_fields.Tie as tie
 
 put-decimal-requires : tie.Need-put-decimal-requires
-put-decimal-requires c κs = search needs
+put-decimal-requires c κs = omega arith
 
 put-movement-requires : tie.Need-put-movement-requires
-put-movement-requires c κs = search needs
+put-movement-requires c κs = (omega arith, omega arith)
 
 put-hex-requires : tie.Need-put-hex-requires
-put-hex-requires c κs = search needs
+put-hex-requires c κs = omega arith
 
 put-hex-requires-2 : tie.Need-put-hex-requires-2
-put-hex-requires-2 c κs = search needs
+put-hex-requires-2 c κs = omega arith
 
 put-hex-requires-3 : tie.Need-put-hex-requires-3
-put-hex-requires-3 c κs = search needs
+put-hex-requires-3 c κs = omega arith
 
 put-hex-requires-4 : tie.Need-put-hex-requires-4
-put-hex-requires-4 c κs = search needs
+put-hex-requires-4 c κs = omega arith
 
 same-length : tie.Need-same-length
 same-length c = search needs

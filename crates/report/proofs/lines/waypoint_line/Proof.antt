@@ -1,4 +1,5 @@
 -- `report::lines::waypoint_line` meets its contract. Assumes nothing.
+use native.Mathlib.Omega.{arith}
 use denote.Ref.{now}
 use Rattle.report.specs.LineLaws.{shown, too-short, nothing-shown, no-record, no-movement, a-record}
 use borrow.Author.Needs.{needs}
@@ -12,40 +13,40 @@ returns-2 : tie.Need-returns-2
 returns-2 c = nothing-shown _ _ (no-record (now (c .before .before .before .before .args .list)) (c .before .before .before .before .args .place) (c .if2 .taken))
 
 mul-at : tie.Need-mul-at
-mul-at c = search needs
+mul-at c = record { fits = omega arith }
 
 add-u64-at : tie.Need-add-u64-at
-add-u64-at c = search needs
+add-u64-at c = record { fits = omega arith }
 
 u64-at-requires : tie.Need-u64-at-requires
-u64-at-requires c κs = search needs
+u64-at-requires c κs = tt
 
 returns-3 : tie.Need-returns-3
 returns-3 c = nothing-shown _ _ (no-movement (now (c .before .before .before .before .before .before .args .list)) (c .before .before .before .before .before .before .args .place) _ (c .before .u64-at .ensures) (c .if3 .taken) (c .before .before .if2 .left))
 
 u64-at-requires-2 : tie.Need-u64-at-requires-2
-u64-at-requires-2 c κs = search needs
+u64-at-requires-2 c κs = tt
 
 add-u64-at-2 : tie.Need-add-u64-at-2
-add-u64-at-2 c = search needs
+add-u64-at-2 c = record { fits = omega arith }
 
 u64-at-requires-3 : tie.Need-u64-at-requires-3
-u64-at-requires-3 c κs = search needs
+u64-at-requires-3 c κs = tt
 
 add-u64-at-3 : tie.Need-add-u64-at-3
-add-u64-at-3 c = search needs
+add-u64-at-3 c = record { fits = omega arith }
 
 u64-at-requires-4 : tie.Need-u64-at-requires-4
-u64-at-requires-4 c κs = search needs
+u64-at-requires-4 c κs = tt
 
 add-u64-at-4 : tie.Need-add-u64-at-4
-add-u64-at-4 c = search needs
+add-u64-at-4 c = record { fits = omega arith }
 
 u64-at-requires-5 : tie.Need-u64-at-requires-5
-u64-at-requires-5 c κs = search needs
+u64-at-requires-5 c κs = tt
 
 waypoint-fields-requires : tie.Need-waypoint-fields-requires
-waypoint-fields-requires c κs = search needs
+waypoint-fields-requires c κs = (omega arith, omega arith)
 
 same-length : tie.Need-same-length
 same-length c = search needs

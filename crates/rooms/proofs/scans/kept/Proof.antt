@@ -1,50 +1,52 @@
 -- `rooms::scans::kept` meets its contract. Assumes nothing.
-use native.Mathlib.Omega.{arith}
 use borrow.Author.Tests.{eq-eqb, ne-eqb}
-use mathlib.Core.Path.{_≡_}
+use native.Mathlib.Nat.{le-of-lt}
+use mathlib.Core.Path.{_≡_, sym, ap, _∙_}
 use mathlib.Core.Bool.{true, false}
 use denote.Ref.{now}
+use Rattle.rooms.specs.declared.Entry.{Entry}
 use Rattle.rooms.specs.Records.{entryAt}
 use Rattle.rooms.specs.Scans.{waits, sooner}
 use Rattle.rooms.specs.Laws.Scans.{passes, takes-first, takes-lower, stays}
-use borrow.Author.Needs.{needs}
 use Rattle.rooms.proofs.scans.kept.Statement.{statement}
 use Rattle.rooms.proofs.scans.kept.Tie as tie
 
+-- what is known of the entry at hand, once it was found to wait
+waiting : (s : tie.Else1) → waits (entryAt (now (s .before .before .before .before .args .front)) (s .before .before .before .before .args .i)) ≡ true
+waiting s = ap waits (sym (s .before .before .get-entry .ensures)) ∙ eq-eqb _ _ (s .if1 .left)
+
+-- and of the two entries, once they were compared
+compared : (s : tie.After-before2) → s .before2 .result ≡ sooner (entryAt (now (s .before .before .before .before .before .before .before .args .front)) (s .before .before .before .before .before .before .before .args .i)) (entryAt (now (s .before .before .before .before .before .before .before .args .front)) (s .before .before .before .before .before .before .before .args .at))
+compared s = s .before2 .ensures ∙ ap (λ (e : Entry). sooner e (s .before .get-entry2 .result)) (s .before .before .before .before .before .get-entry .ensures) ∙ ap (sooner _) (s .before .get-entry2 .ensures)
+
 get-entry-requires : tie.Need-get-entry-requires
-get-entry-requires c κs = search needs
+get-entry-requires c κs = tt
 
 returns : tie.Need-returns
 returns c =
-    let a = c .before .before .before .before .args in
-    let t : waits (entryAt (now (a .front)) (a .i)) ≡ false = rw (← (c .before .before .get-entry .ensures)) (ne-eqb _ _ (c .if1 .taken)) in
-    (passes (a .n) (now (a .front)) t, omega arith)
+    let s = c .before .before .before .before in
+    (passes (s .args .n) (now (s .args .front)) (ap waits (sym (c .before .before .get-entry .ensures)) ∙ ne-eqb _ _ (c .if1 .taken)), s .pre .1)
 
 returns-2 : tie.Need-returns-2
 returns-2 c =
-    let a = c .before .before .before .before .before .args in
-    let t : waits (entryAt (now (a .front)) (a .i)) ≡ true = rw (← (c .before .before .before .get-entry .ensures)) (eq-eqb _ _ (c .before .if1 .left)) in
-    (takes-first (a .n) (now (a .front)) (omega arith) t (c .if2 .taken), omega arith)
+    let s = c .before .before .before .before .before in
+    (takes-first (s .args .n) (now (s .args .front)) (s .pre .0) (waiting (c .before)) (c .if2 .taken), le-of-lt (s .pre .0))
 
 get-entry-requires-2 : tie.Need-get-entry-requires-2
-get-entry-requires-2 c κs = search needs
+get-entry-requires-2 c κs = tt
 
 before-requires : tie.Need-before-requires
-before-requires c κs = search needs
+before-requires c κs = tt
 
 returns-3 : tie.Need-returns-3
 returns-3 c =
-    let a = c .before .before .before .before .before .before .before .before .args in
-    let t : waits (entryAt (now (a .front)) (a .i)) ≡ true = rw (← (c .before .before .before .before .before .before .get-entry .ensures)) (eq-eqb _ _ (c .before .before .before .before .if1 .left)) in
-    let s : sooner (entryAt (now (a .front)) (a .i)) (entryAt (now (a .front)) (a .at)) ≡ true = cc in
-    (takes-lower (a .n) (now (a .front)) (omega arith) t (c .before .before .before .if2 .left) s, omega arith)
+    let s = c .before .before .before .before .before .before .before .before in
+    (takes-lower (s .args .n) (now (s .args .front)) (s .pre .0) (waiting (c .before .before .before .before)) (c .before .before .before .if2 .left) (sym (compared (c .before)) ∙ c .if3 .taken), le-of-lt (s .pre .0))
 
 returns-4 : tie.Need-returns-4
 returns-4 c =
-    let a = c .before .before .before .before .before .before .before .before .args in
-    let t : waits (entryAt (now (a .front)) (a .i)) ≡ true = rw (← (c .before .before .before .before .before .before .get-entry .ensures)) (eq-eqb _ _ (c .before .before .before .before .if1 .left)) in
-    let s : sooner (entryAt (now (a .front)) (a .i)) (entryAt (now (a .front)) (a .at)) ≡ false = cc in
-    (stays (a .n) (now (a .front)) t (c .before .before .before .if2 .left) s, omega arith)
+    let s = c .before .before .before .before .before .before .before .before in
+    (stays (s .args .n) (now (s .args .front)) (waiting (c .before .before .before .before)) (c .before .before .before .if2 .left) (sym (compared (c .before)) ∙ c .if3 .left), s .pre .1)
 
 pub kept-spec : {M : Type 1} → statement M
 kept-spec =

@@ -1,12 +1,11 @@
 -- `scene::after::body_after` meets its contract. Assumes nothing.
 use Rattle.scene.specs.Scene.{bodyAfter}
 use borrow.Author.Tests.{eq-eqb, ne-eqb}
-use borrow.Author.Needs.{needs}
 use Rattle.scene.proofs.after.body_after.Statement.{statement}
 use Rattle.scene.proofs.after.body_after.Tie as tie
 
 body-of-requires : tie.Need-body-of-requires
-body-of-requires c κs = search needs
+body-of-requires c κs = tt
 
 returns : tie.Need-returns
 unfolding bodyAfter

@@ -2,22 +2,21 @@
 use Rattle.scene.specs.Scene.{countsAfter}
 use borrow.Author.Tests.{eq-eqb, ne-eqb}
 use native.Mathlib.Omega.{arith}
-use borrow.Author.Needs.{needs}
 use Rattle.scene.proofs.after.counts_after.Statement.{statement}
 use Rattle.scene.proofs.after.counts_after.Tie as tie
 
 window-of-requires : tie.Need-window-of-requires
-window-of-requires c κs = search needs
+window-of-requires c κs = tt
 
 cell-count-requires : tie.Need-cell-count-requires
-cell-count-requires c κs = search needs
+cell-count-requires c κs = tt
 
 returns : tie.Need-returns
 unfolding countsAfter
 returns c = rw (eq-eqb _ _ (c .before .before .if1 .taken), c .cell-count .ensures, c .before .window-of .ensures)
 
 number-of-requires : tie.Need-number-of-requires
-number-of-requires c κs = search needs
+number-of-requires c κs = tt
 
 with-box-counted-requires : tie.Need-with-box-counted-requires
 with-box-counted-requires c κs = rw (c .number-of .ensures) (c .before .before .before .before .pre .shape (c .before .if2 .taken))
@@ -32,7 +31,7 @@ returns-2 c = rw (
 )
 
 number-of-requires-2 : tie.Need-number-of-requires-2
-number-of-requires-2 c κs = search needs
+number-of-requires-2 c κs = tt
 
 add-t9 : tie.Need-add-t9
 add-t9 c = record { fits = omega (arith, c .number-of2 .ensures, c .before .before .before .before .before .pre .state (c .before .if3 .taken)) }

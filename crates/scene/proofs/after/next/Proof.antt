@@ -5,19 +5,19 @@ use Rattle.scene.proofs.after.next.Statement.{statement}
 use Rattle.scene.proofs.after.next.Tie as tie
 
 request-after-requires : tie.Need-request-after-requires
-request-after-requires c κs = search needs
+request-after-requires c κs = tt
 
 body-after-requires : tie.Need-body-after-requires
-body-after-requires c κs = search needs
+body-after-requires c κs = tt
 
 window-after-requires : tie.Need-window-after-requires
-window-after-requires c κs = search needs
+window-after-requires c κs = tt
 
 counts-after-requires : tie.Need-counts-after-requires
 counts-after-requires c κs = search needs
 
 next-number-requires : tie.Need-next-number-requires
-next-number-requires c κs = search needs
+next-number-requires c κs = tt
 
 returns : tie.Need-returns
 unfolding next

@@ -6,16 +6,16 @@ use Rattle.scene.proofs.after.request_after.Statement.{statement}
 use Rattle.scene.proofs.after.request_after.Tie as tie
 
 point-at-requires : tie.Need-point-at-requires
-point-at-requires c κs = search needs
+point-at-requires c κs = tt
 
 point-at-requires-2 : tie.Need-point-at-requires-2
-point-at-requires-2 c κs = search needs
+point-at-requires-2 c κs = tt
 
 f64-at-requires : tie.Need-f64-at-requires
-f64-at-requires c κs = search needs
+f64-at-requires c κs = tt
 
 number-of-requires : tie.Need-number-of-requires
-number-of-requires c κs = search needs
+number-of-requires c κs = tt
 
 cast-t11 : tie.Need-cast-t11
 cast-t11 c = search needs
@@ -31,13 +31,13 @@ returns c = rw (
 )
 
 f64-at-requires-2 : tie.Need-f64-at-requires-2
-f64-at-requires-2 c κs = search needs
+f64-at-requires-2 c κs = tt
 
 f64-at-requires-3 : tie.Need-f64-at-requires-3
-f64-at-requires-3 c κs = search needs
+f64-at-requires-3 c κs = tt
 
 f64-at-requires-4 : tie.Need-f64-at-requires-4
-f64-at-requires-4 c κs = search needs
+f64-at-requires-4 c κs = tt
 
 returns-2 : tie.Need-returns-2
 unfolding requestAfter

@@ -1,12 +1,11 @@
 -- `scene::after::window_after` meets its contract. Assumes nothing.
 use Rattle.scene.specs.Scene.{windowAfter}
 use borrow.Author.Tests.{eq-eqb, ne-eqb}
-use borrow.Author.Needs.{needs}
 use Rattle.scene.proofs.after.window_after.Statement.{statement}
 use Rattle.scene.proofs.after.window_after.Tie as tie
 
 window-of-requires : tie.Need-window-of-requires
-window-of-requires c κs = search needs
+window-of-requires c κs = tt
 
 returns : tie.Need-returns
 unfolding windowAfter

@@ -1,15 +1,14 @@
 -- `scene::after::write_box` meets its contract. Assumes nothing.
 use Rattle.scene.specs.Scene.{boxesAfter}
 use borrow.Author.Tests.{eq-eqb, ne-eqb}
-use borrow.Author.Needs.{needs}
 use Rattle.scene.proofs.after.write_box.Statement.{statement}
 use Rattle.scene.proofs.after.write_box.Tie as tie
 
 put-box-requires : tie.Need-put-box-requires
-put-box-requires c κs = search needs
+put-box-requires c κs = tt
 
 same-length : tie.Need-same-length
-same-length c = search needs
+same-length c = c .before .before .put-box .kept .0
 
 returns : tie.Need-returns
 unfolding boxesAfter

@@ -1,31 +1,30 @@
 -- `scene::after::write_cells` meets its contract. Assumes nothing.
 use Rattle.scene.specs.Scene.{cellsAfter}
 use borrow.Author.Tests.{eq-eqb, ne-eqb}
-use borrow.Author.Needs.{needs}
 use Rattle.scene.proofs.after.write_cells.Statement.{statement}
 use Rattle.scene.proofs.after.write_cells.Tie as tie
 
 window-of-requires : tie.Need-window-of-requires
-window-of-requires c κs = search needs
+window-of-requires c κs = tt
 
 cell-count-requires : tie.Need-cell-count-requires
-cell-count-requires c κs = search needs
+cell-count-requires c κs = tt
 
 clear-cells-requires : tie.Need-clear-cells-requires
-clear-cells-requires c κs = search needs
+clear-cells-requires c κs = tt
 
 same-length : tie.Need-same-length
-same-length c = search needs
+same-length c = c .before .before .clear-cells .kept .0
 
 returns : tie.Need-returns
 unfolding cellsAfter
 returns c = rw (eq-eqb _ _ (c .before .before .before .before .before .before .if1 .taken), ← c .before .before .before .before .before .window-of .ensures, ← c .before .before .before .before .cell-count .ensures) (c .before .before .clear-cells .ensures)
 
 fill-cells-requires : tie.Need-fill-cells-requires
-fill-cells-requires c κs = search needs
+fill-cells-requires c κs = tt
 
 same-length-2 : tie.Need-same-length-2
-same-length-2 c = search needs
+same-length-2 c = c .before .before .fill-cells .kept .1 .1 .0
 
 returns-2 : tie.Need-returns-2
 unfolding cellsAfter

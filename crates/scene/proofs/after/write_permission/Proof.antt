@@ -1,21 +1,20 @@
 -- `scene::after::write_permission` meets its contract. Assumes nothing.
 use Rattle.scene.specs.Scene.{permsAfter}
 use borrow.Author.Tests.{eq-eqb, ne-eqb}
-use borrow.Author.Needs.{needs}
 use Rattle.scene.proofs.after.write_permission.Statement.{statement}
 use Rattle.scene.proofs.after.write_permission.Tie as tie
 
 number-of-requires : tie.Need-number-of-requires
-number-of-requires c κs = search needs
+number-of-requires c κs = tt
 
 byte-at-requires : tie.Need-byte-at-requires
-byte-at-requires c κs = search needs
+byte-at-requires c κs = tt
 
 put-permission-requires : tie.Need-put-permission-requires
-put-permission-requires c κs = search needs
+put-permission-requires c κs = tt
 
 same-length : tie.Need-same-length
-same-length c = search needs
+same-length c = c .before .before .put-permission .kept .0
 
 returns : tie.Need-returns
 unfolding permsAfter

@@ -1,21 +1,20 @@
 -- `scene::after::write_shape` meets its contract. Assumes nothing.
 use Rattle.scene.specs.Scene.{shapesAfter}
 use borrow.Author.Tests.{eq-eqb, ne-eqb}
-use borrow.Author.Needs.{needs}
 use Rattle.scene.proofs.after.write_shape.Statement.{statement}
 use Rattle.scene.proofs.after.write_shape.Tie as tie
 
 number-of-requires : tie.Need-number-of-requires
-number-of-requires c κs = search needs
+number-of-requires c κs = tt
 
 count-after-requires : tie.Need-count-after-requires
 count-after-requires c κs = rw (c .number-of .ensures) (c .before .before .before .before .pre .shape (c .before .if1 .taken))
 
 put-shape-requires : tie.Need-put-shape-requires
-put-shape-requires c κs = search needs
+put-shape-requires c κs = tt
 
 same-length : tie.Need-same-length
-same-length c = search needs
+same-length c = c .before .before .put-shape .kept .0
 
 returns : tie.Need-returns
 unfolding shapesAfter

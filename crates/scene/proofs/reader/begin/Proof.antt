@@ -2,7 +2,6 @@
 use Rattle.scene.specs.Answers.{begun, given}
 use borrow.Author.Tests.{le-leb, lt-leb}
 use mathlib.Core.Path.{ap}
-use borrow.Author.Needs.{needs}
 use Rattle.scene.proofs.reader.begin.Statement.{statement}
 use Rattle.scene.proofs.reader.begin.Tie as tie
 
@@ -23,7 +22,7 @@ unfolding begun
 returns-4 c = rw (le-leb _ _ (c .before .before .before .if1 .left), le-leb _ _ (c .before .before .if2 .left), le-leb _ _ (c .before .if3 .left), lt-leb _ _ (c .if4 .taken))
 
 empty-requires : tie.Need-empty-requires
-empty-requires c κs = search needs
+empty-requires c κs = tt
 
 returns-5 : tie.Need-returns-5
 unfolding begun

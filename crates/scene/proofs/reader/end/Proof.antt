@@ -1,7 +1,6 @@
 -- `scene::reader::end` meets its contract. Assumes nothing.
 use Rattle.scene.specs.Answers.{ended}
 use borrow.Author.Tests.{lt-ltb, le-ltb}
-use borrow.Author.Needs.{needs}
 use Rattle.scene.proofs.reader.end.Statement.{statement}
 use Rattle.scene.proofs.reader.end.Tie as tie
 
@@ -10,7 +9,7 @@ unfolding ended
 returns c = rw (lt-ltb _ _ (c .if1 .taken))
 
 in-use-requires : tie.Need-in-use-requires
-in-use-requires c κs = search needs
+in-use-requires c κs = tt
 
 returns-2 : tie.Need-returns-2
 unfolding ended

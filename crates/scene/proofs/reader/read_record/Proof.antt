@@ -6,12 +6,11 @@ use borrow.Author.Tests.{not-true, not-false}
 use denote.Ref.{now}
 use mathlib.Core.Bool.{true, false}
 use mathlib.Core.Path.{_≡_, sym, ap, _∙_}
-use borrow.Author.Needs.{needs}
 use Rattle.scene.proofs.reader.read_record.Statement.{statement}
 use Rattle.scene.proofs.reader.read_record.Tie as tie
 
 is-good-requires : tie.Need-is-good-requires
-is-good-requires c κs = search needs
+is-good-requires c κs = tt
 
 returns : tie.Need-returns
 unfolding step cellsRead permsRead shapesRead boxesRead
@@ -20,13 +19,13 @@ returns c =
     (rw p, (rw p, (rw p, (rw p, rw p))))
 
 byte-at-requires : tie.Need-byte-at-requires
-byte-at-requires c κs = search needs
+byte-at-requires c κs = tt
 
 write-cells-requires : tie.Need-write-cells-requires
-write-cells-requires c κs = search needs
+write-cells-requires c κs = tt
 
 write-permission-requires : tie.Need-write-permission-requires
-write-permission-requires c κs = search needs
+write-permission-requires c κs = tt
 
 write-shape-requires : tie.Need-write-shape-requires
 write-shape-requires c κs =
@@ -35,7 +34,7 @@ write-shape-requires c κs =
     rw (c .before .before .before .before .before .before .before .before .before .byte-at .ensures) (allowed (s .args .state .kind) (s .args .state .counts) (now (s .args .bytes)) q)
 
 write-box-requires : tie.Need-write-box-requires
-write-box-requires c κs = search needs
+write-box-requires c κs = tt
 
 next-requires : tie.Need-next-requires
 next-requires c κs =
@@ -47,13 +46,13 @@ same-length : tie.Need-same-length
 same-length c = c .before .before .before .before .before .before .before .before .before .before .before .before .before .before .before .write-cells .kept .1 .1 .1 .0
 
 same-length-2 : tie.Need-same-length-2
-same-length-2 c = search needs
+same-length-2 c = c .before .before .before .before .before .before .before .before .before .before .before .write-permission .kept .1 .1 .0
 
 same-length-3 : tie.Need-same-length-3
-same-length-3 c = search needs
+same-length-3 c = c .before .before .before .before .before .before .before .write-shape .kept .1 .1 .1 .0
 
 same-length-4 : tie.Need-same-length-4
-same-length-4 c = search needs
+same-length-4 c = c .before .before .before .write-box .kept .1 .1 .1 .0
 
 returns-2 : tie.Need-returns-2
 unfolding step cellsRead permsRead shapesRead boxesRead

@@ -2,12 +2,11 @@
 use Rattle.tables.specs.Laws.{sizes-of}
 use Rattle.scene_records.specs.Layout.{cellCount}
 use mathlib.Core.Path.{sym, _∙_}
-use borrow.Author.Needs.{needs}
 use Rattle.scene_records.proofs.layout.cell_count.Statement.{statement}
 use Rattle.scene_records.proofs.layout.cell_count.Tie as tie
 
 size-above-requires : tie.Need-size-above-requires
-size-above-requires c κs = search needs
+size-above-requires c κs = tt
 
 returns : tie.Need-returns
 unfolding cellCount

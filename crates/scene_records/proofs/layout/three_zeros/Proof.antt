@@ -1,21 +1,22 @@
 -- `scene_records::layout::three_zeros` meets its contract. Assumes nothing.
+use lib.Dec.{eqb}
+use mathlib.Core.Bool.{_&&_}
 use Rattle.scene_records.specs.Layout.{threeZeros}
-use borrow.Author.Needs.{needs}
 use Rattle.scene_records.proofs.layout.three_zeros.Statement.{statement}
 use Rattle.scene_records.proofs.layout.three_zeros.Tie as tie
 
 byte-at-requires : tie.Need-byte-at-requires
-byte-at-requires c κs = search needs
+byte-at-requires c κs = tt
 
 byte-at-requires-2 : tie.Need-byte-at-requires-2
-byte-at-requires-2 c κs = search needs
+byte-at-requires-2 c κs = tt
 
 byte-at-requires-3 : tie.Need-byte-at-requires-3
-byte-at-requires-3 c κs = search needs
+byte-at-requires-3 c κs = tt
 
 returns : tie.Need-returns
 unfolding threeZeros
-returns c = cc
+returns c = λ i. eqb (c .before .before .byte-at .ensures i) 0 && eqb (c .before .byte-at2 .ensures i) 0 && eqb (c .byte-at3 .ensures i) 0
 
 pub three-zeros-spec : {M : Type 1} → statement M
 three-zeros-spec =

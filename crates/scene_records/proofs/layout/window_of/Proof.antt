@@ -3,27 +3,26 @@ use mir.Val.{SFits}
 use mir.Syntax.{w32}
 use mir.Facts.{toZ-ofZ}
 use Rattle.scene_records.specs.Layout.{windowOf}
-use borrow.Author.Needs.{needs}
 use Rattle.scene_records.proofs.layout.window_of.Statement.{statement}
 use Rattle.scene_records.proofs.layout.window_of.Tie as tie
 
 i32-at-requires : tie.Need-i32-at-requires
-i32-at-requires c κs = search needs
+i32-at-requires c κs = tt
 
 i32-at-requires-2 : tie.Need-i32-at-requires-2
-i32-at-requires-2 c κs = search needs
+i32-at-requires-2 c κs = tt
 
 i32-at-requires-3 : tie.Need-i32-at-requires-3
-i32-at-requires-3 c κs = search needs
+i32-at-requires-3 c κs = tt
 
 u32-at-requires : tie.Need-u32-at-requires
-u32-at-requires c κs = search needs
+u32-at-requires c κs = tt
 
 u32-at-requires-2 : tie.Need-u32-at-requires-2
-u32-at-requires-2 c κs = search needs
+u32-at-requires-2 c κs = tt
 
 u32-at-requires-3 : tie.Need-u32-at-requires-3
-u32-at-requires-3 c κs = search needs
+u32-at-requires-3 c κs = tt
 
 returns : tie.Need-returns
 unfolding windowOf

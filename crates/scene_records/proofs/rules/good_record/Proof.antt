@@ -1,7 +1,6 @@
 -- `scene_records::rules::good_record` meets its contract. Assumes nothing.
 use Rattle.scene_records.specs.Rules.{good}
 use borrow.Author.Tests.{eq-eqb, ne-eqb}
-use borrow.Author.Needs.{needs}
 use Rattle.scene_records.proofs.rules.good_record.Statement.{statement}
 use Rattle.scene_records.proofs.rules.good_record.Tie as tie
 
@@ -10,22 +9,22 @@ unfolding good
 returns c = rw (ne-eqb _ _ (c .if1 .taken))
 
 byte-at-requires : tie.Need-byte-at-requires
-byte-at-requires c κs = search needs
+byte-at-requires c κs = tt
 
 in-order-requires : tie.Need-in-order-requires
-in-order-requires c κs = search needs
+in-order-requires c κs = tt
 
 three-zeros-requires : tie.Need-three-zeros-requires
-three-zeros-requires c κs = search needs
+three-zeros-requires c κs = tt
 
 unused-from-requires : tie.Need-unused-from-requires
-unused-from-requires c κs = search needs
+unused-from-requires c κs = tt
 
 zeros-from-requires : tie.Need-zeros-from-requires
-zeros-from-requires c κs = search needs
+zeros-from-requires c κs = tt
 
 rule-kept-requires : tie.Need-rule-kept-requires
-rule-kept-requires c κs = search needs
+rule-kept-requires c κs = tt
 
 returns-2 : tie.Need-returns-2
 unfolding good

@@ -2,40 +2,39 @@
 use Rattle.scene_records.specs.Laws.{kind-1, kind-3, kind-4, kind-5, kind-rest}
 use Rattle.scene_records.specs.Rules.{rule}
 use mathlib.Core.Path.{sym, _∙_}
-use borrow.Author.Needs.{needs}
 use Rattle.scene_records.proofs.rules.rule_kept.Statement.{statement}
 use Rattle.scene_records.proofs.rules.rule_kept.Tie as tie
 
 number-of-requires : tie.Need-number-of-requires
-number-of-requires c κs = search needs
+number-of-requires c κs = tt
 
 returns : tie.Need-returns
 unfolding rule
 returns c = rw (c .number-of .ensures) (sym (kind-1 _ _ _ _ _ _ _ (c .before .if1 .taken)))
 
 window-good-requires : tie.Need-window-good-requires
-window-good-requires c κs = search needs
+window-good-requires c κs = tt
 
 returns-2 : tie.Need-returns-2
 unfolding rule
 returns-2 c = c .window-good .ensures ∙ sym (kind-3 _ _ _ _ _ _ _ (c .before .if2 .taken))
 
 shape-good-requires : tie.Need-shape-good-requires
-shape-good-requires c κs = search needs
+shape-good-requires c κs = tt
 
 returns-3 : tie.Need-returns-3
 unfolding rule
 returns-3 c = c .shape-good .ensures ∙ sym (kind-4 _ _ _ _ _ _ _ (c .before .if3 .taken))
 
 state-good-requires : tie.Need-state-good-requires
-state-good-requires c κs = search needs
+state-good-requires c κs = tt
 
 returns-4 : tie.Need-returns-4
 unfolding rule
 returns-4 c = c .state-good .ensures ∙ sym (kind-5 _ _ _ _ _ _ _ (c .before .if4 .taken))
 
 number-of-requires-2 : tie.Need-number-of-requires-2
-number-of-requires-2 c κs = search needs
+number-of-requires-2 c κs = tt
 
 returns-5 : tie.Need-returns-5
 unfolding rule

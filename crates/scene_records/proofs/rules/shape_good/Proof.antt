@@ -9,7 +9,7 @@ use Rattle.scene_records.proofs.rules.shape_good.Statement.{statement}
 use Rattle.scene_records.proofs.rules.shape_good.Tie as tie
 
 number-of-requires : tie.Need-number-of-requires
-number-of-requires c κs = search needs
+number-of-requires c κs = tt
 
 returns : tie.Need-returns
 unfolding shapeRule
@@ -19,10 +19,10 @@ room-in-shape-requires : tie.Need-room-in-shape-requires
 room-in-shape-requires c κs = search needs
 
 box-of-requires : tie.Need-box-of-requires
-box-of-requires c κs = search needs
+box-of-requires c κs = tt
 
 box-good-requires : tie.Need-box-good-requires
-box-good-requires c κs = search needs
+box-good-requires c κs = tt
 
 add-result : tie.Need-add-result
 add-result c = search needs

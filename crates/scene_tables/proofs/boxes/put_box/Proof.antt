@@ -30,7 +30,7 @@ add-u64-at : tie.Need-add-u64-at Inv-loop μ-loop
 add-u64-at c = search needs
 
 u64-at-requires : tie.Need-u64-at-requires Inv-loop μ-loop
-u64-at-requires c κs = search needs
+u64-at-requires c κs = tt
 
 mul-put-u64 : tie.Need-mul-put-u64 Inv-loop μ-loop
 mul-put-u64 c = search needs
@@ -39,7 +39,7 @@ add-put-u64 : tie.Need-add-put-u64 Inv-loop μ-loop
 add-put-u64 c = record { fits = omega (arith, c .before .before .before .loop .inv .1, c .before .before .before .before .before .before .fits .k) }
 
 put-u64-requires : tie.Need-put-u64-requires Inv-loop μ-loop
-put-u64-requires c κs = search needs
+put-u64-requires c κs = tt
 
 add-j : tie.Need-add-j Inv-loop μ-loop
 add-j c = search needs

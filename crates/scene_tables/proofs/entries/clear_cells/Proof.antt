@@ -6,7 +6,6 @@ use mathlib.Core.List.{List}
 use denote.Ref.{now}
 use Prim.Native.Nat.{ℕ, _-_, _+_}
 use mathlib.Core.Path.{_≡_, refl, sym, ap, _∙_}
-use borrow.Author.Needs.{needs}
 use native.Mathlib.Omega.{arith}
 use Rattle.scene_tables.proofs.entries.clear_cells.Statement.{statement}
 use Rattle.scene_tables.proofs.entries.clear_cells.Tie as tie

@@ -5,7 +5,6 @@ use lib.ListN.{length}
 use mathlib.Core.List.{List}
 use Prim.Native.Nat.{ℕ, _-_, _+_}
 use mathlib.Core.Path.{_≡_, refl, sym, ap, _∙_}
-use borrow.Author.Needs.{needs}
 use native.Mathlib.Omega.{arith}
 use Rattle.scene_tables.proofs.entries.empty_shapes.Statement.{statement}
 use Rattle.scene_tables.proofs.entries.empty_shapes.Tie as tie

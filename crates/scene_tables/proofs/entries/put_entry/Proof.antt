@@ -12,7 +12,7 @@ mul-put-u32 : tie.Need-mul-put-u32
 mul-put-u32 c = search needs
 
 put-u32-requires : tie.Need-put-u32-requires
-put-u32-requires c κs = search needs
+put-u32-requires c κs = tt
 
 mul-put-u32-2 : tie.Need-mul-put-u32-2
 mul-put-u32-2 c = search needs
@@ -21,7 +21,7 @@ add-put-u32 : tie.Need-add-put-u32
 add-put-u32 c = search needs
 
 put-u32-requires-2 : tie.Need-put-u32-requires-2
-put-u32-requires-2 c κs = search needs
+put-u32-requires-2 c κs = tt
 
 same-length : tie.Need-same-length
 same-length c = search needs

@@ -22,7 +22,7 @@ add-put-u32 : tie.Need-add-put-u32
 add-put-u32 c = search needs
 
 put-u32-requires : tie.Need-put-u32-requires
-put-u32-requires c κs = search needs
+put-u32-requires c κs = tt
 
 same-length : tie.Need-same-length
 same-length c = search needs

@@ -10,16 +10,16 @@ use Rattle.scene_tables.proofs.fills.axis.Statement.{statement}
 use Rattle.scene_tables.proofs.fills.axis.Tie as tie
 
 i32-at-requires : tie.Need-i32-at-requires
-i32-at-requires c κs = search needs
+i32-at-requires c κs = tt
 
 add-i32-at : tie.Need-add-i32-at
 add-i32-at c = search needs
 
 i32-at-requires-2 : tie.Need-i32-at-requires-2
-i32-at-requires-2 c κs = search needs
+i32-at-requires-2 c κs = tt
 
 span-requires : tie.Need-span-requires
-span-requires c κs = search needs
+span-requires c κs = tt
 
 returns : tie.Need-returns
 unfolding axisOf

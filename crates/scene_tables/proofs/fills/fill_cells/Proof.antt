@@ -9,14 +9,14 @@ use Rattle.scene_tables.proofs.fills.fill_cells.Statement.{statement}
 use Rattle.scene_tables.proofs.fills.fill_cells.Tie as tie
 
 size-above-requires : tie.Need-size-above-requires
-size-above-requires c κs = search needs
+size-above-requires c κs = tt
 
 returns : tie.Need-returns
 unfolding filled
 returns c = rw (sym (c .before .size-above .ensures) ∙ c .if1 .taken)
 
 fill-of-requires : tie.Need-fill-of-requires
-fill-of-requires c κs = search needs
+fill-of-requires c κs = tt
 
 fill-box-requires : tie.Need-fill-box-requires
 fill-box-requires c κs =

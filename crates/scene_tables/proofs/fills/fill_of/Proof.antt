@@ -19,10 +19,10 @@ axis-requires-3 : tie.Need-axis-requires-3
 axis-requires-3 c κs = search needs
 
 u32-at-requires : tie.Need-u32-at-requires
-u32-at-requires c κs = search needs
+u32-at-requires c κs = tt
 
 u32-at-requires-2 : tie.Need-u32-at-requires-2
-u32-at-requires-2 c κs = search needs
+u32-at-requires-2 c κs = tt
 
 returns : tie.Need-returns
 unfolding fillOf

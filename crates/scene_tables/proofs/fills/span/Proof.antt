@@ -13,7 +13,7 @@ use Rattle.scene_tables.proofs.fills.span.Statement.{statement}
 use Rattle.scene_tables.proofs.fills.span.Tie as tie
 
 past-requires : tie.Need-past-requires
-past-requires c κs = search needs
+past-requires c κs = tt
 
 returns : tie.Need-returns
 unfolding spanOf
@@ -24,7 +24,7 @@ returns c =
     rw (e, p)
 
 past-requires-2 : tie.Need-past-requires-2
-past-requires-2 c κs = search needs
+past-requires-2 c κs = tt
 
 add-t10 : tie.Need-add-t10
 add-t10 c = search needs

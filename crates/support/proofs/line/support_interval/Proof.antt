@@ -6,7 +6,7 @@ use Rattle.support.proofs.line.support_interval.Statement.{statement}
 use Rattle.support.proofs.line.support_interval.Tie as tie
 
 narrow-requires : tie.Need-narrow-requires
-narrow-requires c κs = search needs
+narrow-requires c κs = tt
 
 enum-known-i : tie.Need-enum-known-i
 enum-known-i c = search needs
@@ -19,7 +19,7 @@ unfolding interval
 returns c = rw (sym (c .before .before .narrow .ensures) ∙ ap told (c .enum-told .given .1))
 
 narrow-requires-2 : tie.Need-narrow-requires-2
-narrow-requires-2 c κs = search needs
+narrow-requires-2 c κs = tt
 
 enum-known-j : tie.Need-enum-known-j
 enum-known-j c = search needs

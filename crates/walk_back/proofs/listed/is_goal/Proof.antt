@@ -1,31 +1,19 @@
 -- `walk_back::listed::is_goal` meets its contract. Assumes nothing.
-use borrow.Author.Needs.{needs}
+use mathlib.Core.Path.{ap, _∙_}
+use Rattle.rooms.specs.declared.Feet.{Feet}
 use Rattle.rooms.specs.Waypoints.{samePoint}
-use Rattle.steps.specs.Words.{feetOf}
+use Rattle.walk_back.specs.Listed.{feet}
 use Rattle.walk_back.proofs.listed.is_goal.Statement.{statement}
 use Rattle.walk_back.proofs.listed.is_goal.Tie as tie
 
-bits-of-requires : tie.Need-bits-of-requires
-bits-of-requires c κs = search needs
+feet-of-requires : tie.Need-feet-of-requires
+feet-of-requires c κs = tt
 
-bits-of-requires-2 : tie.Need-bits-of-requires-2
-bits-of-requires-2 c κs = search needs
-
-bits-of-requires-3 : tie.Need-bits-of-requires-3
-bits-of-requires-3 c κs = search needs
-
-same-word-requires : tie.Need-same-word-requires
-same-word-requires c κs = search needs
-
-same-word-requires-2 : tie.Need-same-word-requires-2
-same-word-requires-2 c κs = search needs
-
-same-word-requires-3 : tie.Need-same-word-requires-3
-same-word-requires-3 c κs = search needs
+same-point-requires : tie.Need-same-point-requires
+same-point-requires c κs = tt
 
 returns : tie.Need-returns
-unfolding samePoint feetOf
-returns c = cc
+returns c = c .same-point .ensures ∙ ap (λ (p : Feet). samePoint (feet (c .before .before .args .v)) p) (c .before .feet-of .ensures)
 
 pub is-goal-spec : {M : Type 1} → statement M
-is-goal-spec = tie.close (tie.spec bits-of-requires bits-of-requires-2 bits-of-requires-3 same-word-requires same-word-requires-2 same-word-requires-3 returns)
+is-goal-spec = tie.close (tie.spec feet-of-requires same-point-requires returns)

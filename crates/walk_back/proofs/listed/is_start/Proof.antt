@@ -1,18 +1,19 @@
 -- `walk_back::listed::is_start` meets its contract. Assumes nothing.
-use borrow.Author.Needs.{needs}
+use lib.Dec.{eqb}
+use mathlib.Core.Bool.{_&&_}
 use Rattle.rooms.specs.Waypoints.{alike}
 use Rattle.walk_back.proofs.listed.is_start.Statement.{statement}
 use Rattle.walk_back.proofs.listed.is_start.Tie as tie
 
 same-feet-requires : tie.Need-same-feet-requires
-same-feet-requires c κs = search needs
+same-feet-requires c κs = tt
 
 same-word-requires : tie.Need-same-word-requires
-same-word-requires c κs = search needs
+same-word-requires c κs = tt
 
 returns : tie.Need-returns
 unfolding alike
-returns c = cc
+returns c = λ i. c .before .before .same-feet .ensures i && (eqb 0 (c .before .before .before .args .v .movement) && c .same-word .ensures i)
 
 pub is-start-spec : {M : Type 1} → statement M
 is-start-spec = tie.close (tie.spec same-feet-requires same-word-requires returns)

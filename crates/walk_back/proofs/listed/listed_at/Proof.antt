@@ -1,42 +1,69 @@
 -- `walk_back::listed::listed_at` meets its contract. Assumes nothing.
-use borrow.Author.Needs.{needs}
+use native.Mathlib.Omega.{arith}
+use Prim.Native.Nat.{ℕ, _+_, _*_, _≤_}
+use lib.Dec.{lit≤}
+use mir.Syntax.{w64}
+use mir.Val.{Fits}
 use Rattle.walk_back.specs.Listed.{listedAt}
 use Rattle.walk_back.proofs.listed.listed_at.Statement.{statement}
 use Rattle.walk_back.proofs.listed.listed_at.Tie as tie
 
+-- from the facts of the start alone
+fits : (s : tie.Start) (j : ℕ) → j ≤ 32 → Fits w64 (40 * s .args .k + j)
+fits s j l = omega arith
+
 mul-at : tie.Need-mul-at
-mul-at c = search needs
+mul-at c = omega arith
 
 u64-at-requires : tie.Need-u64-at-requires
-u64-at-requires c κs = search needs
+u64-at-requires c κs = tt
 
 add-u64-at : tie.Need-add-u64-at
-add-u64-at c = search needs
+add-u64-at c = fits (c .before .before) 8 (lit≤ tt)
 
 u64-at-requires-2 : tie.Need-u64-at-requires-2
-u64-at-requires-2 c κs = search needs
+u64-at-requires-2 c κs = tt
 
 add-u64-at-2 : tie.Need-add-u64-at-2
-add-u64-at-2 c = search needs
+add-u64-at-2 c = fits (c .before .before .before) 16 (lit≤ tt)
 
 u64-at-requires-3 : tie.Need-u64-at-requires-3
-u64-at-requires-3 c κs = search needs
+u64-at-requires-3 c κs = tt
 
 add-u64-at-3 : tie.Need-add-u64-at-3
-add-u64-at-3 c = search needs
+add-u64-at-3 c = fits (c .before .before .before .before) 24 (lit≤ tt)
 
 u64-at-requires-4 : tie.Need-u64-at-requires-4
-u64-at-requires-4 c κs = search needs
+u64-at-requires-4 c κs = tt
 
 add-u64-at-4 : tie.Need-add-u64-at-4
-add-u64-at-4 c = search needs
+add-u64-at-4 c = fits (c .before .before .before .before .before) 32 (lit≤ tt)
 
 u64-at-requires-5 : tie.Need-u64-at-requires-5
-u64-at-requires-5 c κs = search needs
+u64-at-requires-5 c κs = tt
 
 returns : tie.Need-returns
 unfolding listedAt
-returns c = cc
+returns c = λ i. record {
+  x = c .before .before .before .before .u64-at .ensures i;
+  y = c .before .before .before .u64-at2 .ensures i;
+  z = c .before .before .u64-at3 .ensures i;
+  lift = c .before .u64-at4 .ensures i;
+  movement = c .u64-at5 .ensures i;
+}
 
 pub listed-at-spec : {M : Type 1} → statement M
-listed-at-spec = tie.close (tie.spec mul-at u64-at-requires add-u64-at u64-at-requires-2 add-u64-at-2 u64-at-requires-3 add-u64-at-3 u64-at-requires-4 add-u64-at-4 u64-at-requires-5 returns)
+listed-at-spec =
+    tie.close
+    (tie.spec
+    mul-at
+    u64-at-requires
+    add-u64-at
+    u64-at-requires-2
+    add-u64-at-2
+    u64-at-requires-3
+    add-u64-at-3
+    u64-at-requires-4
+    add-u64-at-4
+    u64-at-requires-5
+    returns)

@@ -1,10 +1,9 @@
 -- `walk_back::listed::point_at` meets its contract. Assumes nothing.
-use borrow.Author.Needs.{needs}
 use Rattle.walk_back.proofs.listed.point_at.Statement.{statement}
 use Rattle.walk_back.proofs.listed.point_at.Tie as tie
 
 point-of-requires : tie.Need-point-of-requires
-point-of-requires c κs = search needs
+point-of-requires c κs = tt
 
 returns : tie.Need-returns
 returns c = c .point-of .ensures

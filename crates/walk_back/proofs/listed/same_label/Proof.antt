@@ -1,22 +1,28 @@
 -- `walk_back::listed::same_label` meets its contract. Assumes nothing.
-use borrow.Author.Needs.{needs}
-use Rattle.rooms.specs.Waypoints.{alike}
+use lib.Dec.{eqb}
+use mathlib.Core.Bool.{_&&_}
+use mathlib.Core.Path.{ap, _∙_}
+use Prim.Native.Nat.{ℕ}
+use Rattle.rooms.specs.Waypoints.{sameWord, alike}
 use Rattle.steps.specs.Words.{labelOf}
 use Rattle.walk_back.proofs.listed.same_label.Statement.{statement}
 use Rattle.walk_back.proofs.listed.same_label.Tie as tie
 
 movement-number-requires : tie.Need-movement-number-requires
-movement-number-requires c κs = search needs
+movement-number-requires c κs = tt
 
 bits-of-requires : tie.Need-bits-of-requires
-bits-of-requires c κs = search needs
+bits-of-requires c κs = tt
 
 same-word-requires : tie.Need-same-word-requires
-same-word-requires c κs = search needs
+same-word-requires c κs = tt
 
 returns : tie.Need-returns
 unfolding alike labelOf
-returns c = cc
+returns c =
+    let v = c .before .before .before .before .args .v in
+    let lifts = c .same-word .ensures ∙ ap (λ (b : ℕ). sameWord b (v .lift)) (c .before .before .bits-of .ensures) in
+    λ i. eqb (c .before .before .before .movement-number .ensures i) (v .movement) && lifts i
 
 pub same-label-spec : {M : Type 1} → statement M
 same-label-spec = tie.close (tie.spec movement-number-requires bits-of-requires same-word-requires returns)

@@ -10,13 +10,13 @@ use Rattle.walk_back.proofs.pairs.connects.Statement.{statement}
 use Rattle.walk_back.proofs.pairs.connects.Tie as tie
 
 is-goal-requires : tie.Need-is-goal-requires
-is-goal-requires c κs = search needs
+is-goal-requires c κs = tt
 
 returns : tie.Need-returns
 returns c = let a = c .before .before .before .before .before .before .args in let sp = space (a .w) (now (a .cells)) (now (a .perms)) (now (a .shapes)) (now (a .boxes)) in sym (not-goal sp (a .r) (a .body) (a .from) (a .v) (sym (c .before .is-goal .ensures) ∙ not-true _ (c .if1 .taken)))
 
 connector-requires : tie.Need-connector-requires
-connector-requires c κs = search needs
+connector-requires c κs = tt
 
 enum-known-step : tie.Need-enum-known-step
 enum-known-step c = search needs
@@ -29,7 +29,7 @@ unfolding connectorTo
 returns-2 c = rw (sym (c .before .before .connector .ensures) ∙ c .enum-told .given .1)
 
 same-label-requires : tie.Need-same-label-requires
-same-label-requires c κs = search needs
+same-label-requires c κs = tt
 
 returns-3 : tie.Need-returns-3
 unfolding connectorTo

@@ -22,7 +22,7 @@ abbrev μ-loop : tie.MeasureT-loop
 μ-loop w cells perms shapes boxes r body from v sides₀ n₀ sides n = 9 - n
 
 none-requires : tie.Need-none-requires Inv-loop μ-loop
-none-requires c κs = search needs
+none-requires c κs = tt
 
 loop-holds : tie.Need-loop-holds Inv-loop μ-loop
 loop-holds c = let a = c .before .before .before .before .before .args in let sp = space (a .w) (now (a .cells)) (now (a .perms)) (now (a .shapes)) (now (a .boxes)) in (omega arith, (c .none .ensures ∙ sym (sides-begin sp (a .r) (a .body) (a .from)), ap (has (leadsTo (a .v))) (columns-begin sp (a .r) (a .body) (a .from))))
@@ -40,7 +40,7 @@ returns : tie.Need-returns Inv-loop μ-loop
 returns c = let a = c .before .before .before .before .before .before .before .before .before .before .args in let sp = space (a .w) (now (a .cells)) (now (a .perms)) (now (a .shapes)) (now (a .boxes)) in sym (c .before .before .before .before .loop .inv .1 .1 ∙ step-met sp (a .r) (a .body) (a .from) (c .before .before .before .before .loop .n) (a .v) (c .before .before .before .loop-test .taken) (sym (c .before .before .look-column .ensures) ∙ c .enum-told .given .1))
 
 answered-requires : tie.Need-answered-requires Inv-loop μ-loop
-answered-requires c κs = search needs
+answered-requires c κs = tt
 
 add-n : tie.Need-add-n Inv-loop μ-loop
 add-n c = omega (arith, c .before .before .before .before .before .loop-test .taken)

@@ -21,22 +21,22 @@ abbrev μ-loop : tie.MeasureT-loop
     heightsLeft (space w cells perms shapes boxes) r body from n v after
 
 looked-requires : tie.Need-looked-requires Inv-loop μ-loop
-looked-requires c κs = search needs
+looked-requires c κs = tt
 
 returns : tie.Need-returns Inv-loop μ-loop
 returns c = let a = c .before .before .before .before .before .before .args in let sp = space (a .w) (now (a .cells)) (now (a .perms)) (now (a .shapes)) (now (a .boxes)) in sym (unlooked sp (a .r) (a .body) (a .from) (a .n) (a .v) _ (c .before .before .before .before .before .before .pre) (sym (c .before .looked .ensures) ∙ not-true _ (c .if1 .taken)))
 
 band-of-requires : tie.Need-band-of-requires Inv-loop μ-loop
-band-of-requires c κs = search needs
+band-of-requires c κs = tt
 
 column-centre-requires : tie.Need-column-centre-requires Inv-loop μ-loop
-column-centre-requires c κs = search needs
+column-centre-requires c κs = tt
 
 loop-holds : tie.Need-loop-holds Inv-loop μ-loop
 loop-holds c = let a = c .before .before .before .before .before .before .before .before .args in let sp = space (a .w) (now (a .cells)) (now (a .perms)) (now (a .shapes)) (now (a .boxes)) in begun sp (a .r) (a .body) (a .from) (a .n) (a .v) _ (c .before .before .before .before .before .before .before .before .pre) (sym (c .before .before .before .looked .ensures) ∙ not-false _ (c .before .before .if1 .left))
 
 next-height-requires : tie.Need-next-height-requires Inv-loop μ-loop
-next-height-requires c κs = search needs
+next-height-requires c κs = tt
 
 enum-known-y : tie.Need-enum-known-y Inv-loop μ-loop
 enum-known-y c = search needs
@@ -48,7 +48,7 @@ returns-2 : tie.Need-returns-2 Inv-loop μ-loop
 returns-2 c = let a = c .before .before .before .before .before .before .before .before .before .before .before .before .args in let sp = space (a .w) (now (a .cells)) (now (a .perms)) (now (a .shapes)) (now (a .boxes)) in sym (c .before .before .before .loop .inv ∙ looked-over sp (a .r) (a .body) (a .from) (a .n) (a .v) _ _ (c .before .before .before .before .before .band-of .ensures) (c .before .before .before .before .column-centre .ensures) (c .before .before .before .loop .after) (c .before .before .before .loop .noted) (sym (c .before .before .next-height .ensures) ∙ c .enum-told .given .1))
 
 look-requires : tie.Need-look-requires Inv-loop μ-loop
-look-requires c κs = search needs
+look-requires c κs = tt
 
 enum-known-level : tie.Need-enum-known-level Inv-loop μ-loop
 enum-known-level c = search needs

@@ -40,11 +40,10 @@ same-length c = search needs
 returns-2 : tie.Need-returns-2
 unfolding answerWritten
 returns-2 c =
-    let a = c .before .before .before .before .before .before .before .before .before .before .before .before .before .before .before .before .before .before .before .before .before .args in
-    (
+    let a = c .before .before .before .before .before .before .before .before .before .before .before .before .before .before .before .before .before .before .before .before .before .args in (
       c .before .before .before .before .before .before .before .before .before .before .before .before .before .before .before .before .before .before .before .outcome-number .ensures,
       rw (le-leb _ _ (c .before .before .before .before .before .before .before .before .before .before .before .before .before .before .before .before .before .before .if1 .left))
-      (c .before .before .put-u644 .ensures ∙ ap (λ (t : List ℕ). withField 8 t 24 (a .a .closed)) (((rw (c .before .before .before .before .before .before .before .wide2 .ensures) at (c .before .before .before .before .before .before .put-u643 .ensures)) ∙ ap (λ (t : List ℕ). withField 8 t 16 (a .a .retained)) (((rw (c .before .before .before .before .before .before .before .before .before .before .before .before .wide .ensures) at (c .before .before .before .before .before .before .before .before .before .before .before .put-u642 .ensures)) ∙ ap (λ (t : List ℕ). withField 8 t 8 (a .a .count)) ((rw (c .before .before .before .before .before .before .before .before .before .before .before .before .before .before .before .before .before .before .before .outcome-number .ensures) at (c .before .before .before .before .before .before .before .before .before .before .before .before .before .before .before .before .put-u64 .ensures)))))))),
+          (c .before .before .put-u644 .ensures ∙ ap (λ (t : List ℕ). withField 8 t 24 (a .a .closed)) (((rw (c .before .before .before .before .before .before .before .wide2 .ensures) at (c .before .before .before .before .before .before .put-u643 .ensures)) ∙ ap (λ (t : List ℕ). withField 8 t 16 (a .a .retained)) (((rw (c .before .before .before .before .before .before .before .before .before .before .before .before .wide .ensures) at (c .before .before .before .before .before .before .before .before .before .before .before .put-u642 .ensures)) ∙ ap (λ (t : List ℕ). withField 8 t 8 (a .a .count)) ((rw (c .before .before .before .before .before .before .before .before .before .before .before .before .before .before .before .before .before .before .before .outcome-number .ensures) at (c .before .before .before .before .before .before .before .before .before .before .before .before .before .before .before .before .put-u64 .ensures)))))))),
     )
 
 pub put-answer-spec : {M : Type 1} → statement M

@@ -58,8 +58,7 @@ returns c =
       ← c .before .before .before .before .before .before .before .before .before .before .before .before .before .before .before .before .before .before .before .point-at .ensures,
       ← c .before .before .before .before .before .before .before .before .before .before .before .before .before .before .before .before .before .before .point-at2 .ensures,
       ← c .before .before .before .before .before .before .before .before .before .before .before .before .before .before .before .before .before .body-in .ensures,
-    )
-    (
+    ) (
       p .0 ∙ ap pathNumber (r .0),
       (r .1 .0, (r .1 .1 .0, (r .1 .1 .1 .0, (r .1 .1 .1 .1, p .1 ∙ ap (λ (q : Path). pathWritten q (now (c .before .before .before .before .before .before .before .before .before .before .before .before .before .before .before .before .before .before .before .before .before .before .before .before .before .before .before .before .before .before .before .before .before .before .before .args .answer))) (r .0))))),
     )

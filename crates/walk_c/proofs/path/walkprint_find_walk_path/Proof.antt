@@ -39,8 +39,7 @@ returns : tie.Need-returns
 returns c =
     let r = c .before .before .before .before .before .before .before .before .before .before .find-walk-path .ensures in
     let p = c .before .before .put-answer .ensures in
-    rw (← c .before .before .before .before .before .before .before .before .before .before .before .before .before .before .before .before .window-in .ensures, ← c .before .before .before .before .before .before .before .before .before .before .before .before .before .before .before .request-in .ensures, ← c .before .before .before .before .before .before .before .before .before .before .before .before .before .before .body-in .ensures)
-    (
+    rw (← c .before .before .before .before .before .before .before .before .before .before .before .before .before .before .before .before .window-in .ensures, ← c .before .before .before .before .before .before .before .before .before .before .before .before .before .before .before .request-in .ensures, ← c .before .before .before .before .before .before .before .before .before .before .before .before .before .before .body-in .ensures) (
       p .0 ∙ ap (λ (a : Answer). outcomeNumber (a .outcome)) (r .0),
       (r .1 .0, (r .1 .1 .0, (r .1 .1 .1, p .1 ∙ ap (λ (a : Answer). answerWritten a (now (c .before .before .before .before .before .before .before .before .before .before .before .before .before .before .before .before .before .before .before .before .before .before .before .before .before .before .before .before .args .answer))) (r .0)))),
     )

@@ -32,8 +32,7 @@ same-length-5 c = search needs
 returns : tie.Need-returns
 returns c =
     let r = c .before .before .before .before .before .before .before .before .before .before .before .before .read-scene .ensures in
-    let p = c .before .before .put-answer .ensures in
-    (
+    let p = c .before .before .put-answer .ensures in (
       p .0 ∙ ap sceneNumber (r .0),
       (r .1 .0, (r .1 .1 .0, (r .1 .1 .1 .0, (r .1 .1 .1 .1, p .1 ∙ ap (λ (a : Answer Scene). sceneWritten a (now (c .before .before .before .before .before .before .before .before .before .before .before .before .before .before .before .before .before .before .before .before .before .before .before .args .made))) (r .0))))),
     )

@@ -18,7 +18,7 @@ here c =
     simp (toZ-ofZ, f, g, h) at (c .record-of .ensures)
 
 record-of-requires : tie.Need-record-of-requires
-record-of-requires c κs = search needs
+record-of-requires c κs = tt
 
 enum-known-i : tie.Need-enum-known-i
 enum-known-i c = search needs
@@ -31,7 +31,7 @@ unfolding cellAt cellIn
 returns c = rw (sym (here (c .before .before)) ∙ c .enum-told .given .1)
 
 entry-at-requires : tie.Need-entry-at-requires
-entry-at-requires c κs = search needs
+entry-at-requires c κs = tt
 
 enum-known-state : tie.Need-enum-known-state
 enum-known-state c = search needs
@@ -44,7 +44,7 @@ unfolding cellAt cellIn
 returns-2 c = rw (sym (here (c .before .before .before .before .before .before)) ∙ c .before .before .before .before .i .given .1, sym (c .before .before .entry-at .ensures) ∙ c .enum-told2 .given .1)
 
 known-cell-requires : tie.Need-known-cell-requires
-known-cell-requires c κs = search needs
+known-cell-requires c κs = tt
 
 returns-3 : tie.Need-returns-3
 unfolding cellAt cellIn

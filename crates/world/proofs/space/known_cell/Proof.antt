@@ -9,7 +9,7 @@ returns : tie.Need-returns
 returns c = sym (no-state _ _ _ _ (c .if1 .taken))
 
 entry-at-requires : tie.Need-entry-at-requires
-entry-at-requires c κs = search needs
+entry-at-requires c κs = tt
 
 enum-known-first : tie.Need-enum-known-first
 enum-known-first c = search needs
@@ -24,7 +24,7 @@ shared-slice-read-of-parts : tie.Need-shared-slice-read-of-parts
 shared-slice-read-of-parts c = search needs
 
 of-parts-requires : tie.Need-of-parts-requires
-of-parts-requires c κs = search needs
+of-parts-requires c κs = tt
 
 returns-3 : tie.Need-returns-3
 returns-3 c = rw (by-shape _ _ _ _ (c .before .before .before .before .before .before .if1 .left), sym (c .before .before .before .before .before .entry-at .ensures) ∙ c .before .before .before .first .given .1) (c .of-parts .ensures)

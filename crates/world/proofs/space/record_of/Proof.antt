@@ -31,7 +31,7 @@ third c =
     simp (toZ-ofZ, f, g) at (c .along3 .ensures)
 
 along-requires : tie.Need-along-requires
-along-requires c κs = search needs
+along-requires c κs = tt
 
 enum-known-i : tie.Need-enum-known-i
 enum-known-i c = search needs
@@ -44,7 +44,7 @@ unfolding recordOf
 returns c = rw (sym (first (c .before .before)) ∙ c .enum-told .given .1)
 
 along-requires-2 : tie.Need-along-requires-2
-along-requires-2 c κs = search needs
+along-requires-2 c κs = tt
 
 enum-known-j : tie.Need-enum-known-j
 enum-known-j c = search needs
@@ -57,7 +57,7 @@ unfolding recordOf
 returns-2 c = rw (sym (first (c .before .before .before .before .before .before .before)) ∙ c .before .before .before .before .before .i .given .1, sym (second (c .before .before)) ∙ c .enum-told2 .given .1)
 
 along-requires-3 : tie.Need-along-requires-3
-along-requires-3 c κs = search needs
+along-requires-3 c κs = tt
 
 enum-known-k : tie.Need-enum-known-k
 enum-known-k c = search needs

@@ -1,7 +1,6 @@
 -- `policy::policy::WalkPolicy::door_passage` meets its contract: the tests on the way to each return pick one row of the table. Assumes nothing.
 use mathlib.Core.Path.{_≡_, sym, _∙_}
 use mathlib.Core.Bool.{true, false}
-use borrow.Author.Needs.{needs}
 use borrow.Author.Tests.{not-true, not-false}
 use Rattle.policy.specs.Flags.{has, DOOR, IRON-DOOR, OPEN}
 use Rattle.policy.specs.Doors.{doorCase}
@@ -41,7 +40,7 @@ no-iron : (c : tie.Else7) → has IRON-DOOR (c .before .before .before .before .
 no-iron c = sym (c .before .is-iron-door .ensures) ∙ c .if7 .left
 
 is-door-requires : tie.Need-is-door-requires
-is-door-requires c κs = search needs
+is-door-requires c κs = tt
 
 returns : tie.Need-returns
 unfolding doorCase
@@ -64,14 +63,14 @@ unfolding doorCase
 returns-5 c = rw (door (c .before .before .before .before), breaker (c .before .before), no-pass c)
 
 is-open-requires : tie.Need-is-open-requires
-is-open-requires c κs = search needs
+is-open-requires c κs = tt
 
 returns-6 : tie.Need-returns-6
 unfolding doorCase
 returns-6 c = rw (door (c .before .before .before .before .before .before), breaker (c .before .before .before .before), pass (c .before .before), ajar c)
 
 is-iron-door-requires : tie.Need-is-iron-door-requires
-is-iron-door-requires c κs = search needs
+is-iron-door-requires c κs = tt
 
 returns-7 : tie.Need-returns-7
 unfolding doorCase

@@ -3,7 +3,6 @@ use mathlib.Core.Path.{_≡_, refl, sym, ap, _∙_}
 use mathlib.Core.List.{map, _++_}
 use Prim.Native.Nat.{_≤_, _-_}
 use native.Mathlib.Omega.{arith}
-use borrow.Author.Needs.{needs}
 use borrow.Author.Tests.{eq-eqb, ne-eqb}
 use denote.Ref.{now}
 use lib.ListN.{length, take, drop, length-set}
@@ -29,7 +28,7 @@ shared-slice-read-bits : tie.Need-shared-slice-read-bits Inv-loop μ-loop
 shared-slice-read-bits c = omega arith
 
 permission-requires : tie.Need-permission-requires Inv-loop μ-loop
-permission-requires c κs = search needs
+permission-requires c κs = tt
 
 slice-write-permissions : tie.Need-slice-write-permissions Inv-loop μ-loop
 slice-write-permissions c = omega arith

@@ -1,14 +1,13 @@
 -- `policy::policy::WalkPolicy::forbids` meets its contract. Assumes nothing.
 use Rattle.policy.specs.Permission.{forbidden}
-use borrow.Author.Needs.{needs}
 use Rattle.policy.proofs.policy.WalkPolicy.forbids.Statement.{statement}
 use Rattle.policy.proofs.policy.WalkPolicy.forbids.Tie as tie
 
 is-water-requires : tie.Need-is-water-requires
-is-water-requires c κs = search needs
+is-water-requires c κs = tt
 
 is-damaging-requires : tie.Need-is-damaging-requires
-is-damaging-requires c κs = search needs
+is-damaging-requires c κs = tt
 
 returns : tie.Need-returns
 unfolding forbidden

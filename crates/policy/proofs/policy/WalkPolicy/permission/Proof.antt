@@ -15,10 +15,10 @@ made : (c : tie.After-door-passage) (passage : Passage) (bad : Bool) → c .door
 made c passage bad e h = byte _ _ _ _ _ (sym (c .door-passage .ensures) ∙ ap passageNumber e) (sym (c .before .forbids .ensures) ∙ h)
 
 forbids-requires : tie.Need-forbids-requires
-forbids-requires c κs = search needs
+forbids-requires c κs = tt
 
 door-passage-requires : tie.Need-door-passage-requires
-door-passage-requires c κs = search needs
+door-passage-requires c κs = tt
 
 enum-told : tie.Need-enum-told
 enum-told c = search needs

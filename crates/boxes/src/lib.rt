@@ -1,0 +1,146 @@
+// What is done with points and boxes (01, "Boxes"): a box is two corners of three numbers each. One rounding per operation, in the source's order.
+// The types and the definitions are `world`'s, whose space is made of boxes.
+ghost use mathlib.Core.Path.{_≡_};
+ghost use Rattle.world.specs.Boxes.{meets, corner, plus, minus, moved, cube, voxel, fromFeet, minZero, maxZero, expandTowards};
+use world::Aabb;
+use world::Point;
+
+// Whether two boxes share room, strictly on every axis.
+pub fn intersects(a: Aabb, b: Aabb) -> bool
+    ensures { λ r. ⌜ r ≡ meets a b ⌝ }
+{
+    (a.min.x < b.max.x)
+        & (b.min.x < a.max.x)
+        & (a.min.y < b.max.y)
+        & (b.min.y < a.max.y)
+        & (a.min.z < b.max.z)
+        & (b.min.z < a.max.z)
+}
+
+// A cell's least corner.
+pub fn corner_of(x: i64, y: i64, z: i64) -> Point
+    ensures { λ r. ⌜ r ≡ corner x y z ⌝ }
+{
+    Point {
+        x: cells::float_cell(x),
+        y: cells::float_cell(y),
+        z: cells::float_cell(z),
+    }
+}
+
+// The sum of two points, axis by axis.
+pub fn sum(p: Point, q: Point) -> Point
+    ensures { λ r. ⌜ r ≡ plus p q ⌝ }
+{
+    Point {
+        x: p.x + q.x,
+        y: p.y + q.y,
+        z: p.z + q.z,
+    }
+}
+
+// p - q, axis by axis.
+pub fn difference(p: Point, q: Point) -> Point
+    ensures { λ r. ⌜ r ≡ minus p q ⌝ }
+{
+    Point {
+        x: p.x - q.x,
+        y: p.y - q.y,
+        z: p.z - q.z,
+    }
+}
+
+// A box moved by a point.
+pub fn offset(b: Aabb, by: Point) -> Aabb
+    ensures { λ r. ⌜ r ≡ moved b by ⌝ }
+{
+    Aabb {
+        min: sum(b.min, by),
+        max: sum(b.max, by),
+    }
+}
+
+// The full unit cube of an unknown cell, before it is moved to the cell.
+pub fn unit() -> Aabb
+    ensures { λ r. ⌜ r ≡ cube ⌝ }
+{
+    Aabb {
+        min: Point {
+            x: 0.0,
+            y: 0.0,
+            z: 0.0,
+        },
+        max: Point {
+            x: 1.0,
+            y: 1.0,
+            z: 1.0,
+        },
+    }
+}
+
+// A cell's own cube, of its least corner.
+pub fn voxel_at(p: Point) -> Aabb
+    ensures { λ r. ⌜ r ≡ voxel p ⌝ }
+{
+    Aabb {
+        min: p,
+        max: sum(
+            p,
+            Point {
+                x: 1.0,
+                y: 1.0,
+                z: 1.0,
+            },
+        ),
+    }
+}
+
+// The box of a body that stands with its feet at a point.
+pub fn from_feet(feet: Point, width: f64, height: f64) -> Aabb
+    ensures { λ r. ⌜ r ≡ fromFeet feet width height ⌝ }
+{
+    let half = width / 2.0;
+    Aabb {
+        min: Point {
+            x: feet.x - half,
+            y: feet.y,
+            z: feet.z - half,
+        },
+        max: Point {
+            x: feet.x + half,
+            y: feet.y + height,
+            z: feet.z + half,
+        },
+    }
+}
+
+// Of each coordinate the smaller of it and 0, and below the larger.
+fn min_zero(p: Point) -> Point
+    ensures { λ r. ⌜ r ≡ minZero p ⌝ }
+{
+    Point {
+        x: floats::min(p.x, 0.0),
+        y: floats::min(p.y, 0.0),
+        z: floats::min(p.z, 0.0),
+    }
+}
+
+fn max_zero(p: Point) -> Point
+    ensures { λ r. ⌜ r ≡ maxZero p ⌝ }
+{
+    Point {
+        x: floats::max(p.x, 0.0),
+        y: floats::max(p.y, 0.0),
+        z: floats::max(p.z, 0.0),
+    }
+}
+
+// A box grown on the sides that a difference points to.
+pub fn expand_towards(b: Aabb, delta: Point) -> Aabb
+    ensures { λ r. ⌜ r ≡ expandTowards b delta ⌝ }
+{
+    Aabb {
+        min: sum(b.min, min_zero(delta)),
+        max: sum(b.max, max_zero(delta)),
+    }
+}

@@ -1,0 +1,65 @@
+-- `lengths::length_of` meets its contract. Assumes nothing.
+use borrow.Author.Needs.{needs}
+use Prim.Native.Nat.{_-_, _/_}
+use mathlib.Core.Path.{_≡_, refl, sym, _∙_}
+use denote.Ref.{now}
+use native.Mathlib.Omega.{arith}
+use lib.ListN.{length}
+use Rattle.lengths.specs.Length.{onward, feetFrom, lengthOf}
+use Rattle.lengths.specs.LengthLaws.{starts, goes-on, ends}
+use Rattle.lengths.proofs.length_of.Statement.{statement}
+use Rattle.lengths.proofs.length_of.Tie as tie
+
+abbrev Inv-loop : tie.InvT-loop
+Inv-loop list n total₀ from₀ k₀ total from k = (lengthOf list ≡ onward total from (feetFrom list k (n - k))) × (n ≡ length list / 40)
+
+abbrev μ-loop : tie.MeasureT-loop
+μ-loop list n total₀ from₀ k₀ total from k = n - k
+
+feet-at-requires : tie.Need-feet-at-requires Inv-loop μ-loop
+feet-at-requires c κs = omega arith
+
+loop-holds : tie.Need-loop-holds Inv-loop μ-loop
+loop-holds c = (rw (c .feet-at .ensures) (starts (now (c .before .before .args .list))), refl)
+
+feet-at-requires-2 : tie.Need-feet-at-requires-2 Inv-loop μ-loop
+feet-at-requires-2 c κs = omega arith
+
+apart-requires : tie.Need-apart-requires Inv-loop μ-loop
+apart-requires c κs = tt
+
+add-k : tie.Need-add-k Inv-loop μ-loop
+add-k c = record { fits = omega arith }
+
+loop-less : tie.Need-loop-less Inv-loop μ-loop
+loop-less c = search needs
+
+loop-again : tie.Need-loop-again Inv-loop μ-loop
+loop-again c =
+    let at-loop = c .before .before .before in
+    let list = now (at-loop .before .before .before .args .list) in (
+      rw (c .apart .ensures, c .before .feet-at2 .ensures)
+          (at-loop .loop .inv .0 ∙ goes-on list (length list / 40) (at-loop .loop .k) (at-loop .loop .total) (at-loop .loop .from) (c .before .before .loop-test .taken)),
+      refl,
+    )
+
+returns : tie.Need-returns Inv-loop μ-loop
+returns c =
+    let at-loop = c .before in
+    let list = now (at-loop .before .before .before .args .list) in
+    sym (at-loop .loop .inv .0 ∙ ends list (length list / 40) (at-loop .loop .k) (at-loop .loop .total) (at-loop .loop .from) (c .loop-test .left))
+
+pub length-of-spec : {M : Type 1} → statement M
+length-of-spec =
+    tie.close
+    (tie.spec
+    Inv-loop
+    μ-loop
+    feet-at-requires
+    loop-holds
+    feet-at-requires-2
+    apart-requires
+    add-k
+    loop-less
+    loop-again
+    returns)

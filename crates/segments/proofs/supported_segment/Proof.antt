@@ -1,0 +1,35 @@
+-- `segments::supported_segment` meets its contract. Assumes nothing.
+use native.Mathlib.Omega.{arith}
+use mathlib.Core.Path.{_∙_}
+use Rattle.cells.specs.RangeLaws.{less-none, floors-near, reached-near}
+use Rattle.support.specs.Support.{shapesUnder, supported}
+use Rattle.segments.proofs.supported_segment.Statement.{statement}
+use Rattle.segments.proofs.supported_segment.Tie as tie
+
+footprint-requires : tie.Need-footprint-requires
+footprint-requires c κs = tt
+
+floors-requires : tie.Need-floors-requires
+floors-requires c κs = tt
+
+reached-requires : tie.Need-reached-requires
+reached-requires c κs = tt
+
+reached-requires-2 : tie.Need-reached-requires-2
+reached-requires-2 c κs = tt
+
+carries-requires : tie.Need-carries-requires
+carries-requires c κs = (
+  rw (c .before .before .floors .ensures) (floors-near _ _ 2 (omega arith)),
+  rw (c .before .reached .ensures) (reached-near _ _ 0 (omega arith)),
+  rw (c .reached2 .ensures) (reached-near _ _ 0 (omega arith)),
+)
+
+returns : tie.Need-returns
+unfolding supported shapesUnder
+returns c =
+    c .carries .ensures
+    ∙ rw (c .before .before .before .floors .ensures, c .before .before .reached .ensures, c .before .reached2 .ensures, c .before .before .before .before .footprint .ensures, less-none, less-none)
+
+pub supported-segment-spec : {M : Type 1} → statement M
+supported-segment-spec = tie.close (tie.spec footprint-requires floors-requires reached-requires reached-requires-2 carries-requires returns)

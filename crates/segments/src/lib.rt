@@ -1,0 +1,68 @@
+// Supported segments (01, The graph): whether what lies under the way from one point to another carries a body.
+//
+// There is no list to gather intervals in. So the shapes under the footprint are passed over as often as the part of the centre line that is covered
+// grows. The first pass sees every shape, and so any that refuses. `pass` has the loops over the cells; one shape, and the definitions, are the crate
+// `support`.
+mod pass;
+
+ghost use mathlib.Core.Path.{_≡_};
+ghost use Rattle.world.specs.Space.{space};
+ghost use Rattle.cells.specs.RangeLaws.{Near};
+ghost use Rattle.support.specs.Support.{allShapes, carried, supported};
+use cells::Range;
+use support::Reach;
+use support::Way;
+use world::Point;
+use world::Window;
+
+// Passes over the shapes under a way, as long as they cover more of it.
+fn carries(
+    w: Window,
+    cells: &[u8],
+    perms: &[u8],
+    shapes: &[u8],
+    boxes: &[u8],
+    way: Way,
+    ys: Range,
+    xs: Range,
+    zs: Range,
+) -> bool
+    requires { ⌜ Near ys × Near xs × Near zs ⌝ }
+    ensures { λ r. ⌜ r ≡ carried (way .under) (way .from) (way .to) (allShapes (space w (now (cells .entry)) (now (perms .entry)) (now (shapes .entry)) (now (boxes .entry))) ys xs zs) ⌝ }
+{
+    let mut covered = 0.0;
+    loop {
+        let reach = pass::reach_all(w, cells, perms, shapes, boxes, way, ys, xs, zs, covered);
+        let Reach::To(next) = reach else {
+            return false;
+        };
+        if 1.0 - floats::E <= next {
+            return true;
+        }
+        if !(covered < next) {
+            return false;
+        }
+        covered = next;
+    }
+}
+
+// Whether the way from one point to another is supported.
+pub fn supported_segment(
+    w: Window,
+    cells: &[u8],
+    perms: &[u8],
+    shapes: &[u8],
+    boxes: &[u8],
+    width: f64,
+    from: Point,
+    to: Point,
+) -> bool
+    ensures { λ r. ⌜ r ≡ supported (space w (now (cells .entry)) (now (perms .entry)) (now (shapes .entry)) (now (boxes .entry))) width from to ⌝ }
+{
+    let f = support::footprint(width, from, to);
+    let ys = cells::floors(f.min.y, f.max.y, 2);
+    let xs = cells::reached(f.min.x, f.max.x, 0);
+    let zs = cells::reached(f.min.z, f.max.z, 0);
+    let way = Way { from, to, under: f };
+    carries(w, cells, perms, shapes, boxes, way, ys, xs, zs)
+}

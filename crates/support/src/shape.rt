@@ -1,0 +1,70 @@
+// What one shape does to a way: the footprint that it must lie under, whether it counts, and how far it covers the centre line, of what is covered
+// so far. A shape that counts and is no support refuses the way.
+ghost use mathlib.Core.Path.{_≡_};
+ghost use Rattle.support.specs.Cover.{reachOne};
+ghost use Rattle.support.specs.Support.{footprint, counts};
+ghost use Rattle.support.specs.Pass.{step};
+use crate::Interval;
+use crate::Reach;
+use crate::Span;
+use crate::Way;
+use world::Aabb;
+use world::Point;
+
+// Both feet's span, widened by half the width.
+pub fn footprint(width: f64, from: Point, to: Point) -> Aabb
+    ensures { λ r. ⌜ r ≡ footprint width from to ⌝ }
+{
+    let half = width * 0.5;
+    Aabb {
+        min: Point {
+            x: floats::min(from.x, to.x) - half,
+            y: floats::min(from.y, to.y),
+            z: floats::min(from.z, to.z) - half,
+        },
+        max: Point {
+            x: floats::max(from.x, to.x) + half,
+            y: floats::max(from.y, to.y),
+            z: floats::max(from.z, to.z) + half,
+        },
+    }
+}
+
+// Whether a shape counts: its top is within E of the span, and it overlaps the footprint strictly.
+fn counts(f: Aabb, b: Aabb) -> bool
+    ensures { λ r. ⌜ r ≡ counts f b ⌝ }
+{
+    (f.min.y - floats::E <= b.max.y)
+        & (b.max.y <= f.max.y + floats::E)
+        & (b.min.x < f.max.x)
+        & (f.min.x < b.max.x)
+        & (b.min.z < f.max.z)
+        & (f.min.z < b.max.z)
+}
+
+// What one more interval makes of what is covered.
+fn reach_one(covered: f64, i: Interval) -> f64
+    ensures { λ r. ⌜ r ≡ reachOne covered i ⌝ }
+{
+    if i.begin <= covered + floats::E {
+        floats::max(i.end, covered)
+    } else {
+        covered
+    }
+}
+
+// What one more shape makes of a pass.
+pub fn reach_shape(way: Way, support: bool, b: Aabb, covered: f64) -> Reach
+    ensures { λ r. ⌜ r ≡ step way (Reach.To covered) (record { support = support; box = b }) ⌝ }
+{
+    if !counts(way.under, b) {
+        return Reach::To(covered);
+    }
+    if !support {
+        return Reach::Refused;
+    }
+    let Span::Over(i) = crate::line::support_interval(b, way.from, way.to) else {
+        return Reach::To(covered);
+    };
+    Reach::To(reach_one(covered, i))
+}

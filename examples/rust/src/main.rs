@@ -1,0 +1,42 @@
+//! A scene, from a Rust program: reads the scene file that it is given,
+//! searches a way, prints the route, and asks walk-back whether it is one.
+//! tools/test-examples builds and runs it on the flat scene.
+
+use std::error::Error;
+
+use walkprint::{Rooms, SCENE_TABLES, Tables, Waypoint};
+
+fn main() -> Result<(), Box<dyn Error>> {
+    let file = std::env::args().nth(1).ok_or("usage: flat SCENE")?;
+    let bytes = std::fs::read(file)?;
+
+    let [mut cells, mut permissions, mut shapes, mut boxes] = SCENE_TABLES.map(|n| vec![0; n]);
+    let scene = walkprint::read_scene(&bytes, &mut cells, &mut permissions, &mut shapes, &mut boxes)?;
+    let [a, b, c, d] = scene.in_use;
+    let tables = Tables {
+        window: scene.window,
+        cells: &cells[..a],
+        permissions: &permissions[..b],
+        shapes: &shapes[..c],
+        boxes: &boxes[..d],
+    };
+
+    let budget = usize::try_from(scene.request.node_budget)?;
+    let [mut nodes, mut front, mut out] = [56 * budget, 24 * budget, 40 * (budget + 1)].map(|n| vec![0; n]);
+    let mut rooms = Rooms { nodes: &mut nodes, front: &mut front, out: &mut out };
+    let answer = walkprint::find_walk_path(&tables, &scene.request, &scene.body, &mut rooms)?;
+
+    println!(
+        "{:?}: {} waypoints, {} nodes retained, {} closed",
+        answer.outcome, answer.count, answer.retained, answer.closed
+    );
+    for (i, w) in Waypoint::list(&out, answer.count).iter().enumerate() {
+        let movement = format!("{:?}", w.movement).to_lowercase();
+        println!("{i} {movement} {} {} {} lift {}", w.feet[0], w.feet[1], w.feet[2], w.lift);
+    }
+
+    let list = &out[..40 * answer.count];
+    let route = walkprint::walk_back(&tables, &scene.request, &scene.body, list)?;
+    println!("walk-back: {}", if route { "a route" } else { "no route" });
+    Ok(())
+}

@@ -1,0 +1,332 @@
+/*
+ * walkprint for C: a walking search for block worlds whose answers can be
+ * believed. Every function below is proved to meet its contract, which
+ * docs/CONTRACTS.md states (walk_c); this header says the same in words.
+ *
+ * Link target/staticlib/libwalk_c.a (`rt staticlib walk_c`; README.md, "From C
+ * and Rust").
+ *
+ * What a caller owes. A slice is a pointer and a length in bytes. The pointer
+ * is not NULL, also where the length is 0, and that many bytes behind it can be
+ * read, or written where it is not const. It need not be aligned. A slice that
+ * is not const shares no byte with any other slice of the same call. Nothing
+ * else is owed: every call answers for every content and every length, ends,
+ * keeps nothing, allocates nothing and writes only where its comment says.
+ *
+ * Records are little-endian and have no gaps. On a little-endian machine, which
+ * x86-64 and Arm are, they are the structs below, so `(const uint8_t *)&r` with
+ * `sizeof r` is a record. Where a record is shorter than its struct, each field
+ * that does not fit whole reads as 0; what stands behind it is not read. Of
+ * floats, every NaN pattern is the one NaN.
+ */
+#ifndef WALKPRINT_H
+#define WALKPRINT_H
+
+#include <stddef.h>
+#include <stdint.h>
+
+#ifdef __cplusplus
+extern "C" {
+#endif
+
+/* ---- Numbers given back --------------------------------------------------- */
+
+enum {
+  WALKPRINT_FOUND = 0,           /* the list is written */
+  WALKPRINT_UNREACHABLE = 1,     /* invalid request, bad endpoint, or no route exists, whatever the budget */
+  WALKPRINT_BUDGET_EXCEEDED = 2, /* budget 0, or the search ended after a new point was dropped */
+  WALKPRINT_BAD_WORLD = 3,       /* a size above 256, a table of a wrong length, or a shape or box off its rule */
+  WALKPRINT_TOO_LARGE = 4,       /* max_range > 64, width > 8, height > 16 or node_budget > 4,096 */
+  WALKPRINT_NO_ROOM = 5,         /* a room is too short */
+  WALKPRINT_ENDLESS_JUMP = 6,    /* 65,536 ticks don't bring the jump to rest */
+  WALKPRINT_BAD_SCENE = 7,       /* the first bad record, counted from 0 */
+  WALKPRINT_BAD_TABLE = 8,       /* flag and permission tables differ in length */
+  WALKPRINT_BAD_NUMBER = 9,      /* square root of a refused number */
+  WALKPRINT_YES = 10,            /* walk-back: the list is a route */
+  WALKPRINT_NO = 11              /* walk-back: it is none */
+};
+
+/* Kinds of movement, in waypoint records and as answers of walkprint_edge. */
+enum {
+  WALKPRINT_WALK = 0,
+  WALKPRINT_STEP = 1,
+  WALKPRINT_JUMP = 2,
+  WALKPRINT_DROP = 3,
+  WALKPRINT_NO_EDGE = 4 /* an answer only */
+};
+
+/* The parent of the start's node record. */
+#define WALKPRINT_NO_PARENT UINT32_C(4294967295)
+
+/* ---- Records -------------------------------------------------------------- */
+
+/* Where the cell table lies: its least cell, and how many cells it has each way, 0 to 256. 24 bytes. */
+typedef struct walkprint_window {
+  int32_t x, y, z;
+  uint32_t size_x, size_y, size_z;
+} walkprint_window;
+
+/* A cell: x runs fastest, then z, then y. A state without a permission byte, or a shape without a record, makes it unknown. 8 bytes. */
+typedef struct walkprint_cell {
+  uint32_t state, shape;
+} walkprint_cell;
+
+/* A permission is a byte a state: 1 occupied, 2 support, 4 collides; higher bits are not read. */
+enum {
+  WALKPRINT_OCCUPIED = 1,
+  WALKPRINT_SUPPORT = 2,
+  WALKPRINT_COLLIDES = 4
+};
+
+/* A shape: its first box and how many, at most 16. 8 bytes. */
+typedef struct walkprint_shape {
+  uint32_t first, count;
+} walkprint_shape;
+
+/* A box: finite numbers, min <= max, each from -16 to 16, measured from its cell's least corner. 48 bytes. */
+typedef struct walkprint_box {
+  double min_x, min_y, min_z, max_x, max_y, max_z;
+} walkprint_box;
+
+/* What a search is asked. 88 bytes. */
+typedef struct walkprint_request {
+  double start_x, start_y, start_z;
+  double goal_x, goal_y, goal_z;
+  double max_range, step_height, jump_height, max_drop;
+  uint64_t node_budget;
+} walkprint_request;
+
+/* What walks. 24 bytes. */
+typedef struct walkprint_body {
+  double width, height, step_height;
+} walkprint_body;
+
+/* A point of a list: its feet, how far the move to it lifts, and the kind of movement. 40 bytes. */
+typedef struct walkprint_waypoint {
+  double x, y, z, lift;
+  uint64_t movement;
+} walkprint_waypoint;
+
+/* A retained point of a search, in discovery order: its parent's number, and whether it was closed (1). 56 bytes. */
+typedef struct walkprint_node {
+  walkprint_waypoint waypoint;
+  double cost;
+  uint32_t parent, closed;
+} walkprint_node;
+
+/* A frontier record, for the node of the same number; all zero when it does not wait. 24 bytes. */
+typedef struct walkprint_front {
+  double estimate;
+  uint64_t order, waiting;
+} walkprint_front;
+
+/* The two ends of a mob's search, the first 48 bytes of a request. */
+typedef struct walkprint_ends {
+  double start_x, start_y, start_z;
+  double goal_x, goal_y, goal_z;
+} walkprint_ends;
+
+/* What a search answers: its outcome's number, the list's count, and the retained and closed nodes. 32 bytes. */
+typedef struct walkprint_answer {
+  uint64_t outcome, count, retained, closed;
+} walkprint_answer;
+
+/* What a scene says, and how many bytes of each table it made. 168 bytes. */
+typedef struct walkprint_scene {
+  walkprint_request request;
+  walkprint_body body;
+  walkprint_window window;
+  uint64_t cells, permissions, shapes, boxes;
+} walkprint_scene;
+
+/* The largest sizes that a scene's tables can have, in bytes, and the bytes of a scene record. */
+enum {
+  WALKPRINT_SCENE_CELLS = 32768,
+  WALKPRINT_SCENE_PERMISSIONS = 256,
+  WALKPRINT_SCENE_SHAPES = 2048,
+  WALKPRINT_SCENE_BOXES = 12288,
+  WALKPRINT_SCENE_RECORD = 64
+};
+
+/* ---- The search ----------------------------------------------------------- */
+
+/*
+ * A way from the request's start to its goal. Judged in this order: 3;
+ * an invalid request (1); 4; 5, where `nodes` has fewer than node_budget
+ * records of 56 bytes, `front` fewer than node_budget of 24, or `out` fewer
+ * than node_budget + 1 of 40; goal in range, start standable, goal standable
+ * (else 1); budget 0 (2); then the search, which answers 0, 1 or 2.
+ *
+ * Returns the outcome's number. Afterwards:
+ *   answer  outcome, count, retained and closed in its first 32 bytes; past
+ *           them its old bytes. Count is 0 unless 0 Found; retained and closed
+ *           are 0 where no search began. Shorter than 32 bytes: untouched.
+ *   out     on 0 the list, `count` waypoint records, then its old bytes; on 1
+ *           to 5 untouched.
+ *   nodes   untouched unless the search began; after it the retained nodes in
+ *           discovery order, then its old bytes.
+ *   front   untouched unless the search began; after it all zero.
+ */
+uint64_t walkprint_find_walk_path(
+    const uint8_t *window, size_t window_length,
+    const uint8_t *cells, size_t cells_length,
+    const uint8_t *permissions, size_t permissions_length,
+    const uint8_t *shapes, size_t shapes_length,
+    const uint8_t *boxes, size_t boxes_length,
+    const uint8_t *request, size_t request_length,
+    const uint8_t *body, size_t body_length,
+    uint8_t *nodes, size_t nodes_length,
+    uint8_t *front, size_t front_length,
+    uint8_t *out, size_t out_length,
+    uint8_t *answer, size_t answer_length);
+
+/* What is known of a block state, a bit a fact: the flag table has a byte a state, whose two highest bits are not read. */
+enum {
+  WALKPRINT_WATER = 1,
+  WALKPRINT_DAMAGING = 2,
+  WALKPRINT_GRASS = 4,
+  WALKPRINT_DOOR = 8,
+  WALKPRINT_IRON_DOOR = 16,
+  WALKPRINT_OPEN = 32
+};
+
+/* A mob's policy, a bit a wish, and whether its body is in water; higher bits are not read. */
+enum {
+  WALKPRINT_AVOID_WATER = 1,
+  WALKPRINT_AVOID_DAMAGE_BLOCKS = 2,
+  WALKPRINT_CAN_JUMP = 4,
+  WALKPRINT_CAN_PASS_DOORS = 8,
+  WALKPRINT_CAN_OPEN_DOORS = 16,
+  WALKPRINT_CAN_OPEN_IRON_DOORS = 32,
+  WALKPRINT_DOOR_BREAKER = 64,
+  WALKPRINT_IN_WATER = 128
+};
+
+/* The budget that a mob's search asks for: its rooms are sized by it. */
+enum { WALKPRINT_PATH_NODE_BUDGET = 2048 };
+
+/*
+ * A mob's search. It judges 8, fills the permission table by the flags of the
+ * states and the policy, then searches as walkprint_find_walk_path does, with
+ * range 16, budget 2,048, drop 3, the body's step, and jump_height, or 0 if the
+ * mob can't jump. Returns 8 or the outcome's number. Afterwards:
+ *   permissions
+ *           on 8 untouched; else filled, whatever the search answers.
+ *   answer, out, nodes, front
+ *           on 8 untouched; else as after walkprint_find_walk_path.
+ */
+uint64_t walkprint_find_path(
+    uint64_t policy, double jump_height,
+    const uint8_t *flags, size_t flags_length,
+    const uint8_t *window, size_t window_length,
+    const uint8_t *cells, size_t cells_length,
+    uint8_t *permissions, size_t permissions_length,
+    const uint8_t *shapes, size_t shapes_length,
+    const uint8_t *boxes, size_t boxes_length,
+    const uint8_t *ends, size_t ends_length,
+    const uint8_t *body, size_t body_length,
+    uint8_t *nodes, size_t nodes_length,
+    uint8_t *front, size_t front_length,
+    uint8_t *out, size_t out_length,
+    uint8_t *answer, size_t answer_length);
+
+/*
+ * Whether a list of waypoint records is a route of the request: 3; an invalid
+ * request (11); 4, the budget not read; then 10 exactly for a route. An empty
+ * list, a partial record or a movement above 3 is 11. Writes nothing.
+ */
+uint64_t walkprint_walk_back(
+    const uint8_t *window, size_t window_length,
+    const uint8_t *cells, size_t cells_length,
+    const uint8_t *permissions, size_t permissions_length,
+    const uint8_t *shapes, size_t shapes_length,
+    const uint8_t *boxes, size_t boxes_length,
+    const uint8_t *request, size_t request_length,
+    const uint8_t *body, size_t body_length,
+    const uint8_t *list, size_t list_length);
+
+/*
+ * The kind of movement of the edge from one point to another, or 4 where there
+ * is none. The request's start and max_range bound it; its budget is not read.
+ * The tables are not judged: a cell that they do not have is unknown. Writes
+ * nothing.
+ */
+uint64_t walkprint_edge(
+    const uint8_t *window, size_t window_length,
+    const uint8_t *cells, size_t cells_length,
+    const uint8_t *permissions, size_t permissions_length,
+    const uint8_t *shapes, size_t shapes_length,
+    const uint8_t *boxes, size_t boxes_length,
+    const uint8_t *request, size_t request_length,
+    const uint8_t *body, size_t body_length,
+    double from_x, double from_y, double from_z,
+    double to_x, double to_y, double to_z);
+
+/* ---- Scenes --------------------------------------------------------------- */
+
+/*
+ * Reads a whole scene: records of 64 bytes, the last one perhaps partial, which
+ * is bad. Returns 5 where a table's room is below its largest size
+ * (WALKPRINT_SCENE_CELLS and so on), 7 at the first bad or missing record, else
+ * 0. Afterwards:
+ *   cells, permissions, shapes, boxes
+ *           on 0 what the scene made, then their old bytes; on 7 what the
+ *           records before the bad one made, else their old bytes; on 5
+ *           untouched.
+ *   made    on 0 a walkprint_scene in its first 168 bytes; shorter: untouched.
+ *           On 7 the bad record's number, u64, in its first 8 bytes; shorter:
+ *           untouched. Past these its old bytes. On 5 untouched.
+ * To search the scene, hand on of each table the bytes that `made` says are in
+ * use.
+ */
+uint64_t walkprint_read_scene(
+    const uint8_t *bytes, size_t bytes_length,
+    uint8_t *cells, size_t cells_length,
+    uint8_t *permissions, size_t permissions_length,
+    uint8_t *shapes, size_t shapes_length,
+    uint8_t *boxes, size_t boxes_length,
+    uint8_t *made, size_t made_length);
+
+/* ---- Numbers -------------------------------------------------------------- */
+
+/*
+ * How many blocks a jump gains that starts with the velocity `power`. Returns
+ * 0, and the height, a double, is in the first 8 bytes of `height`, then its
+ * old bytes (shorter: untouched); or 6, and `height` is untouched.
+ */
+uint64_t walkprint_jump_apex(float power, double gravity, uint8_t *height, size_t height_length);
+
+/*
+ * The nearest double to the exact square root of x; both zeros keep their
+ * sign. Returns 0, and the root, a double, is in the first 8 bytes of `root`,
+ * then its old bytes (shorter: untouched); or 9 where x is negative, infinite
+ * or NaN, and `root` is untouched.
+ */
+uint64_t walkprint_root(double x, uint8_t *root, size_t root_length);
+
+/* The same root as a number: infinity of infinity, NaN where walkprint_root refuses any other. */
+double walkprint_square_root(double x);
+
+#ifdef __cplusplus
+}
+#define WALKPRINT_SIZE(type, bytes) static_assert(sizeof(type) == (bytes), #type)
+#else
+#define WALKPRINT_SIZE(type, bytes) _Static_assert(sizeof(type) == (bytes), #type)
+#endif
+
+/* The structs have no gaps. */
+WALKPRINT_SIZE(walkprint_window, 24);
+WALKPRINT_SIZE(walkprint_cell, 8);
+WALKPRINT_SIZE(walkprint_shape, 8);
+WALKPRINT_SIZE(walkprint_box, 48);
+WALKPRINT_SIZE(walkprint_request, 88);
+WALKPRINT_SIZE(walkprint_body, 24);
+WALKPRINT_SIZE(walkprint_waypoint, 40);
+WALKPRINT_SIZE(walkprint_node, 56);
+WALKPRINT_SIZE(walkprint_front, 24);
+WALKPRINT_SIZE(walkprint_ends, 48);
+WALKPRINT_SIZE(walkprint_answer, 32);
+WALKPRINT_SIZE(walkprint_scene, 168);
+#undef WALKPRINT_SIZE
+
+#endif
