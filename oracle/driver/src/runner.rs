@@ -85,10 +85,7 @@ fn part(numbers: &Numbers, thread: u64, check: Check, stop: &AtomicBool) -> (Cou
         if let Err(mismatch) = check(&makers, number, &mut counts) {
             stop.store(true, Ordering::Relaxed);
             let name = makers.maker(number).0;
-            println!(
-                "{number} ({name}): {}\n{}",
-                mismatch.what, mismatch.scene
-            );
+            println!("{number} ({name}): {}\n{}", mismatch.what, mismatch.scene);
             return (counts, 1);
         }
         number += numbers.threads;
