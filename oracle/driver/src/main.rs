@@ -18,6 +18,7 @@ mod differ;
 mod edits;
 mod expected;
 mod large;
+mod numbers;
 mod policy;
 mod proved;
 mod reader;
@@ -42,6 +43,7 @@ driver walkback FROM COUNT [THREADS]
 driver sweeps FROM COUNT [THREADS]
 driver read FROM COUNT [THREADS]
 driver policy FROM COUNT [THREADS]
+driver numbers FROM COUNT [THREADS]
 ";
 
 fn main() -> ExitCode {
@@ -74,6 +76,7 @@ fn command(arguments: &[String]) -> Result<bool, String> {
         "sweeps" => sweeps::one_scene,
         "read" => reader::one_scene,
         "policy" => policy::one_scene,
+        "numbers" => numbers::one_of_each,
         _ => return Err(USAGE.to_string()),
     };
     let numbers = Numbers {

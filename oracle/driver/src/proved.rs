@@ -94,6 +94,10 @@ unsafe extern "C" {
         made_length: usize,
     ) -> u64;
 
+    fn walkprint_jump_apex(power: f32, gravity: f64, height: *mut u8, height_length: usize) -> u64;
+
+    fn walkprint_root(x: f64, root: *mut u8, root_length: usize) -> u64;
+
     fn walkprint_square_root(x: f64) -> f64;
 }
 
@@ -246,6 +250,16 @@ pub fn read_scene(bytes: &[u8], tables: [&mut [u8]; 4], made: &mut [u8]) -> u64 
             made.len(),
         )
     }
+}
+
+pub fn jump_apex(power: f32, gravity: f64, height: &mut [u8]) -> u64 {
+    // The pointer stands with the length of its slice.
+    unsafe { walkprint_jump_apex(power, gravity, height.as_mut_ptr(), height.len()) }
+}
+
+pub fn root(x: f64, root: &mut [u8]) -> u64 {
+    // The pointer stands with the length of its slice.
+    unsafe { walkprint_root(x, root.as_mut_ptr(), root.len()) }
 }
 
 pub fn square_root(x: f64) -> f64 {

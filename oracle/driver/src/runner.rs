@@ -69,7 +69,7 @@ pub fn run(name: &str, numbers: &Numbers, check: Check) -> bool {
         mismatches += parted;
     }
     println!(
-        "{name}, scenes {} to {}: {counts}, {mismatches} mismatches",
+        "{name}, {} to {}: {counts}, {mismatches} mismatches",
         numbers.from,
         numbers.from + numbers.count - 1
     );
@@ -85,10 +85,7 @@ fn part(numbers: &Numbers, thread: u64, check: Check, stop: &AtomicBool) -> (Cou
         if let Err(mismatch) = check(&makers, number, &mut counts) {
             stop.store(true, Ordering::Relaxed);
             let name = makers.maker(number).0;
-            println!(
-                "scene {number} ({name}): {}\n{}",
-                mismatch.what, mismatch.scene
-            );
+            println!("{number} ({name}): {}\n{}", mismatch.what, mismatch.scene);
             return (counts, 1);
         }
         number += numbers.threads;
