@@ -42,20 +42,14 @@ fn step_to(
     requires { ⌜ Ready (now nodes) (now front) (aim .budget) 1 (c .counts) × (at .number < c .counts .retained) ⌝ }
     ensures { λ a. ⌜ Went aim at (ahead (edge (space w (now (cells .entry)) (now (perms .entry)) (now (shapes .entry)) (now (boxes .entry))) r body (at .point) to) []) c a (now (nodes .entry)) (now (front .entry)) (now (nodes .exit)) (now (front .exit)) ⌝ }
 {
-    let from = at.point;
-    let EdgeAnswer::To(way) = edges::edge(w, cells, perms, shapes, boxes, r, body, from, to) else {
+    let EdgeAnswer::To(way) = edges::edge(w, cells, perms, shapes, boxes, r, body, at.point, to) else {
         return c;
     };
-    let target = way.feet;
-    let feet = steps::feet_of(target);
+    let feet = steps::feet_of(way.feet);
     let label = steps::label_of(way);
-    let k = at.number;
-    let node = at.node;
-    let before = c.counts;
-    let counts = visits::visit(nodes, front, aim, k, node, before, feet, label);
-    let flat = steps::is_level(from, target);
-    let level = c.level | flat;
-    Column { counts, level }
+    let counts = visits::visit(nodes, front, aim, at.number, at.node, c.counts, feet, label);
+    let flat = steps::is_level(at.point, way.feet);
+    Column { counts, level: c.level | flat }
 }
 
 // Column n: its heights upwards.
@@ -120,11 +114,9 @@ fn around(
     if !looked {
         return c;
     }
-    let before = c.counts;
-    let gone = column(w, cells, perms, shapes, boxes, r, body, nodes, front, aim, at, n, before);
+    let gone = column(w, cells, perms, shapes, boxes, r, body, nodes, front, aim, at, n, c.counts);
     let counts = gone.counts;
-    let level = gone.level;
-    let answered = sides.answered(n, level);
+    let answered = sides.answered(n, gone.level);
     Around { counts, sides: answered }
 }
 

@@ -48,8 +48,7 @@ pub(crate) fn expand(
         return Turn::At(shut, k);
     }
     let point = steps::point_of(feet);
-    let last = edges::connector(w, cells, perms, shapes, boxes, r, body, point);
-    match last {
+    match edges::connector(w, cells, perms, shapes, boxes, r, body, point) {
         EdgeAnswer::To(way) => {
             let label = steps::label_of(way);
             Turn::By(shut, k, label)

@@ -15,9 +15,9 @@ returns c = looked-not (c .before .before .before .before .before .before .befor
 
 column-requires : tie.Need-column-requires
 column-requires c κs =
-    let a = c .before .before .before .before .before .before .before .before .before .before .before .before .args in
-    let z = looked-column (space (a .w) (now (a .cells)) (now (a .perms)) (now (a .shapes)) (now (a .boxes))) (a .r) (a .body) (a .at .point) (a .n) (a .c .sides) (c .before .before .before .before .before .before .before .before .before .before .before .before .pre .1) (sym (c .before .before .before .before .looked .ensures) ∙ not-false _ (c .before .before .before .if1 .left)) in
-    (rw z at (c .before .before .before .before .before .before .before .before .before .before .before .before .pre .0 .0), c .before .before .before .before .before .before .before .before .before .before .before .before .pre .0 .1)
+    let a = c .before .before .before .before .before .before .before .before .before .before .before .args in
+    let z = looked-column (space (a .w) (now (a .cells)) (now (a .perms)) (now (a .shapes)) (now (a .boxes))) (a .r) (a .body) (a .at .point) (a .n) (a .c .sides) (c .before .before .before .before .before .before .before .before .before .before .before .pre .1) (sym (c .before .before .before .looked .ensures) ∙ not-false _ (c .before .before .if1 .left)) in
+    (rw z at (c .before .before .before .before .before .before .before .before .before .before .before .pre .0 .0), c .before .before .before .before .before .before .before .before .before .before .before .pre .0 .1)
 
 answered-requires : tie.Need-answered-requires
 answered-requires c κs = tt
@@ -30,7 +30,7 @@ same-length-2 c = c .before .before .before .before .before .before .column .kep
 
 returns-2 : tie.Need-returns-2
 returns-2 c =
-    looked-on (c .before .before .before .before .before .before .before .before .before .before .before .before .before .before .before .before .before .before .before .args .n) (c .before .before .before .before .before .before .before .before .before .before .before .before .before .before .before .before .before .before .before .pre .1) (c .before .before .before .before .before .before .column .result) (c .answered .result) (sym (c .before .before .before .before .before .before .before .before .before .before .before .looked .ensures) ∙ not-false _ (c .before .before .before .before .before .before .before .before .before .before .if1 .left)) (c .answered .ensures) (c .before .before .before .before .before .before .column .ensures)
+    looked-on (c .before .before .before .before .before .before .before .before .before .before .before .before .before .before .before .before .before .before .args .n) (c .before .before .before .before .before .before .before .before .before .before .before .before .before .before .before .before .before .before .pre .1) (c .before .before .before .before .before .before .column .result) (c .answered .result) (sym (c .before .before .before .before .before .before .before .before .before .before .looked .ensures) ∙ not-false _ (c .before .before .before .before .before .before .before .before .before .if1 .left)) (c .answered .ensures) (c .before .before .before .before .before .before .column .ensures)
 
 pub around-spec : {M : Type 1} → statement M
 around-spec =

@@ -15,7 +15,7 @@ enum-told : tie.Need-enum-told
 enum-told c = search needs
 
 returns : tie.Need-returns
-returns c = went-nowhere _ (sym (c .enum-told .given .1) ∙ c .before .before .edge .ensures) (c .before .before .before .before .before .before .before .before .before .before .pre .0 .few)
+returns c = went-nowhere _ (sym (c .enum-told .given .1) ∙ c .before .before .edge .ensures) (c .before .before .before .before .before .before .before .before .before .pre .0 .few)
 
 feet-of-requires : tie.Need-feet-of-requires
 feet-of-requires c κs = tt
@@ -37,7 +37,7 @@ same-length-2 c = c .before .before .before .before .before .before .visit .kept
 
 returns-2 : tie.Need-returns-2
 returns-2 c =
-    went-to _ (c .before .before .before .before .before .before .before .before .before .before .before .before .before .before .before .way .given .0 .0) (c .before .before .before .before .before .before .before .before .before .before .before .before .feet-of .result) (c .before .before .before .before .before .before .before .before .before .before .before .label-of .result) (c .before .is-level .result) (sym (c .before .before .before .before .before .before .before .before .before .before .before .before .before .before .before .way .given .1) ∙ c .before .before .before .before .before .before .before .before .before .before .before .before .before .before .before .before .before .edge .ensures) (c .before .before .before .before .before .before .before .before .before .before .before .before .feet-of .ensures) (c .before .before .before .before .before .before .before .before .before .before .before .label-of .ensures) (c .before .is-level .ensures) (c .before .before .before .before .before .before .before .before .before .before .before .before .before .before .before .before .before .before .before .before .before .before .before .before .before .pre .0) (c .before .before .before .before .before .before .before .before .before .before .before .before .before .before .before .before .before .before .before .before .before .before .before .before .before .pre .1) (c .before .before .before .before .before .before .visit .ensures)
+    went-to _ (c .before .before .before .before .before .before .before .before .before .before .before .before .way .given .0 .0) (c .before .before .before .before .before .before .before .before .before .before .feet-of .result) (c .before .before .before .before .before .before .before .before .before .label-of .result) (c .before .is-level .result) (sym (c .before .before .before .before .before .before .before .before .before .before .before .before .way .given .1) ∙ c .before .before .before .before .before .before .before .before .before .before .before .before .before .before .edge .ensures) (c .before .before .before .before .before .before .before .before .before .before .feet-of .ensures) (c .before .before .before .before .before .before .before .before .before .label-of .ensures) (c .before .is-level .ensures) (c .before .before .before .before .before .before .before .before .before .before .before .before .before .before .before .before .before .before .before .before .before .pre .0) (c .before .before .before .before .before .before .before .before .before .before .before .before .before .before .before .before .before .before .before .before .before .pre .1) (c .before .before .before .before .before .before .visit .ensures)
 
 pub step-to-spec : {M : Type 1} → statement M
 step-to-spec =

@@ -55,8 +55,8 @@ point-of-requires c κs = tt
 connector-requires : tie.Need-connector-requires
 connector-requires c κs = tt
 
-enum-known-last : tie.Need-enum-known-last
-enum-known-last c = search needs
+enum-known-way : tie.Need-enum-known-way
+enum-known-way c = search needs
 
 label-of-requires : tie.Need-label-of-requires
 label-of-requires c κs = tt
@@ -82,8 +82,8 @@ returns-3 c =
     let n = c .before .before .before .before .before .before .before .before .before .before .before .before .before .before .before .before .close .ensures .node in
     let shut = is-closed (c .before .before .before .before .before .before .before .before .before .before .before .before .before .before .before .before .before .before .before .before .before .before .before .before .before .before .before .before .pre .0) (c .before .before .before .before .before .before .before .before .before .before .before .before .before .before .before .before .before .before .before .if1 .left) (c .before .before .before .before .before .before .before .before .before .before .before .before .before .before .before .before .close .ensures) in
     let i : samePoint (nodeAt (now (a .nodes)) k .feet) (a .aim .goal) ≡ false = rw (← n) (sym (c .before .before .before .before .before .before .before .same-point .ensures) ∙ c .before .before .before .before .before .before .if2 .left) in
-    let j : To (c .before .before .last .given .0 .0) ≡ connector (space (a .w) (now (a .cells)) (now (a .perms)) (now (a .shapes)) (now (a .boxes))) (a .r) (a .body) (pointOf (nodeAt (now (a .nodes)) k .feet)) = rw (← n, ← (c .before .before .before .before .before .point-of .ensures)) (sym (c .before .before .last .given .1) ∙ c .before .before .before .before .connector .ensures) in
-    turned-by (a .aim) (space (a .w) (now (a .cells)) (now (a .perms)) (now (a .shapes)) (now (a .boxes))) (a .r) (a .body) (a .c) (now (a .nodes)) (now (a .front)) (c .before .before .before .before .before .before .before .before .before .before .before .before .before .before .before .before .before .before .before .before .before .before .before .before .before .before .before .before .pre .1 .0) k (c .before .before .before .before .before .before .before .before .before .before .before .before .before .before .before .before .before .before .before .before .pick .ensures) (c .before .before .before .before .before .before .before .before .before .before .before .before .before .before .before .before .before .before .before .if1 .left) shut (c .label-of .result) (c .before .before .last .given .0 .0) i j (c .label-of .ensures)
+    let j : To (c .before .before .way .given .0 .0) ≡ connector (space (a .w) (now (a .cells)) (now (a .perms)) (now (a .shapes)) (now (a .boxes))) (a .r) (a .body) (pointOf (nodeAt (now (a .nodes)) k .feet)) = rw (← n, ← (c .before .before .before .before .before .point-of .ensures)) (sym (c .before .before .way .given .1) ∙ c .before .before .before .before .connector .ensures) in
+    turned-by (a .aim) (space (a .w) (now (a .cells)) (now (a .perms)) (now (a .shapes)) (now (a .boxes))) (a .r) (a .body) (a .c) (now (a .nodes)) (now (a .front)) (c .before .before .before .before .before .before .before .before .before .before .before .before .before .before .before .before .before .before .before .before .before .before .before .before .before .before .before .before .pre .1 .0) k (c .before .before .before .before .before .before .before .before .before .before .before .before .before .before .before .before .before .before .before .before .pick .ensures) (c .before .before .before .before .before .before .before .before .before .before .before .before .before .before .before .before .before .before .before .if1 .left) shut (c .label-of .result) (c .before .before .way .given .0 .0) i j (c .label-of .ensures)
 
 same-length-6 : tie.Need-same-length-6
 same-length-6 c = c .before .before .before .before .columns .kept .1 .1 .1 .1 .1 .1 .1 .0 ∙ c .before .before .before .before .before .before .before .before .before .before .before .before .before .before .before .before .before .before .before .before .before .close .kept .0
@@ -116,7 +116,7 @@ expand-spec =
     returns-2
     point-of-requires
     connector-requires
-    enum-known-last
+    enum-known-way
     label-of-requires
     enum-told
     columns-requires
