@@ -19,9 +19,11 @@ use Rattle.rooms.specs.declared.Feet.{Feet}
 use Rattle.rooms.specs.declared.Label.{Label}
 use Rattle.rooms.specs.Lists.{listBytes}
 use Rattle.rooms.specs.Waypoints.{samePoint}
-use Rattle.search.specs.declared.answers.Answer.{Answer}
-use Rattle.search.specs.declared.answers.Outcome.the-variants.{Found, Unreachable, BudgetExceeded}
-use Rattle.search.specs.FindWalkPath.{outcomeNumber, ended, withoutSearch, found, outAfter}
+use Rattle.outcomes.specs.declared.Answer.{Answer}
+use Rattle.outcomes.specs.declared.Outcome.the-variants.{Found, Unreachable, BudgetExceeded}
+use Rattle.outcomes.specs.Outcomes.{outcomeNumber}
+use Rattle.refusals.specs.Refusals.{withoutSearch}
+use Rattle.search.specs.FindWalkPath.{ended, found, outAfter}
 use Rattle.walk_back.specs.declared.Walked.the-variants.{Yes}
 use Rattle.walk_back.specs.WalkBack.{walked}
 use Rattle.claims.specs.Words.{withBudget, IsRoute, InF64}

@@ -11,7 +11,8 @@ use Rattle.world.specs.declared.Point.{Point}
 use Rattle.world.specs.declared.Body.{Body}
 use Rattle.world.specs.declared.Request.{Request}
 use Rattle.world.specs.declared.Window.{Window}
-use Rattle.search.specs.FindWalkPath.{outcomeNumber, found, nodesAfter, frontAfter, outAfter}
+use Rattle.outcomes.specs.Outcomes.{outcomeNumber}
+use Rattle.search.specs.FindWalkPath.{found, nodesAfter, frontAfter, outAfter}
 use Rattle.find_path.specs.declared.answers.Path.{Path}
 use Rattle.find_path.specs.declared.answers.Path.the-variants.{Searched, BadTable}
 

@@ -9,8 +9,9 @@ use Rattle.scene.specs.declared.state.Reading.{Reading}
 use Rattle.scene.specs.declared.state.Scene.{Scene}
 use Rattle.scene.specs.Scene.{cellsRead, permsRead, shapesRead, boxesRead}
 use Rattle.scene.specs.Answers.{Answer, given, refused, step, ended}
-use Rattle.search.specs.declared.answers.Answer as search
-use Rattle.search.specs.FindWalkPath.{outcomeNumber, found, nodesAfter, frontAfter, outAfter}
+use Rattle.outcomes.specs.declared.Answer as search
+use Rattle.outcomes.specs.Outcomes.{outcomeNumber}
+use Rattle.search.specs.FindWalkPath.{found, nodesAfter, frontAfter, outAfter}
 use Rattle.lengths.specs.Length.{lengthOf}
 use Rattle.report.specs.Lines.{firstLine, waypointLine}
 use Rattle.print.specs.declared.types.Progress.{Progress}

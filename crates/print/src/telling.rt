@@ -2,15 +2,15 @@
 ghost use mathlib.Core.Path.{_≡_};
 ghost use Prim.Native.Nat.{_*_};
 ghost use lib.ListN.{length, take};
-ghost use Rattle.search.specs.FindWalkPath.{outcomeNumber};
+ghost use Rattle.outcomes.specs.Outcomes.{outcomeNumber};
 ghost use Rattle.scene.specs.Answers.{given};
 ghost use Rattle.print.specs.Print.{refusal, toldOf, answered, nodesOf, frontOf, outOf, sceneOf, told};
 use crate::types::Progress;
 use crate::types::Told;
 use scene::Ended;
 use scene::Scene;
-use search::Answer;
-use search::Outcome;
+use outcomes::Answer;
+use outcomes::Outcome;
 
 fn refusal(number: u64, bad: u64) -> Told
     ensures { λ t. ⌜ t ≡ refusal number bad ⌝ }

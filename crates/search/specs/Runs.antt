@@ -12,8 +12,9 @@ use Rattle.rooms.specs.Rooms.{stateOf}
 use Rattle.visits.specs.declared.Aim.{Aim}
 use Rattle.visits.specs.Best.{best}
 use Rattle.visits.specs.Visits.{Kept, Near}
-use Rattle.search.specs.declared.Turn.{Turn}
-use Rattle.search.specs.Turns.{mostSteps, countsOf, after, Quiet}
+use Rattle.outcomes.specs.declared.Turn.{Turn}
+use Rattle.search.specs.Turns.{mostSteps, after, Quiet}
+use Rattle.outcomes.specs.Outcomes.{countsOf}
 
 -- n expansions, with what the last of them came to
 pub record Spun (aim : Aim) (sp : Space) (r : Request) (body : Body) (c : Counts) (n : ℕ) (t : Turn) (a f b g : List ℕ) : Type 0 where

@@ -18,8 +18,9 @@ use Rattle.rooms.specs.Rooms.{Note, nodesOf, stateOf}
 use Rattle.visits.specs.declared.Aim.{Aim}
 use Rattle.visits.specs.Best.{best}
 use Rattle.visits.specs.Visits.{Kept, Near}
-use Rattle.search.specs.declared.Turn.{Turn}
-use Rattle.search.specs.declared.Turn.the-variants.{Rest, Going, At, By}
+use Rattle.outcomes.specs.Outcomes.{countsOf}
+use Rattle.outcomes.specs.declared.Turn.{Turn}
+use Rattle.outcomes.specs.declared.Turn.the-variants.{Rest, Going, At, By}
 
 -- the most steps that one expansion has: nine columns of at most 256 cells with at most 16 boxes each
 abbrev pub mostSteps : ℕ
@@ -27,12 +28,6 @@ mostSteps = 36864
 
 abbrev pub Bounded : Space → Request → Body → Type 0
 Bounded sp r body = (p : Point) → length (stepsFrom sp r body p) ≤ mostSteps
-
-abbrev pub countsOf : Turn → Counts
-countsOf (Rest r) = r
-countsOf (Going r) = r
-countsOf (At r k) = r
-countsOf (By r k l) = r
 
 -- the state after an expansion: where it ended the search, with its list
 abbrev pub after : Aim → Turn → List ℕ → List ℕ → State Feet Label Note ℕ

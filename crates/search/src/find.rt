@@ -1,28 +1,13 @@
 // The public call (01, "Numbers given back": "Search order").
-use crate::answers::Answer;
-use crate::answers::Outcome;
 use crate::whole::search;
+use outcomes::Answer;
+use refusals::Judged;
 use world::Body;
 use world::Request;
 use world::Window;
 ghost use mathlib.Core.Path.{_≡_};
 ghost use lib.ListN.{length};
-ghost use Rattle.search.specs.FindWalkPath.{unsearched, noRoom, found, nodesAfter, frontAfter, outAfter};
-
-// An answer without a search.
-fn without_search(outcome: Outcome) -> Answer
-    ensures { λ a. ⌜ a ≡ unsearched outcome ⌝ }
-{
-    Answer { outcome, count: 0, retained: 0, closed: 0 }
-}
-
-// Whether rooms of so many bytes are too small for a budget.
-fn no_room(budget: u64, nodes: usize, front: usize, out: usize) -> bool
-    ensures { λ a. ⌜ a ≡ noRoom budget nodes front out ⌝ }
-{
-    let n = budget as usize;
-    (nodes / 56 < n) | (front / 24 < n) | (out / 40 <= n)
-}
+ghost use Rattle.search.specs.FindWalkPath.{found, nodesAfter, frontAfter, outAfter};
 
 // A way from the request's start to its goal, through the world of the tables: the list is written to `out`, `nodes` and `front` are the search's rooms.
 pub fn find_walk_path(
@@ -42,23 +27,8 @@ pub fn find_walk_path(
     ensures { λ _. ⌜ now (front .exit) ≡ frontAfter w (now (cells .entry)) (now (perms .entry)) (now (shapes .entry)) (now (boxes .entry)) r body (now (nodes .entry)) (now (front .entry)) (now (out .entry)) ⌝ }
     ensures { λ _. ⌜ now (out .exit) ≡ outAfter w (now (cells .entry)) (now (perms .entry)) (now (shapes .entry)) (now (boxes .entry)) r body (now (nodes .entry)) (now (front .entry)) (now (out .entry)) ⌝ }
 {
-    if tables::bad_world(w, cells, shapes, boxes) {
-        return without_search(Outcome::BadWorld);
+    match refusals::judge(w, cells, perms, shapes, boxes, r, body, nodes.len(), front.len(), out.len()) {
+        Judged::Refused(outcome) => outcomes::without_search(outcome),
+        Judged::Begins => search(w, cells, perms, shapes, boxes, r, body, nodes, front, out),
     }
-    if !request::valid_request(r, body) {
-        return without_search(Outcome::Unreachable);
-    }
-    if request::too_large(r, body) {
-        return without_search(Outcome::TooLarge);
-    }
-    if no_room(r.node_budget, nodes.len(), front.len(), out.len()) {
-        return without_search(Outcome::NoRoom);
-    }
-    if !ends::ends_good(w, cells, perms, shapes, boxes, r, body) {
-        return without_search(Outcome::Unreachable);
-    }
-    if r.node_budget == 0 {
-        return without_search(Outcome::BudgetExceeded);
-    }
-    search(w, cells, perms, shapes, boxes, r, body, nodes, front, out)
 }

@@ -1,20 +1,16 @@
 // The search (01, "Search"): one expansion of a node on the rooms, as the theory's run of 01's graph under 01's policy.
 //
 // `columns` goes through the columns around the node's point, in 01's order, and visits the steps of each, upwards. `turns` has the whole expansion: pick,
-// close, try the connector, then the columns. `runs` has so many expansions, `whole` a search from its start to its list, and `find` the public call with
-// its refusals; `answers` has what it answers.
-pub mod answers;
+// close, try the connector, then the columns. `runs` has so many expansions, `whole` a search from its start to its list, and `find` the public call. What
+// it answers is the crate `outcomes`, whether it begins `refusals`.
 pub(crate) mod columns;
 pub mod find;
 pub(crate) mod runs;
 pub(crate) mod turns;
 mod whole;
 
-pub use answers::Answer;
-pub use answers::Outcome;
 pub use find::find_walk_path;
 use rooms::Counts;
-use rooms::Label;
 use rooms::NodeRecord;
 use steps::Sides;
 use world::Point;
@@ -36,12 +32,4 @@ pub struct Column {
 pub struct Around {
     pub counts: Counts,
     pub sides: Sides,
-}
-
-// What one expansion comes to: nothing waits; the search goes on; the list ends at a node; or by a connector from there, with its label.
-pub enum Turn {
-    Rest(Counts),
-    Going(Counts),
-    At(Counts, usize),
-    By(Counts, usize, Label),
 }

@@ -1,6 +1,6 @@
 // So many expansions, or fewer where the search ends (01, "Search").
 use crate::turns::expand;
-use crate::Turn;
+use outcomes::Turn;
 use rooms::Counts;
 use visits::Aim;
 use world::Body;

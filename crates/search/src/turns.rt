@@ -1,8 +1,8 @@
 // One expansion (01, "Search": "Pop, close, try the connector (a start equal to the goal needs none: its list is the start alone), then the columns").
 use crate::columns::columns;
 use crate::Place;
-use crate::Turn;
 use edges::EdgeAnswer;
+use outcomes::Turn;
 use rooms::Counts;
 use visits::Aim;
 use world::Body;

@@ -1,8 +1,8 @@
 // Whether an answer, and what a call left in its rooms, are the stored ones.
 use crate::input;
 use crate::pattern;
-use search::Answer;
-use search::Outcome;
+use outcomes::Answer;
+use outcomes::Outcome;
 
 // The answer of the original: its number, the counts, and how many bytes the stored list and node records have, each and both.
 pub(crate) struct Stored {

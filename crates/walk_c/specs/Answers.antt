@@ -10,8 +10,8 @@ use Rattle.root.specs.Root.{Given, value, refusal}
 use Rattle.edges.specs.declared.answer.EdgeAnswer.{EdgeAnswer}
 use Rattle.edges.specs.declared.answer.EdgeAnswer.the-variants.{To, Nowhere}
 use Rattle.edges.specs.Edges.{movementNumber}
-use Rattle.search.specs.declared.answers.Answer.{Answer}
-use Rattle.search.specs.FindWalkPath.{outcomeNumber}
+use Rattle.outcomes.specs.declared.Answer.{Answer}
+use Rattle.outcomes.specs.Outcomes.{outcomeNumber}
 use Rattle.find_path.specs.declared.answers.Path.{Path}
 use Rattle.find_path.specs.declared.answers.Path.the-variants.{Searched, BadTable}
 

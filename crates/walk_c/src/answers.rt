@@ -1,9 +1,9 @@
 // What a search answers, as its number and as a record of 32 bytes.
 ghost use mathlib.Core.Path.{_≡_};
-ghost use Rattle.search.specs.FindWalkPath.{outcomeNumber};
+ghost use Rattle.outcomes.specs.Outcomes.{outcomeNumber};
 ghost use Rattle.walk_c.specs.Answers.{answerWritten};
-use search::Answer;
-use search::Outcome;
+use outcomes::Answer;
+use outcomes::Outcome;
 
 fn outcome_number(o: Outcome) -> u64
     ensures { λ r. ⌜ r ≡ outcomeNumber o ⌝ }

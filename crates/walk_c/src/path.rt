@@ -1,7 +1,8 @@
 // The search (01, "Numbers given back": "Search order").
 ghost use mathlib.Core.Path.{_≡_};
 ghost use lib.ListN.{length};
-ghost use Rattle.search.specs.FindWalkPath.{outcomeNumber, found, nodesAfter, frontAfter, outAfter};
+ghost use Rattle.outcomes.specs.Outcomes.{outcomeNumber};
+ghost use Rattle.search.specs.FindWalkPath.{found, nodesAfter, frontAfter, outAfter};
 ghost use Rattle.walk_c.specs.Records.{windowIn, requestIn, bodyIn};
 ghost use Rattle.walk_c.specs.Answers.{answerWritten};
 use crate::answers::put_answer;

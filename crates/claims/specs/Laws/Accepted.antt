@@ -11,8 +11,8 @@ use Rattle.steps.specs.Words.{pointOf}
 use Rattle.rooms.specs.declared.Feet.{Feet}
 use Rattle.rooms.specs.declared.Label.{Label}
 use Rattle.rooms.specs.Lists.{listBytes}
-use Rattle.search.specs.declared.answers.Outcome.the-variants.{Found}
-use Rattle.search.specs.declared.answers.Answer.{Answer}
+use Rattle.outcomes.specs.declared.Outcome.the-variants.{Found}
+use Rattle.outcomes.specs.declared.Answer.{Answer}
 use Rattle.search.specs.FindWalkPath.{outAfter}
 use Rattle.walk_back.specs.declared.Walked.the-variants.{Yes}
 use Rattle.walk_back.specs.WalkBack.{RouteList, walked}

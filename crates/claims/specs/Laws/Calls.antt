@@ -25,10 +25,12 @@ use Rattle.rooms.specs.declared.Feet.{Feet}
 use Rattle.rooms.specs.declared.Label.{Label}
 use Rattle.rooms.specs.Lists.{listBytes}
 use Rattle.rooms.specs.Waypoints.{samePoint}
-use Rattle.search.specs.declared.answers.Outcome.{Outcome}
-use Rattle.search.specs.declared.answers.Outcome.the-variants.{Found, Unreachable, BudgetExceeded, BadWorld, TooLarge, NoRoom}
-use Rattle.search.specs.declared.answers.Answer.{Answer}
-use Rattle.search.specs.FindWalkPath.{outcomeNumber, ended, endOf, toldBy, listIn, noRoom, withoutSearch, answerBy, found, outAfter}
+use Rattle.outcomes.specs.declared.Outcome.{Outcome}
+use Rattle.outcomes.specs.declared.Outcome.the-variants.{Found, Unreachable, BudgetExceeded, BadWorld, TooLarge, NoRoom}
+use Rattle.outcomes.specs.declared.Answer.{Answer}
+use Rattle.outcomes.specs.Outcomes.{outcomeNumber, toldBy, listIn}
+use Rattle.refusals.specs.Refusals.{noRoom, withoutSearch}
+use Rattle.search.specs.FindWalkPath.{ended, endOf, answerBy, found, outAfter}
 use Rattle.claims.specs.Words.{withBudget, IsRoute}
 use Rattle.claims.specs.Laws.Budget.{valid-budget, ends-budget}
 use Rattle.claims.specs.Laws.Order.{order, told, Began, on-found, on-unreachable, on-exceeded, found-stays, unreachable-stays}

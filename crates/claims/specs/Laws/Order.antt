@@ -5,9 +5,9 @@ use mathlib.Core.Path.{_≡_, refl}
 use mathlib.Core.Bool.{Bool, true, false, not, cond}
 use mathlib.Core.Option.{Option, none, some}
 use mathlib.Core.Logic.{_⊎_, inl, inr}
-use Rattle.search.specs.declared.answers.Outcome.{Outcome}
-use Rattle.search.specs.declared.answers.Outcome.the-variants.{Found, Unreachable, BudgetExceeded, BadWorld, TooLarge, NoRoom}
-use Rattle.search.specs.FindWalkPath.{outcomeNumber}
+use Rattle.outcomes.specs.declared.Outcome.{Outcome}
+use Rattle.outcomes.specs.declared.Outcome.the-variants.{Found, Unreachable, BudgetExceeded, BadWorld, TooLarge, NoRoom}
+use Rattle.outcomes.specs.Outcomes.{outcomeNumber}
 
 -- "Search order: 3; `valid_request` (else 1); 4; 5; goal in range, start standable, goal standable (else 1); budget 0 (2); search", of the tests' answers
 abbrev pub order : (bad valid large full ends nought : Bool) → Option Outcome

@@ -25,9 +25,10 @@ use Rattle.rooms.specs.Rooms.{Note}
 use Rattle.rooms.specs.Waypoints.{samePoint}
 use Rattle.visits.specs.Best.{best}
 use Rattle.visits.specs.Laws.Policy.{best-laws}
-use Rattle.search.specs.declared.answers.Outcome.{Outcome}
-use Rattle.search.specs.declared.answers.Outcome.the-variants.{Found, Unreachable, BudgetExceeded}
-use Rattle.search.specs.FindWalkPath.{ended, endOf, toldBy, listIn}
+use Rattle.outcomes.specs.declared.Outcome.{Outcome}
+use Rattle.outcomes.specs.declared.Outcome.the-variants.{Found, Unreachable, BudgetExceeded}
+use Rattle.outcomes.specs.Outcomes.{toldBy, listIn}
+use Rattle.search.specs.FindWalkPath.{ended, endOf}
 use Rattle.claims.specs.Words.{withBudget}
 use Rattle.claims.specs.Laws.Budget.{graph-budget}
 

@@ -1,133 +1,24 @@
--- The public call's ways out: what its tests so far settle, and what a search that begins may rely on.
-use mathlib.Core.Path.{_≡_, refl, _∙_}
-use mathlib.Core.Bool.{Bool, true, false, _||_}
-use mathlib.Core.Option.{Option, none, some}
+-- The public call: what each way out of `judge` answers and leaves.
+use mathlib.Core.Path.{_≡_, sym}
+use mathlib.Core.Option.{Option}
 use mathlib.Core.List.{List}
-use Prim.Native.Nat.{ℕ, _+_, _*_, _/_, _≤_, _<_}
-use native.Mathlib.Nat.{mul-comm, div-lt-iff-lt-mul, le-div-iff-mul-le}
-use native.Mathlib.Omega.{arith}
-use lib.Dec.{leb, ltb}
+use Prim.Native.Nat.{ℕ}
 use lib.ListN.{length}
-use borrow.Author.Tests.{ltb-true, ltb-false, lt-ltb, le-ltb, le-leb, lt-leb, eq-eqb, ne-eqb}
 use Rattle.world.specs.declared.Body.{Body}
 use Rattle.world.specs.declared.Request.{Request}
 use Rattle.world.specs.declared.Window.{Window}
-use Rattle.world.specs.Space.{space}
-use Rattle.tables.specs.BadWorld.{badWorld}
-use Rattle.request.specs.Request.{validRequest, sizesTooLarge, tooLarge}
-use Rattle.ends.specs.Ends.{endsGood}
-use Rattle.search.specs.declared.answers.Outcome.{Outcome}
-use Rattle.search.specs.declared.answers.Outcome.the-variants.{Unreachable, BudgetExceeded, BadWorld, TooLarge, NoRoom}
-use Rattle.search.specs.declared.answers.Answer.{Answer}
-use Rattle.search.specs.FindWalkPath.{noRoom, withoutSearch, answerBy, nodesBy, frontBy, outBy, found, nodesAfter, frontAfter, outAfter}
+use Rattle.outcomes.specs.declared.Outcome.{Outcome}
+use Rattle.outcomes.specs.declared.Answer.{Answer}
+use Rattle.refusals.specs.Refusals.{withoutSearch}
+use Rattle.search.specs.FindWalkPath.{answerBy, nodesBy, frontBy, outBy, found, nodesAfter, frontAfter, outAfter}
 
--- ---- rooms: the code divides, 01's numbers multiply
-
-or-false-left : (a b : Bool) → (a || b) ≡ false → a ≡ false
-or-false-left true b e = e
-or-false-left false b e = refl
-
-or-false-right : (a b : Bool) → (a || b) ≡ false → b ≡ false
-or-false-right true b e = absurd (let z : _≡_ {A = ℕ} 0 1 = cc in omega arith)
-or-false-right false b e = e
-
--- under n records of d bytes: as many whole records, or bytes
-few : (d n x : ℕ) → 0 < d → ltb (x / d) n ≡ ltb x (d * n)
-few d n x p = go (ltb x (d * n)) refl
-  where
-    go : (t : Bool) → ltb x (d * n) ≡ t → ltb (x / d) n ≡ t
-    go true e = lt-ltb (x / d) n (div-lt-iff-lt-mul {k = d} {x = x} {y = n} p .1 (rw (mul-comm n d) (ltb-true x (d * n) e)))
-    go false e = le-ltb (x / d) n (le-div-iff-mul-le {k = d} {x = n} {y = x} p .1 (rw (mul-comm n d) (ltb-false x (d * n) e)))
-
-le-as-lt : (x n : ℕ) → leb x n ≡ ltb x (n + 1)
-le-as-lt x n = go (ltb x (n + 1)) refl
-  where
-    go : (t : Bool) → ltb x (n + 1) ≡ t → leb x n ≡ t
-    go true e = le-leb x n (omega (arith, ltb-true x (n + 1) e))
-    go false e = lt-leb x n (omega (arith, ltb-false x (n + 1) e))
-
-pub room-divided : (n nodes front out : ℕ) → (ltb (nodes / 56) n || ltb (front / 24) n || leb (out / 40) n) ≡ noRoom n nodes front out
-unfolding noRoom
-room-divided n nodes front out =
-    rw (few 56 n nodes (omega arith), few 24 n front (omega arith), le-as-lt (out / 40) n ∙ few 40 (n + 1) out (omega arith))
-
-pub record Room (n nodes front out : ℕ) : Type 0 where
-  pub node-room : 56 * n ≤ nodes
-  pub front-room : 24 * n ≤ front
-  pub out-room : 40 * (n + 1) ≤ out
-
-pub has-room : (n nodes front out : ℕ) → noRoom n nodes front out ≡ false → Room n nodes front out
-unfolding noRoom
-has-room n nodes front out e =
-    let f = or-false-left (ltb nodes (56 * n) || ltb front (24 * n)) (ltb out (40 * (n + 1))) e in
-    record {
-      node-room = ltb-false nodes (56 * n) (or-false-left (ltb nodes (56 * n)) (ltb front (24 * n)) f);
-      front-room = ltb-false front (24 * n) (or-false-right (ltb nodes (56 * n)) (ltb front (24 * n)) f);
-      out-room = ltb-false out (40 * (n + 1)) (or-false-right (ltb nodes (56 * n) || ltb front (24 * n)) (ltb out (40 * (n + 1))) e) }
-
-pub small-budget : (r : Request) (body : Body) → tooLarge r body ≡ false → r .«node_budget» ≤ 4096
-unfolding tooLarge
-small-budget r body e = ltb-false 4096 (r .«node_budget») (or-false-right (sizesTooLarge r body) (ltb 4096 (r .«node_budget»)) e)
-
-module _ (w : Window) (cells perms shapes boxes : List ℕ) (r : Request) (body : Body) where
-  -- ---- the seven ways out, in 01's order, each under the tests so far
-
-  module _ (nodes front out : ℕ) where
-    abbrev bad : Bool
-    bad = badWorld w cells shapes boxes
-
-    abbrev valid : Bool
-    valid = validRequest r body
-
-    abbrev large : Bool
-    large = tooLarge r body
-
-    abbrev short : Bool
-    short = noRoom (r .«node_budget») nodes front out
-
-    abbrev good : Bool
-    good = endsGood (space w cells perms shapes boxes) r body
-
-    abbrev way : Option Outcome
-    way = withoutSearch w cells perms shapes boxes r body nodes front out
-
-    pub out-bad-world : bad ≡ true → way ≡ some BadWorld
-    unfolding withoutSearch
-    out-bad-world b = rw b
-
-    pub out-invalid : bad ≡ false → valid ≡ false → way ≡ some Unreachable
-    unfolding withoutSearch
-    out-invalid b v = rw (b, v)
-
-    pub out-too-large : bad ≡ false → valid ≡ true → large ≡ true → way ≡ some TooLarge
-    unfolding withoutSearch
-    out-too-large b v l = rw (b, v, l)
-
-    pub out-no-room : bad ≡ false → valid ≡ true → large ≡ false → short ≡ true → way ≡ some NoRoom
-    unfolding withoutSearch
-    out-no-room b v l s = rw (b, v, l, s)
-
-    pub out-bad-end : bad ≡ false → valid ≡ true → large ≡ false → short ≡ false → good ≡ false → way ≡ some Unreachable
-    unfolding withoutSearch
-    out-bad-end b v l s g = rw (b, v, l, s, g)
-
-    pub out-budget : bad ≡ false → valid ≡ true → large ≡ false → short ≡ false → good ≡ true → r .«node_budget» ≡ 0 → way ≡ some BudgetExceeded
-    unfolding withoutSearch
-    out-budget b v l s g z = rw (b, v, l, s, g, eq-eqb (r .«node_budget») 0 z)
-
-    pub out-search : bad ≡ false → valid ≡ true → large ≡ false → short ≡ false → good ≡ true → (r .«node_budget» ≡ 0 → ⊥) → way ≡ none
-    unfolding withoutSearch
-    out-search b v l s g z = rw (b, v, l, s, g, ne-eqb (r .«node_budget») 0 z)
-
-  -- ---- what each way out answers and leaves
-
-  module _ (nodes front out : List ℕ) {a : Answer} {b g x : List ℕ} where
-    pub leaves : (way : Option Outcome) → withoutSearch w cells perms shapes boxes r body (length nodes) (length front) (length out) ≡ way →
-        a ≡ answerBy w cells perms shapes boxes r body way → b ≡ nodesBy w cells perms shapes boxes r body way nodes →
-        g ≡ frontBy w cells perms shapes boxes r body way front → x ≡ outBy w cells perms shapes boxes r body way out →
-        (a ≡ found w cells perms shapes boxes r body (length nodes) (length front) (length out)) ×
-        ((b ≡ nodesAfter w cells perms shapes boxes r body nodes front out) ×
-        ((g ≡ frontAfter w cells perms shapes boxes r body nodes front out) ×
-        (x ≡ outAfter w cells perms shapes boxes r body nodes front out)))
-    unfolding found nodesAfter frontAfter outAfter
-    leaves way e i j k l = rw e (i, (j, (k, l)))
+module _ (w : Window) (cells perms shapes boxes : List ℕ) (r : Request) (body : Body) (nodes front out : List ℕ) {a : Answer} {b g x : List ℕ} where
+  pub leaves : (way : Option Outcome) → way ≡ withoutSearch w cells perms shapes boxes r body (length nodes) (length front) (length out) →
+      a ≡ answerBy w cells perms shapes boxes r body way → b ≡ nodesBy w cells perms shapes boxes r body way nodes →
+      g ≡ frontBy w cells perms shapes boxes r body way front → x ≡ outBy w cells perms shapes boxes r body way out →
+      (a ≡ found w cells perms shapes boxes r body (length nodes) (length front) (length out)) ×
+      ((b ≡ nodesAfter w cells perms shapes boxes r body nodes front out) ×
+      ((g ≡ frontAfter w cells perms shapes boxes r body nodes front out) ×
+      (x ≡ outAfter w cells perms shapes boxes r body nodes front out)))
+  unfolding found nodesAfter frontAfter outAfter
+  leaves way e i j k l = rw (sym e) (i, (j, (k, l)))

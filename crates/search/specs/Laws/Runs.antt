@@ -19,8 +19,8 @@ use Rattle.rooms.specs.Rooms.{Note, stateOf}
 use Rattle.visits.specs.declared.Aim.{Aim}
 use Rattle.visits.specs.Best.{best}
 use Rattle.visits.specs.Laws.Visits.{kept-none, kept-trans, near-none, near-trans, near-le}
-use Rattle.search.specs.declared.Turn.{Turn}
-use Rattle.search.specs.declared.Turn.the-variants.{Rest, Going, At, By}
+use Rattle.outcomes.specs.declared.Turn.{Turn}
+use Rattle.outcomes.specs.declared.Turn.the-variants.{Rest, Going, At, By}
 use Rattle.search.specs.Turns.{mostSteps, after, Quiet, Turned}
 use Rattle.search.specs.Runs.{Spun}
 

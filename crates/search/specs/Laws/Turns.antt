@@ -33,8 +33,8 @@ use Rattle.visits.specs.Best.{best}
 use Rattle.visits.specs.declared.Closing.{Closing}
 use Rattle.visits.specs.Visits.{Ready, Kept, Near, Closed, ClosedIf}
 use Rattle.visits.specs.Laws.Visits.{kept-none, kept-trans, near-none, near-trans, near-le, is-ready}
-use Rattle.search.specs.declared.Turn.{Turn}
-use Rattle.search.specs.declared.Turn.the-variants.{Rest, Going, At, By}
+use Rattle.outcomes.specs.declared.Turn.{Turn}
+use Rattle.outcomes.specs.declared.Turn.the-variants.{Rest, Going, At, By}
 use Rattle.search.specs.declared.Place.{Place}
 use Rattle.search.specs.Steps.{Stepped}
 use Rattle.search.specs.Laws.Steps.{ready-after}

@@ -35,70 +35,14 @@ use Rattle.visits.specs.Best.{best}
 use Rattle.visits.specs.Visits.{Ready, Started, Begun}
 use Rattle.visits.specs.Laws.Policy.{best-laws}
 use Rattle.visits.specs.Laws.Visits.{kept-trans, begun}
-use Rattle.search.specs.declared.Turn.{Turn}
-use Rattle.search.specs.declared.Turn.the-variants.{Rest, Going, At, By}
-use Rattle.search.specs.declared.answers.Answer.{Answer}
-use Rattle.search.specs.declared.answers.Outcome.{Outcome}
-use Rattle.search.specs.declared.answers.Outcome.the-variants.{Found, Unreachable, BudgetExceeded}
-use Rattle.search.specs.FindWalkPath.{ended, endOf, toldBy, listIn, answerBy, nodesBy, frontBy, outBy}
-use Rattle.search.specs.Turns.{mostSteps, countsOf, after, Quiet}
+use Rattle.outcomes.specs.declared.Turn.{Turn}
+use Rattle.outcomes.specs.declared.Turn.the-variants.{Rest, Going, At, By}
+use Rattle.outcomes.specs.declared.Answer.{Answer}
+use Rattle.outcomes.specs.Outcomes.{toldBy, listIn, countsOf, endQuiet, endAt, answerOf}
+use Rattle.outcomes.specs.Laws.{written-is, Concludes}
+use Rattle.search.specs.FindWalkPath.{ended, endOf, answerBy, nodesBy, frontBy, outBy}
+use Rattle.search.specs.Turns.{mostSteps, after, Quiet}
 use Rattle.search.specs.Runs.{Spun}
-
--- ---- what the code makes of an end of the run
-
--- where nothing waits, and so many points were dropped
-abbrev pub endQuiet : ℕ → explore.Outcome (Feet × Label)
-endQuiet zero = explore.Unreachable
-endQuiet (suc d) = explore.BudgetExceeded
-
--- on the node room; a run as long as the budget that is still `Going` has nothing that waits either (`going-quiet` below)
-abbrev pub endAt : List ℕ → Feet → Turn → explore.Outcome (Feet × Label)
-endAt a goal (Rest c) = endQuiet (c .dropped)
-endAt a goal (Going c) = endQuiet (c .dropped)
-endAt a goal (At c k) = explore.Found (listOf a (c .retained) k [])
-endAt a goal (By c k l) = explore.Found (listOf a (c .retained) k ((goal, l) ∷ []))
-
-abbrev pub told : Counts → Outcome → ℕ → Answer
-told c o n = record { outcome = o; count = n; retained = c .retained; closed = c .closed }
-
-abbrev pub answerOf : Counts → explore.Outcome (Feet × Label) → Answer
-answerOf c e = told c (toldBy e) (length (listIn e))
-
-pub verdict-none : (c : Counts) → c .dropped ≡ 0 → told c Unreachable 0 ≡ answerOf c (endQuiet (c .dropped))
-verdict-none c h = rw h
-
-pub verdict-some : (c : Counts) → c .dropped ≢ 0 → told c BudgetExceeded 0 ≡ answerOf c (endQuiet (c .dropped))
-verdict-some c h = go (c .dropped) h
-  where
-    go : (d : ℕ) → d ≢ 0 → told c BudgetExceeded 0 ≡ answerOf c (endQuiet d)
-    go zero i = absurd (i refl)
-    go (suc d) i = refl
-
--- a list that has room is written, and no list changes nothing
-written-is : (l : List (Feet × Label)) (old : List ℕ) → 40 * length l ≤ length old → written l old ≡ listBytes l ++ drop (40 * length l) old
-unfolding written
-written-is l old h = let e = le-leb (length l) (length old / 40) (omega arith) in rw e
-
-written-quiet : (d : ℕ) (old : List ℕ) → old ≡ written (listIn (endQuiet d)) old
-written-quiet zero old = sym (written-is [] old (omega arith))
-written-quiet (suc d) old = sym (written-is [] old (omega arith))
-
-abbrev pub Concludes : List ℕ → Feet → Turn → Answer → List ℕ → List ℕ → Type 0
-Concludes a goal t x old out = (x ≡ answerOf (countsOf t) (endAt a goal t)) × (out ≡ written (listIn (endAt a goal t)) old)
-
-module _ (a : List ℕ) (goal : Feet) (t : Turn) (c : Counts) (old : List ℕ) where
-  pub concludes-rest : (x : Answer) → t ≡ Rest c → x ≡ answerOf c (endQuiet (c .dropped)) → Concludes a goal t x old old
-  concludes-rest x e h = rw e (h, written-quiet (c .dropped) old)
-
-  pub concludes-going : (x : Answer) → t ≡ Going c → x ≡ answerOf c (endQuiet (c .dropped)) → Concludes a goal t x old old
-  concludes-going x e h = rw e (h, written-quiet (c .dropped) old)
-
-  pub concludes-at : (k m : ℕ) (out : List ℕ) → t ≡ At c k → Listed a (c .retained) k [] m old out → Concludes a goal t (told c Found m) old out
-  concludes-at k m out e h = rw e (ap (told c Found) (h .count), h .bytes)
-
-  pub concludes-by : (k : ℕ) (l : Label) (m : ℕ) (out : List ℕ) → t ≡ By c k l → Listed a (c .retained) k ((goal, l) ∷ []) m old out
-      → Concludes a goal t (told c Found m) old out
-  concludes-by k l m out e h = rw e (ap (told c Found) (h .count), h .bytes)
 
 -- ---- it is what the theory says of the final state
 

@@ -6,7 +6,7 @@ use borrow.Author.Needs.{needs}
 use denote.Ref.{now}
 use lib.ListN.{length}
 use Rattle.world.specs.Space.{space}
-use Rattle.search.specs.declared.Turn.the-variants.{Going}
+use Rattle.outcomes.specs.declared.Turn.the-variants.{Going}
 use Rattle.search.specs.Runs.{Spun}
 use Rattle.search.specs.Laws.Steps.{ready-after}
 use Rattle.search.specs.Laws.Runs.{spun-none, spun-next, spun-end, over-rest, over-at, over-by}

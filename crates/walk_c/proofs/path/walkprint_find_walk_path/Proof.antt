@@ -1,8 +1,8 @@
 -- `walk_c::path::walkprint_find_walk_path` meets its contract. Assumes nothing.
 use mathlib.Core.Path.{_≡_, sym, ap, _∙_}
 use denote.Ref.{now}
-use Rattle.search.specs.declared.answers.Answer.{Answer}
-use Rattle.search.specs.FindWalkPath.{outcomeNumber}
+use Rattle.outcomes.specs.declared.Answer.{Answer}
+use Rattle.outcomes.specs.Outcomes.{outcomeNumber}
 use Rattle.walk_c.specs.Answers.{answerWritten}
 use borrow.Author.Needs.{needs}
 use Rattle.walk_c.proofs.path.walkprint_find_walk_path.Statement.{statement}

@@ -1,7 +1,7 @@
--- `search::whole::verdict` meets its contract. Assumes nothing.
-use Rattle.search.specs.Laws.Whole.{verdict-none, verdict-some}
-use Rattle.search.proofs.whole.verdict.Statement.{statement}
-use Rattle.search.proofs.whole.verdict.Tie as tie
+-- `outcomes::verdict` meets its contract. Assumes nothing.
+use Rattle.outcomes.specs.Laws.{verdict-none, verdict-some}
+use Rattle.outcomes.proofs.verdict.Statement.{statement}
+use Rattle.outcomes.proofs.verdict.Tie as tie
 
 returns : tie.Need-returns
 returns c = verdict-none (c .before .before .args .c) (c .if1 .taken)

@@ -1,9 +1,9 @@
--- `search::whole::conclude` meets its contract. Assumes nothing.
+-- `outcomes::conclude` meets its contract. Assumes nothing.
 use denote.Ref.{now}
 use borrow.Author.Needs.{needs}
-use Rattle.search.specs.Laws.Whole.{concludes-rest, concludes-going, concludes-at, concludes-by}
-use Rattle.search.proofs.whole.conclude.Statement.{statement}
-use Rattle.search.proofs.whole.conclude.Tie as tie
+use Rattle.outcomes.specs.Laws.{concludes-rest, concludes-going, concludes-at, concludes-by}
+use Rattle.outcomes.proofs.conclude.Statement.{statement}
+use Rattle.outcomes.proofs.conclude.Tie as tie
 
 enum-known-turn : tie.Need-enum-known-turn
 enum-known-turn c = search needs

@@ -1,0 +1,3 @@
+-- What a search answers. What a reader must believe: Outcomes. What is proved of it: Laws.
+pub mod Outcomes
+pub mod Laws

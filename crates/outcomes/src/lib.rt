@@ -1,0 +1,67 @@
+// What a search answers (01, "Numbers given back"), and how the end of its run becomes that answer (01, "Search").
+ghost use mathlib.Core.Path.{_≡_};
+ghost use Rattle.rooms.specs.Lists.{written};
+ghost use Rattle.outcomes.specs.Outcomes.{unsearched, countsOf, listIn, endQuiet, endAt, answerOf};
+use rooms::Counts;
+use rooms::Feet;
+use rooms::Label;
+
+// 01's outcomes of a search, 0 to 5.
+pub enum Outcome {
+    Found,
+    Unreachable,
+    BudgetExceeded,
+    BadWorld,
+    TooLarge,
+    NoRoom,
+}
+
+// The outcome, how many points the list has that was written, and how many nodes were retained and closed: all 0 where no search began.
+pub struct Answer {
+    pub outcome: Outcome,
+    pub count: usize,
+    pub retained: usize,
+    pub closed: u64,
+}
+
+// What one expansion comes to: nothing waits; the search goes on; the list ends at a node; or by a connector from there, with its label.
+pub enum Turn {
+    Rest(Counts),
+    Going(Counts),
+    At(Counts, usize),
+    By(Counts, usize, Label),
+}
+
+// The answer where no search began.
+pub fn without_search(outcome: Outcome) -> Answer
+    ensures { λ a. ⌜ a ≡ unsearched outcome ⌝ }
+{
+    Answer { outcome, count: 0, retained: 0, closed: 0 }
+}
+
+// The answer of a search that found no list: nothing waits any more.
+pub fn verdict(c: Counts) -> Answer
+    ensures { λ a. ⌜ a ≡ answerOf c (endQuiet (c .dropped)) ⌝ }
+{
+    let outcome = if c.dropped == 0 { Outcome::Unreachable } else { Outcome::BudgetExceeded };
+    Answer { outcome, count: 0, retained: c.retained, closed: c.closed }
+}
+
+// The answer that the end of a run makes of its node room, with its list written.
+pub fn conclude(nodes: &[u8], goal: Feet, turn: Turn, out: &mut [u8]) -> Answer
+    ensures { λ a. ⌜ a ≡ answerOf (countsOf turn) (endAt (now (nodes .entry)) goal turn) ⌝ }
+    ensures { λ _. ⌜ now (out .exit) ≡ written (listIn (endAt (now (nodes .entry)) goal turn)) (now (out .entry)) ⌝ }
+{
+    match turn {
+        Turn::Rest(c) => verdict(c),
+        Turn::Going(c) => verdict(c),
+        Turn::At(c, k) => {
+            let count = rooms::list_at(nodes, c.retained, k, out);
+            Answer { outcome: Outcome::Found, count, retained: c.retained, closed: c.closed }
+        }
+        Turn::By(c, k, label) => {
+            let count = rooms::list_by(nodes, c.retained, k, goal, label, out);
+            Answer { outcome: Outcome::Found, count, retained: c.retained, closed: c.closed }
+        }
+    }
+}

@@ -1,0 +1,139 @@
+-- The ways out of `judge`, and what a search that begins may rely on.
+use mathlib.Core.Path.{_≡_, refl, sym, _∙_}
+use mathlib.Core.Bool.{Bool, true, false, not, _||_, cond}
+use mathlib.Core.Option.{Option, none, some}
+use mathlib.Core.List.{List}
+use Prim.Native.Nat.{ℕ, _+_, _*_, _/_, _≤_, _<_}
+use native.Mathlib.Nat.{mul-comm, div-lt-iff-lt-mul, le-div-iff-mul-le}
+use native.Mathlib.Omega.{arith}
+use lib.Dec.{eqb, leb, ltb}
+use borrow.Author.Tests.{ltb-true, ltb-false, lt-ltb, le-ltb, le-leb, lt-leb, eq-eqb, ne-eqb}
+use Rattle.exploration.specs.Laws.Lists.{none-some}
+use Rattle.world.specs.declared.Body.{Body}
+use Rattle.world.specs.declared.Request.{Request}
+use Rattle.world.specs.declared.Window.{Window}
+use Rattle.world.specs.Space.{space}
+use Rattle.tables.specs.BadWorld.{badWorld}
+use Rattle.request.specs.Request.{validRequest, sizesTooLarge, tooLarge}
+use Rattle.ends.specs.Ends.{endsGood}
+use Rattle.outcomes.specs.declared.Outcome.{Outcome}
+use Rattle.outcomes.specs.declared.Outcome.the-variants.{Unreachable, BudgetExceeded, BadWorld, TooLarge, NoRoom}
+use Rattle.refusals.specs.Refusals.{noRoom, withoutSearch}
+
+-- ---- rooms: the code divides, 01's numbers multiply
+
+or-false-left : (a b : Bool) → (a || b) ≡ false → a ≡ false
+or-false-left true b e = e
+or-false-left false b e = refl
+
+or-false-right : (a b : Bool) → (a || b) ≡ false → b ≡ false
+or-false-right true b e = absurd (let z : _≡_ {A = ℕ} 0 1 = cc in omega arith)
+or-false-right false b e = e
+
+-- under n records of d bytes: as many whole records, or bytes
+few : (d n x : ℕ) → 0 < d → ltb (x / d) n ≡ ltb x (d * n)
+few d n x p = go (ltb x (d * n)) refl
+  where
+    go : (t : Bool) → ltb x (d * n) ≡ t → ltb (x / d) n ≡ t
+    go true e = lt-ltb (x / d) n (div-lt-iff-lt-mul {k = d} {x = x} {y = n} p .1 (rw (mul-comm n d) (ltb-true x (d * n) e)))
+    go false e = le-ltb (x / d) n (le-div-iff-mul-le {k = d} {x = n} {y = x} p .1 (rw (mul-comm n d) (ltb-false x (d * n) e)))
+
+le-as-lt : (x n : ℕ) → leb x n ≡ ltb x (n + 1)
+le-as-lt x n = go (ltb x (n + 1)) refl
+  where
+    go : (t : Bool) → ltb x (n + 1) ≡ t → leb x n ≡ t
+    go true e = le-leb x n (omega (arith, ltb-true x (n + 1) e))
+    go false e = lt-leb x n (omega (arith, ltb-false x (n + 1) e))
+
+pub room-divided : (n nodes front out : ℕ) → (ltb (nodes / 56) n || ltb (front / 24) n || leb (out / 40) n) ≡ noRoom n nodes front out
+unfolding noRoom
+room-divided n nodes front out =
+    rw (few 56 n nodes (omega arith), few 24 n front (omega arith), le-as-lt (out / 40) n ∙ few 40 (n + 1) out (omega arith))
+
+module _ (w : Window) (cells perms shapes boxes : List ℕ) (r : Request) (body : Body) (nodes front out : ℕ) where
+  abbrev bad : Bool
+  bad = badWorld w cells shapes boxes
+
+  abbrev valid : Bool
+  valid = validRequest r body
+
+  abbrev large : Bool
+  large = tooLarge r body
+
+  abbrev short : Bool
+  short = noRoom (r .«node_budget») nodes front out
+
+  abbrev good : Bool
+  good = endsGood (space w cells perms shapes boxes) r body
+
+  abbrev way : Option Outcome
+  way = withoutSearch w cells perms shapes boxes r body nodes front out
+
+  -- ---- the seven ways out, in 01's order, each under the tests so far
+
+  pub out-bad-world : bad ≡ true → some BadWorld ≡ way
+  unfolding withoutSearch
+  out-bad-world b = rw b
+
+  pub out-invalid : bad ≡ false → valid ≡ false → some Unreachable ≡ way
+  unfolding withoutSearch
+  out-invalid b v = rw (b, v)
+
+  pub out-too-large : bad ≡ false → valid ≡ true → large ≡ true → some TooLarge ≡ way
+  unfolding withoutSearch
+  out-too-large b v l = rw (b, v, l)
+
+  pub out-no-room : bad ≡ false → valid ≡ true → large ≡ false → short ≡ true → some NoRoom ≡ way
+  unfolding withoutSearch
+  out-no-room b v l s = rw (b, v, l, s)
+
+  pub out-bad-end : bad ≡ false → valid ≡ true → large ≡ false → short ≡ false → good ≡ false → some Unreachable ≡ way
+  unfolding withoutSearch
+  out-bad-end b v l s g = rw (b, v, l, s, g)
+
+  pub out-budget : bad ≡ false → valid ≡ true → large ≡ false → short ≡ false → good ≡ true → r .«node_budget» ≡ 0 → some BudgetExceeded ≡ way
+  unfolding withoutSearch
+  out-budget b v l s g z = rw (b, v, l, s, g, eq-eqb (r .«node_budget») 0 z)
+
+  pub out-search : bad ≡ false → valid ≡ true → large ≡ false → short ≡ false → good ≡ true → (r .«node_budget» ≡ 0 → ⊥) → none ≡ way
+  unfolding withoutSearch
+  out-search b v l s g z = rw (b, v, l, s, g, ne-eqb (r .«node_budget») 0 z)
+
+  -- ---- and back: a search that begins
+
+  pub record Begun : Type 0 where
+    pub world : bad ≡ false
+    pub few-nodes : r .«node_budget» ≤ 4096
+    pub node-room : 56 * r .«node_budget» ≤ nodes
+    pub front-room : 24 * r .«node_budget» ≤ front
+    pub out-room : 40 * (r .«node_budget» + 1) ≤ out
+
+  small : large ≡ false → r .«node_budget» ≤ 4096
+  unfolding tooLarge
+  small e = ltb-false 4096 (r .«node_budget») (or-false-right (sizesTooLarge r body) (ltb 4096 (r .«node_budget»)) e)
+
+  has-room : bad ≡ false → large ≡ false → short ≡ false → Begun
+  unfolding noRoom
+  has-room b l e =
+      let n = r .«node_budget» in
+      let f = or-false-left (ltb nodes (56 * n) || ltb front (24 * n)) (ltb out (40 * (n + 1))) e in
+      record {
+        world = b;
+        few-nodes = small l;
+        node-room = ltb-false nodes (56 * n) (or-false-left (ltb nodes (56 * n)) (ltb front (24 * n)) f);
+        front-room = ltb-false front (24 * n) (or-false-right (ltb nodes (56 * n)) (ltb front (24 * n)) f);
+        out-room = ltb-false out (40 * (n + 1)) (or-false-right (ltb nodes (56 * n) || ltb front (24 * n)) (ltb out (40 * (n + 1))) e) }
+
+  -- a test that a search passed was not met
+  passed : (b : Bool) (o : Outcome) (x : Option Outcome) → cond b (some o) x ≡ none → (b ≡ false) × (x ≡ none)
+  passed true o x e = absurd (none-some (sym e))
+  passed false o x e = (refl, e)
+
+  pub begins : way ≡ none → Begun
+  unfolding withoutSearch
+  begins e =
+      let b = passed bad BadWorld _ e in
+      let v = passed (not valid) Unreachable _ (b .1) in
+      let l = passed large TooLarge _ (v .1) in
+      let s = passed short NoRoom _ (l .1) in
+      has-room (b .0) (l .0) (s .0)

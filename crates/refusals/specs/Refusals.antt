@@ -1,0 +1,38 @@
+-- What is answered without a search (01, "Numbers given back"). Definitions only.
+use Prim.Native.Nat.{ℕ, _+_, _*_}
+use mathlib.Core.Bool.{Bool, not, _||_, cond}
+use mathlib.Core.Option.{Option, none, some}
+use mathlib.Core.List.{List}
+use lib.Dec.{eqb, ltb}
+use Rattle.world.specs.declared.Body.{Body}
+use Rattle.world.specs.declared.Request.{Request}
+use Rattle.world.specs.declared.Window.{Window}
+use Rattle.world.specs.Space.{space}
+use Rattle.tables.specs.BadWorld.{badWorld}
+use Rattle.request.specs.Request.{validRequest, tooLarge}
+use Rattle.ends.specs.Ends.{endsGood}
+use Rattle.outcomes.specs.declared.Outcome.{Outcome}
+use Rattle.outcomes.specs.declared.Outcome.the-variants.{Unreachable, BudgetExceeded, BadWorld, TooLarge, NoRoom}
+use Rattle.refusals.specs.declared.Judged.{Judged}
+use Rattle.refusals.specs.declared.Judged.the-variants.{Refused, Begins}
+
+-- "5 NoRoom: node or frontier room under node_budget records, output under node_budget + 1": rooms of so many bytes
+unfoldable pub noRoom : ℕ → ℕ → ℕ → ℕ → Bool
+noRoom budget nodes front out = ltb nodes (56 * budget) || ltb front (24 * budget) || ltb out (40 * (budget + 1))
+
+-- "Search order: 3; `valid_request` (else 1); 4; 5; goal in range, start standable, goal standable (else 1); budget 0 (2); search": what is answered
+-- without a search, or none where it begins. Of the rooms only the sizes count.
+unfoldable pub withoutSearch : Window → List ℕ → List ℕ → List ℕ → List ℕ → Request → Body → ℕ → ℕ → ℕ → Option Outcome
+withoutSearch w cells perms shapes boxes r body nodes front out =
+    cond (badWorld w cells shapes boxes) (some BadWorld)
+    (cond (not (validRequest r body)) (some Unreachable)
+    (cond (tooLarge r body) (some TooLarge)
+    (cond (noRoom (r .«node_budget») nodes front out) (some NoRoom)
+    (cond (not (endsGood (space w cells perms shapes boxes) r body)) (some Unreachable)
+    (cond (eqb (r .«node_budget») 0) (some BudgetExceeded)
+    none)))))
+
+-- what the code answers, as that
+abbrev pub told : Judged → Option Outcome
+told (Refused o) = some o
+told Begins = none

@@ -1,0 +1,57 @@
+// Whether a search begins (01, "Numbers given back": "Search order"): every answer that comes before the first expansion.
+ghost use mathlib.Core.Path.{_≡_};
+ghost use Rattle.refusals.specs.Refusals.{noRoom, withoutSearch, told};
+use outcomes::Outcome;
+use world::Body;
+use world::Request;
+use world::Window;
+
+// The answer without a search, or that the search begins.
+pub enum Judged {
+    Refused(Outcome),
+    Begins,
+}
+
+// Whether rooms of so many bytes are too small for a budget.
+pub fn no_room(budget: u64, nodes: usize, front: usize, out: usize) -> bool
+    ensures { λ a. ⌜ a ≡ noRoom budget nodes front out ⌝ }
+{
+    let n = budget as usize;
+    (nodes / 56 < n) | (front / 24 < n) | (out / 40 <= n)
+}
+
+// The call judged in 01's order; of the three rooms only their lengths count.
+pub fn judge(
+    w: Window,
+    cells: &[u8],
+    perms: &[u8],
+    shapes: &[u8],
+    boxes: &[u8],
+    r: Request,
+    body: Body,
+    nodes: usize,
+    front: usize,
+    out: usize,
+) -> Judged
+    ensures { λ a. ⌜ told a ≡ withoutSearch w (now (cells .entry)) (now (perms .entry)) (now (shapes .entry)) (now (boxes .entry)) r body nodes front out ⌝ }
+{
+    if tables::bad_world(w, cells, shapes, boxes) {
+        return Judged::Refused(Outcome::BadWorld);
+    }
+    if !request::valid_request(r, body) {
+        return Judged::Refused(Outcome::Unreachable);
+    }
+    if request::too_large(r, body) {
+        return Judged::Refused(Outcome::TooLarge);
+    }
+    if no_room(r.node_budget, nodes, front, out) {
+        return Judged::Refused(Outcome::NoRoom);
+    }
+    if !ends::ends_good(w, cells, perms, shapes, boxes, r, body) {
+        return Judged::Refused(Outcome::Unreachable);
+    }
+    if r.node_budget == 0 {
+        return Judged::Refused(Outcome::BudgetExceeded);
+    }
+    Judged::Begins
+}
