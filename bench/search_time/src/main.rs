@@ -1,242 +1,211 @@
-//! Times the proved search against the original's, in one run: in each round
-//! both search the same stairs, one after the other, at budgets of 64, 512 and
-//! 4,096 nodes, with rooms and scratch that are reused. The medians are printed
-//! by retained node with their ratio, and the fastest rounds, which other work
-//! on the machine disturbed least. bench/search builds and runs it.
+//! The proved search's time beside the original's (request No. 8): in each
+//! round of one run both search the same world, turn by turn. bench/search
+//! builds and runs it; docs/GATE.md, "The search's time", says what it prints.
 
+mod clock;
+mod proved;
+mod stairs;
+
+use std::hint::black_box;
 use std::process::ExitCode;
-use std::time::Instant;
 
+use clock::{Time, timed};
 use original::Navigator;
-use scene::{Answer, Body, Request, Scene, Tables, Window};
+use proved::Proved;
+use scene::{Answer, Scene};
 
-/// Budgets, and how many rounds each is measured.
-const BUDGETS: [(u64, usize); 3] = [(64, 101), (512, 101), (4096, 21)];
+/// How often each of the three worlds is searched.
+const ROUNDS: usize = 100;
 
-#[link(name = "walk_c", kind = "static")]
-unsafe extern "C" {
-    /// A slice is a pointer and a length.
-    fn walkprint_find_walk_path(
-        window: *const u8,
-        window_length: usize,
-        cells: *const u8,
-        cells_length: usize,
-        permissions: *const u8,
-        permissions_length: usize,
-        shapes: *const u8,
-        shapes_length: usize,
-        boxes: *const u8,
-        boxes_length: usize,
-        request: *const u8,
-        request_length: usize,
-        body: *const u8,
-        body_length: usize,
-        nodes: *mut u8,
-        nodes_length: usize,
-        front: *mut u8,
-        front_length: usize,
-        out: *mut u8,
-        out_length: usize,
-        answer: *mut u8,
-        answer_length: usize,
-    ) -> u64;
-}
+/// Budgets on the stairs, and how often each is searched.
+const STAIRS: [(u64, usize); 3] = [(64, 100), (512, 100), (4096, 20)];
 
-/// A hill of half steps: 80 columns deep, and 80 long, each half a block higher
-/// than the one before. The start is in its middle; the goal is the top of a
-/// pillar that no step reaches, so that every budget is used up.
-fn stairs(budget: u64) -> Scene {
-    const LONG: usize = 80;
-    const HIGH: usize = 52;
-    const PILLAR: usize = 48;
-    let mut cells = vec![(0, 0); LONG * HIGH * LONG];
-    let mut put = |x: usize, y: usize, z: usize, shape: u32| {
-        cells[x + LONG * (z + LONG * y)] = (1, shape);
-    };
-    for z in 0..LONG {
-        for x in 0..LONG {
-            for y in 0..x / 2 {
-                put(x, y, z, 1);
-            }
-            put(x, x / 2, z, if x % 2 == 0 { 2 } else { 1 });
-        }
-    }
-    for y in 0..PILLAR {
-        put(LONG - 1, y, LONG - 1, 1);
-    }
-    Scene {
-        request: Request {
-            start: [40.5, 20.5, 40.5],
-            goal: [LONG as f64 - 0.5, PILLAR as f64, LONG as f64 - 0.5],
-            max_range: 64.0,
-            node_budget: budget,
-            step_height: 0.5,
-            jump_height: 0.0,
-            max_drop: 3.0,
-        },
-        body: Body {
-            width: 0.625,
-            height: 1.75,
-            step_height: 0.5,
-        },
-        tables: Tables {
-            window: Window {
-                origin: [0, 0, 0],
-                sizes: [LONG as u32, HIGH as u32, LONG as u32],
-            },
-            cells,
-            permissions: vec![7, 7],
-            shapes: vec![(0, 0), (0, 1), (1, 1)],
-            boxes: vec![
-                [0.0, 0.0, 0.0, 1.0, 1.0, 1.0],
-                [0.0, 0.0, 0.0, 1.0, 0.5, 1.0],
-            ],
-        },
+/// A world by name: the oracle's three, or `stairs-` and a budget.
+fn world(name: &str) -> Option<Scene> {
+    match name.strip_prefix("stairs-") {
+        Some(budget) => Some(stairs::stairs(budget.parse().ok()?)),
+        None => scene::large(name),
     }
 }
 
-fn floats(numbers: &[f64]) -> Vec<u8> {
-    numbers.iter().flat_map(|n| n.to_le_bytes()).collect()
+/// One of the four things that a round times.
+#[derive(Clone, Copy)]
+enum Turn {
+    /// The proved search in rooms as its last search left them.
+    Kept,
+    /// The proved search, all three rooms zeroed first, within the time.
+    Cleared,
+    /// The original in scratch and output as its last search left them, which
+    /// it empties itself.
+    Used,
+    /// The original in new scratch and output, which it has to grow.
+    New,
 }
 
-fn entries(pairs: &[(u32, u32)]) -> Vec<u8> {
-    let numbers = pairs.iter().flat_map(|&(a, b)| [a, b]);
-    numbers.flat_map(u32::to_le_bytes).collect()
+const TURNS: [Turn; 4] = [Turn::Kept, Turn::Used, Turn::Cleared, Turn::New];
+
+/// Both searches of one world.
+struct Pair {
+    scene: Scene,
+    proved: Proved,
+    original: Navigator,
+    answer: Answer,
 }
 
-/// A scene in the bytes that the proved search reads, and its rooms.
-struct Bytes {
-    window: Vec<u8>,
-    tables: [Vec<u8>; 4],
-    request: Vec<u8>,
-    body: Vec<u8>,
-    rooms: [Vec<u8>; 3],
-    answer: [u8; 32],
-}
-
-impl Bytes {
-    fn new(scene: &Scene) -> Self {
-        let (request, body, tables) = (&scene.request, &scene.body, &scene.tables);
-        let mut window: Vec<u8> = Vec::new();
-        window.extend(tables.window.origin.iter().flat_map(|n| n.to_le_bytes()));
-        window.extend(tables.window.sizes.iter().flat_map(|n| n.to_le_bytes()));
-        let mut asked = floats(&[request.start, request.goal].concat());
-        asked.extend(floats(&[
-            request.max_range,
-            request.step_height,
-            request.jump_height,
-            request.max_drop,
-        ]));
-        asked.extend(request.node_budget.to_le_bytes());
-        let budget = request.node_budget as usize;
+impl Pair {
+    fn new(scene: Scene) -> Self {
+        let mut original = Navigator::new(&scene);
         Self {
-            window,
-            tables: [
-                entries(&tables.cells),
-                tables.permissions.clone(),
-                entries(&tables.shapes),
-                floats(&tables.boxes.concat()),
-            ],
-            request: asked,
-            body: floats(&[body.width, body.height, body.step_height]),
-            rooms: [
-                vec![0; 56 * budget],
-                vec![0; 24 * budget],
-                vec![0; 40 * (budget + 1)],
-            ],
-            answer: [0; 32],
+            proved: Proved::new(&scene),
+            answer: original.answer(),
+            original,
+            scene,
         }
     }
 
-    fn search(&mut self) -> u64 {
-        let [cells, permissions, shapes, boxes] = &self.tables;
-        let [nodes, front, out] = &mut self.rooms;
-        // Each pointer stands with the length of its vector, and no two overlap.
-        unsafe {
-            walkprint_find_walk_path(
-                self.window.as_ptr(),
-                self.window.len(),
-                cells.as_ptr(),
-                cells.len(),
-                permissions.as_ptr(),
-                permissions.len(),
-                shapes.as_ptr(),
-                shapes.len(),
-                boxes.as_ptr(),
-                boxes.len(),
-                self.request.as_ptr(),
-                self.request.len(),
-                self.body.as_ptr(),
-                self.body.len(),
-                nodes.as_mut_ptr(),
-                nodes.len(),
-                front.as_mut_ptr(),
-                front.len(),
-                out.as_mut_ptr(),
-                out.len(),
-                self.answer.as_mut_ptr(),
-                self.answer.len(),
-            )
-        }
+    /// The time of a turn, or none if its answer is wrong.
+    fn take(&mut self, turn: Turn) -> Option<Time> {
+        let (right, time) = match turn {
+            Turn::Kept => {
+                let (number, time) = timed(|| black_box(self.proved.run()));
+                (self.proved.left(number, &self.answer), time)
+            }
+            Turn::Cleared => {
+                let (number, time) = timed(|| {
+                    self.proved.clear();
+                    black_box(self.proved.run())
+                });
+                (self.proved.left(number, &self.answer), time)
+            }
+            Turn::Used => {
+                let (outcome, time) = timed(|| black_box(self.original.run()));
+                (outcome == self.answer.outcome, time)
+            }
+            Turn::New => {
+                let mut original = Navigator::new(&self.scene);
+                let (outcome, time) = timed(|| black_box(original.run()));
+                (outcome == self.answer.outcome, time)
+            }
+        };
+        right.then_some(time)
     }
 
-    /// Whether the last search left what the original did: the answer, the list
-    /// and the node records, byte for byte.
-    fn is(&self, answer: &Answer) -> bool {
-        let numbers = [
-            answer.outcome as u64,
-            answer.list.len() as u64,
-            answer.nodes.len() as u64,
-            answer.closed,
-        ];
-        let nodes: Vec<u8> = answer.nodes.iter().flat_map(|n| n.bytes()).collect();
-        let list: Vec<u8> = answer.list.iter().flat_map(|p| p.bytes()).collect();
-        self.answer == *numbers.map(u64::to_le_bytes).concat()
-            && self.rooms[0].starts_with(&nodes)
-            && self.rooms[2].starts_with(&list)
+    /// Whether both answer the same: the proved search in rooms without a trace
+    /// of an earlier one, the original once more.
+    fn agree(&mut self) -> bool {
+        self.proved.spoil();
+        let number = self.proved.run();
+        self.proved.left(number, &self.answer) && self.original.answer().same_bits(&self.answer)
+    }
+
+    /// So many rounds of all four turns; none if an answer is wrong.
+    fn rounds(&mut self, rounds: usize) -> Option<[Vec<Time>; 4]> {
+        let mut times = [const { Vec::new() }; 4];
+        if !self.agree() {
+            return None;
+        }
+        for _ in 0..rounds {
+            for (turn, times) in TURNS.into_iter().zip(&mut times) {
+                times.push(self.take(turn)?);
+            }
+        }
+        self.agree().then_some(times)
     }
 }
 
-fn timed(mut work: impl FnMut()) -> f64 {
-    let begin = Instant::now();
-    work();
-    begin.elapsed().as_nanos() as f64
+/// The median; of an even number the mean of the middle two.
+fn median(mut times: Vec<f64>) -> f64 {
+    times.sort_by(f64::total_cmp);
+    let half = times.len() / 2;
+    if times.len() % 2 == 1 {
+        times[half]
+    } else {
+        (times[half - 1] + times[half]) / 2.0
+    }
 }
 
-/// False if an answer differs.
-fn compare(budget: u64, rounds: usize) -> bool {
-    let scene = stairs(budget);
-    let mut bytes = Bytes::new(&scene);
-    let mut navigator = Navigator::new(&scene);
-    let answer = navigator.answer();
-    let (mut ours, mut theirs) = (Vec::new(), Vec::new());
-    for _ in 0..rounds {
-        ours.push(timed(|| {
-            bytes.search();
-        }));
-        theirs.push(timed(|| {
-            navigator.run();
-        }));
-        if !bytes.is(&answer) {
-            println!("budget {budget}: the answers differ");
-            return false;
-        }
-    }
-    ours.sort_by(f64::total_cmp);
-    theirs.sort_by(f64::total_cmp);
-    let retained = answer.nodes.len();
-    for (round, at) in [("median", rounds / 2), ("fastest", 0)] {
+/// The three figures of a turn's times.
+fn figures(times: &[Time]) -> [f64; 3] {
+    let passed: Vec<f64> = times.iter().map(|time| time.passed).collect();
+    let given: Vec<f64> = times.iter().map(|time| time.given).collect();
+    let fastest = passed.iter().copied().fold(f64::INFINITY, f64::min);
+    [median(passed), median(given), fastest]
+}
+
+const FIGURES: [&str; 3] = ["median", "median, processor", "fastest"];
+
+/// Linux's mean of running programs over the last minute.
+fn load() -> String {
+    let text = std::fs::read_to_string("/proc/loadavg").unwrap_or_default();
+    text.split(' ').next().unwrap_or("?").to_string()
+}
+
+/// The lines of a world. False if an answer is wrong.
+fn compare(name: &str, scene: Scene, rounds: usize) -> bool {
+    let mut pair = Pair::new(scene);
+    let Some(times) = pair.rounds(rounds) else {
+        println!("{name}: THE ANSWERS DIFFER");
+        return false;
+    };
+    let answer = &pair.answer;
+    println!(
+        "{name}: {}, {} waypoints, {} retained, {} closed; {rounds} rounds, load {}",
+        scene::name(answer.outcome),
+        answer.list.len(),
+        answer.nodes.len(),
+        answer.closed,
+        load(),
+    );
+    let [kept, used, cleared, new] = times.map(|times| figures(&times));
+    for (k, what) in FIGURES.into_iter().enumerate() {
         println!(
-            "budget {budget}, {retained} retained, {round} of {rounds} rounds: proved {:.0} ns a node, original {:.0} ns, ratio {:.2}",
-            ours[at] / retained as f64,
-            theirs[at] / retained as f64,
-            ours[at] / theirs[at],
+            "  {what:<18} rooms kept: {:9.1} us, original {:9.1} us, ratio {:.2}   rooms cleared: {:9.1} us, original new {:9.1} us, ratio {:.2}",
+            kept[k],
+            used[k],
+            kept[k] / used[k],
+            cleared[k],
+            new[k],
+            cleared[k] / new[k],
         );
     }
     true
 }
 
+fn all() -> bool {
+    let mut right = true;
+    for name in scene::LARGE {
+        right &= world(name).is_some_and(|scene| compare(name, scene, ROUNDS));
+    }
+    for (budget, rounds) in STAIRS {
+        right &= compare(&format!("stairs-{budget}"), stairs::stairs(budget), rounds);
+    }
+    right
+}
+
+/// One side's search alone, so many times, for a profiler; none if the words
+/// ask for nothing.
+fn alone(side: &str, name: &str, times: &str) -> Option<bool> {
+    let turn = match side {
+        "proved" => Turn::Kept,
+        "original" => Turn::Used,
+        _ => return None,
+    };
+    let mut pair = Pair::new(world(name)?);
+    let times: usize = times.parse().ok()?;
+    Some((0..times).all(|_| pair.take(turn).is_some()))
+}
+
 fn main() -> ExitCode {
-    let same = BUDGETS.iter().all(|&(budget, rounds)| compare(budget, rounds));
-    if same { ExitCode::SUCCESS } else { ExitCode::FAILURE }
+    let words: Vec<String> = std::env::args().skip(1).collect();
+    let words: Vec<&str> = words.iter().map(String::as_str).collect();
+    let right = match words[..] {
+        [] => Some(all()),
+        ["only", side, name, times] => alone(side, name, times),
+        _ => None,
+    };
+    match right {
+        Some(true) => ExitCode::SUCCESS,
+        Some(false) => ExitCode::FAILURE,
+        None => ExitCode::from(2),
+    }
 }
