@@ -8,4 +8,3 @@ pub mod PermissionLaws
 pub mod JumpLaws
 pub mod Unique
 pub mod Infinite
-pub mod Examples
