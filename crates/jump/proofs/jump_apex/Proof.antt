@@ -1,12 +1,12 @@
--- `policy::jump::jump_apex` meets its contract. The invariant: the answer for the whole jump is the answer for what is left of its ticks, from where it is now. Assumes nothing.
+-- `jump::jump_apex` meets its contract. The invariant: the answer for the whole jump is the answer for what is left of its ticks, from where it is now. Assumes nothing.
 use mathlib.Core.Path.{_≡_, refl, sym, ap, _∙_}
 use Prim.Native.Nat.{_≤_, _-_}
 use native.Mathlib.Omega.{arith}
 use lib.Ieee.{ofBits}
-use Rattle.policy.specs.JumpLaws.{endless, at-rest, ticked, drag-bits}
-use Rattle.policy.specs.Jump.{jumpApex, apexOf, after}
-use Rattle.policy.proofs.jump.jump_apex.Statement.{statement}
-use Rattle.policy.proofs.jump.jump_apex.Tie as tie
+use Rattle.jump.specs.Laws.{endless, at-rest, ticked, drag-bits}
+use Rattle.jump.specs.Jump.{jumpApex, apexOf, after}
+use Rattle.jump.proofs.jump_apex.Statement.{statement}
+use Rattle.jump.proofs.jump_apex.Tie as tie
 
 abbrev Inv-loop : tie.InvT-loop
 Inv-loop power gravity height₀ velocity₀ ticks₀ height velocity ticks =

@@ -5,7 +5,7 @@ use mathlib.Core.List.{[], _∷_}
 use Prim.Native.Nat.{ℕ, zero, suc, _+_, _-_, _<_}
 use native.Mathlib.Omega.{arith}
 use lib.Ieee.{Float, binary64, ofBits, round}
-use Rattle.policy.specs.Jump.{Jump, rises, tick, after, apexOf, drag}
+use Rattle.jump.specs.Jump.{Jump, rises, tick, after, apexOf, drag}
 
 -- 0.98 as the code holds it
 pub drag-bits : drag ≡ ofBits binary64 0x3fef_5c28_f5c2_8f5c

@@ -1,7 +1,7 @@
 // The height of a jump, tick by tick (01, Policy: "Only the jump apex, a call of its own, gives 6").
 ghost use mathlib.Core.Path.{_≡_};
-ghost use Rattle.policy.specs.Answers.{apexAnswer};
-ghost use Rattle.policy.specs.Jump.{jumpApex};
+ghost use Rattle.jump.specs.Answers.{apexAnswer};
+ghost use Rattle.jump.specs.Jump.{jumpApex};
 
 // What is left of a vertical velocity after a tick.
 const LIVING_VERTICAL_DRAG: f64 = 0.98;

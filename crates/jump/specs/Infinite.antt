@@ -5,8 +5,8 @@ use mathlib.Core.List.{[], _∷_}
 use Prim.Native.Nat.{ℕ, zero, suc}
 use lib.IntN.{ℤ, pos}
 use lib.Ieee.{Float, nan, inf, fin, binary64, add, sub, mul, neg, lt, round}
-use Rattle.policy.specs.Jump.{Jump, none, drag, rises, tick, after, apexOf, jumpApex}
-use Rattle.policy.specs.JumpLaws.{at-rest, goes}
+use Rattle.jump.specs.Jump.{Jump, none, drag, rises, tick, after, apexOf, jumpApex}
+use Rattle.jump.specs.Laws.{at-rest, goes}
 
 -- a jump that rose without end
 abbrev boundless : Jump
