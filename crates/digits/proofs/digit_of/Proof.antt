@@ -1,8 +1,8 @@
--- `report::digits::digit_of` meets its contract. Assumes nothing.
+-- `digits::digit_of` meets its contract. Assumes nothing.
 use native.Mathlib.Omega.{arith}
-use Rattle.report.specs.DigitLaws.{low-digit, high-digit}
-use Rattle.report.proofs.digits.digit_of.Statement.{statement}
-use Rattle.report.proofs.digits.digit_of.Tie as tie
+use Rattle.digits.specs.Laws.{low-digit, high-digit}
+use Rattle.digits.proofs.digit_of.Statement.{statement}
+use Rattle.digits.proofs.digit_of.Tie as tie
 
 add-result : tie.Need-add-result
 add-result c = record { fits = omega arith }

@@ -1,11 +1,11 @@
--- `report::digits::places_of` meets its contract. Assumes nothing.
+-- `digits::places_of` meets its contract. Assumes nothing.
 use Prim.Native.Nat.{_+_, _≤_}
 use mathlib.Core.Path.{_≡_}
-use Rattle.report.specs.Digits.{places}
-use Rattle.report.specs.DigitLaws.{one-place, more-places, most-places, some-place}
+use Rattle.digits.specs.Digits.{places}
+use Rattle.digits.specs.Laws.{one-place, more-places, most-places, some-place}
 use native.Mathlib.Omega.{arith}
-use Rattle.report.proofs.digits.places_of.Statement.{statement}
-use Rattle.report.proofs.digits.places_of.Tie as tie
+use Rattle.digits.proofs.places_of.Statement.{statement}
+use Rattle.digits.proofs.places_of.Tie as tie
 
 abbrev Inv-loop : tie.InvT-loop
 Inv-loop v n₀ rest₀ n rest = n + places rest ≡ places v + 1

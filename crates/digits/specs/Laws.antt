@@ -5,13 +5,12 @@ use native.Mathlib.Nat.{pow-suc, pow-zero, div-lt-iff-lt-mul}
 use mathlib.Core.Path.{_≡_, refl, sym, ap, _∙_}
 use mathlib.Core.Bool.{Bool, true, false, cond}
 use mathlib.Core.List.{List, [], _∷_, _++_}
-use borrow.Author.Tests.{lt-ltb, le-ltb, ltb-true, ltb-false}
-use lib.Dec.{ltb}
+use borrow.Author.Tests.{lt-ltb, le-ltb, ltb-true, ltb-false, le-leb, lt-leb, leb-true, leb-false}
+use lib.Dec.{ltb, leb}
 use lib.ListN.{length, set, length-append}
 use lib.Seq.{sets, set-comm}
-use Rattle.report.specs.Digits.{digit, digits, placesBy, places, hex, decimal}
-use Rattle.report.specs.Writing.{Field}
-use Rattle.report.specs.LineLaws.{sets-append, field-is}
+use Rattle.digits.specs.Digits.{digit, digits, placesBy, places, hex, decimal}
+use Rattle.digits.specs.Writing.{withField, behind, Field, sets-append, placed}
 
 -- ---- a digit's byte
 
@@ -118,19 +117,53 @@ holds-places v = holds-by v v (omega arith)
 
 -- ---- numbers as fields of a line
 
--- digits that were stored, and the byte behind them
-digits-field : (s u : List ℕ) (at base n v end : ℕ) → u ≡ sets s at (digits base n v) → n ≤ 20 → Field s (set u (at + n) end) at (at + n + 1) (digits base n v) end
-digits-field s u at base n v end e h =
-    let size : length (digits base n v) ≡ n = length-digits base n v in
-    field-is s (set u (at + n) end) (digits base n v) at (at + n + 1) end
-    (ap (λ (l : List ℕ). set l (at + n) end) e ∙ ap (λ (k : ℕ). set (sets s at (digits base n v)) (at + k) end) (sym size))
-    (omega arith) (omega arith)
+-- a field's room, where a buffer has as much: by the difference, which cannot wrap
+pub room-by-difference : (n at : ℕ) → 21 ≤ n → leb at (n - 21) ≡ leb (at + 21) n
+room-by-difference n at h = go (leb at (n - 21)) refl
+  where
+    go : (t : Bool) → leb at (n - 21) ≡ t → t ≡ leb (at + 21) n
+    go true e = let l = leb-true at (n - 21) e in sym (le-leb (at + 21) n (omega arith))
+    go false e = let l = leb-false at (n - 21) e in sym (lt-leb (at + 21) n (omega arith))
 
-pub hex-field : (s u : List ℕ) (at v end : ℕ) → u ≡ sets s at (digits 16 16 v) → Field s (set u (at + 16) end) at (at + 16 + 1) (hex v) end
+-- the byte that ends them may come first
+pub ended : (s : List ℕ) (at base n v end : ℕ) → sets (set s (at + n) end) at (digits base n v) ≡ sets s at (digits base n v ++ (end ∷ []))
+ended s at base n v end =
+    let d = digits base n v in
+    let e : length d ≡ n = length-digits base n v in
+    sets-behind d s at (at + n) end (omega arith) ∙ ap (λ (k : ℕ). set (sets s at d) (at + k) end) (sym e) ∙ sym (sets-append d (end ∷ []) s at)
+
+module _ (f s : List ℕ) (at end : ℕ) where
+  -- no room: nothing is written
+  pub no-room : leb (at + 21) (length s) ≡ false → (at ≡ behind f at s) × (s ≡ withField f end at s)
+  unfolding withField behind
+  no-room h = (rw h, rw h)
+
+  pub in-room : (t : List ℕ) (r : ℕ) → leb (at + 21) (length s) ≡ true → r ≡ at + (length f + 1) → t ≡ sets s at (f ++ (end ∷ [])) → (r ≡ behind f at s) × (t ≡ withField f end at s)
+  unfolding withField behind
+  in-room t r h n e = (rw h n, rw h e)
+
+pub length-hex : (v : ℕ) → length (hex v) ≡ 16
 unfolding hex
-hex-field s u at v end e = digits-field s u at 16 16 v end e (omega arith)
+length-hex v = length-digits 16 16 v
 
-pub decimal-field : (s u : List ℕ) (at n v end : ℕ) → u ≡ sets s at (digits 10 n v) → n ≡ places v → n ≤ 20 →
-    Field s (set u (at + n) end) at (at + n + 1) (decimal v) end
+pub length-decimal : (v : ℕ) → length (decimal v) ≡ places v
 unfolding decimal
-decimal-field s u at n v end e p h = rw (← p) (digits-field s u at 10 n v end e h)
+length-decimal v = length-digits 10 (places v) v
+
+pub hex-is : (v : ℕ) → hex v ≡ digits 16 16 v
+unfolding hex
+hex-is v = refl
+
+pub decimal-is : (v n : ℕ) → n ≡ places v → decimal v ≡ digits 10 n v
+unfolding decimal
+decimal-is v n e = rw e
+
+-- for those who write a line: a number's field, and n bytes left behind it
+
+pub hex-field : {s t : List ℕ} {at r : ℕ} (v end n : ℕ) → (r ≡ behind (hex v) at s) × (t ≡ withField (hex v) end at s) → at + (21 + n) ≤ length s →
+    Field s t at r (hex v) end × (r + n ≤ length t)
+hex-field {s} {t} {at} {r} v end n e room = placed s t (hex v) at r end n room (omega (arith, length-hex v)) (e .0) (e .1)
+
+pub decimal-field : {s t : List ℕ} {at r : ℕ} (v end n : ℕ) → v < 2 ^ 64 → (r ≡ behind (decimal v) at s) × (t ≡ withField (decimal v) end at s) →
+    at + (21 + n) ≤ length s → Field s t at r (decimal v) end × (r + n ≤ length t)
+decimal-field {s} {t} {at} {r} v end n small e room = placed s t (decimal v) at r end n room (omega (arith, length-decimal v, most-places v small)) (e .0) (e .1)
