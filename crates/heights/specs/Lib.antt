@@ -1,4 +1,3 @@
 pub mod Heights
 pub mod Next
 pub mod Laws
-pub mod Examples

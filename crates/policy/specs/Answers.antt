@@ -1,13 +1,9 @@
--- The number and the values by which each answer is known. 6 and 8 are 01's refusals, EndlessJump and BadTable; where 01 has no number it is our own.
-use mathlib.Core.List.{List, [], _∷_}
+-- The number by which each answer is known. 8 is 01's refusal BadTable; the other numbers are our own.
 use Prim.Native.Nat.{ℕ}
-use lib.Ieee.{Float}
 use Rattle.policy.specs.declared.doors.Passage.{Passage}
 use Rattle.policy.specs.declared.doors.Passage.the-variants.{Shape, Through, Wall}
 use Rattle.policy.specs.declared.policy.Filled.{Filled}
 use Rattle.policy.specs.declared.policy.Filled.the-variants.{Whole, BadTable}
-use Rattle.policy.specs.declared.jump.Apex.{Apex}
-use Rattle.policy.specs.declared.jump.Apex.the-variants.{Height, Endless}
 
 abbrev pub shape : ℕ
 shape = 0
@@ -27,8 +23,3 @@ passageNumber Wall = wall
 abbrev pub filledNumber : Filled → ℕ
 filledNumber Whole = 0
 filledNumber BadTable = 8
-
--- a height is no refusal, and its value is the number of blocks
-abbrev pub apexAnswer : Apex → ℕ × List Float
-apexAnswer (Height h) = (0, h ∷ [])
-apexAnswer Endless = (6, [])

@@ -2,10 +2,6 @@ pub mod Flags
 pub mod Answers
 pub mod Doors
 pub mod Permission
-pub mod Jump
 pub mod Request
 pub mod PermissionLaws
-pub mod JumpLaws
 pub mod Unique
-pub mod Infinite
-pub mod Examples

@@ -1,6 +1,7 @@
 // What is known of a block state, a bit for each fact (01: "The six flag bits are named once").
 ghost use mathlib.Core.Path.{_≡_};
-ghost use Rattle.policy.specs.Flags.{has, WATER, DAMAGING, GRASS, DOOR, IRON-DOOR, OPEN};
+ghost use Prim.Native.Nat.{_<_};
+ghost use Rattle.policy.specs.Flags.{has};
 
 // A flag byte. Its two highest bits are not read.
 pub struct Flags {
@@ -12,6 +13,7 @@ impl Flags {
 
     pub const DAMAGING: u8 = 2;
 
+    // No rule of a search reads it.
     pub const GRASS: u8 = 4;
     // Any door half.
     pub const DOOR: u8 = 8;
@@ -20,39 +22,11 @@ impl Flags {
     // The half itself stands open.
     pub const OPEN: u8 = 32;
 
-    pub fn is_water(self) -> bool
-        ensures { λ r. ⌜ r ≡ has WATER (self .bits) ⌝ }
+    // Whether the flag of this weight is set.
+    pub(crate) fn has(self, flag: u8) -> bool
+        requires { ⌜ 0 < flag ⌝ }
+        ensures { λ r. ⌜ r ≡ has flag (self .bits) ⌝ }
     {
-        self.bits / Flags::WATER % 2 == 1
-    }
-
-    pub fn is_damaging(self) -> bool
-        ensures { λ r. ⌜ r ≡ has DAMAGING (self .bits) ⌝ }
-    {
-        self.bits / Flags::DAMAGING % 2 == 1
-    }
-
-    pub fn is_grass(self) -> bool
-        ensures { λ r. ⌜ r ≡ has GRASS (self .bits) ⌝ }
-    {
-        self.bits / Flags::GRASS % 2 == 1
-    }
-
-    pub fn is_door(self) -> bool
-        ensures { λ r. ⌜ r ≡ has DOOR (self .bits) ⌝ }
-    {
-        self.bits / Flags::DOOR % 2 == 1
-    }
-
-    pub fn is_iron_door(self) -> bool
-        ensures { λ r. ⌜ r ≡ has IRON-DOOR (self .bits) ⌝ }
-    {
-        self.bits / Flags::IRON_DOOR % 2 == 1
-    }
-
-    pub fn is_open(self) -> bool
-        ensures { λ r. ⌜ r ≡ has OPEN (self .bits) ⌝ }
-    {
-        self.bits / Flags::OPEN % 2 == 1
+        self.bits / flag % 2 == 1
     }
 }

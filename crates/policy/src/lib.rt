@@ -1,15 +1,12 @@
 // A mob's walking policy turned into what a search asks (01, Policy): how a door is met, the
-// permission byte of a block state, the permission table of a flag table, the fixed parts of the
-// request, and the height of a jump.
+// permission byte of a block state, the permission table of a flag table, and the fixed parts of the
+// request.
 pub mod doors;
 pub mod flags;
-pub mod jump;
 pub mod policy;
 
 pub use doors::Passage;
 pub use flags::Flags;
-pub use jump::Apex;
-pub use jump::jump_apex;
 pub use policy::Asked;
 pub use policy::Filled;
 pub use policy::WalkPolicy;

@@ -1,7 +1,9 @@
 // What one search may walk on and through, and the functions that make permission bytes of flags (01, Policy).
 ghost use mathlib.Core.Path.{_≡_};
+ghost use mathlib.Core.Bool.{true};
 ghost use Rattle.policy.specs.Answers.{passageNumber, filledNumber};
-ghost use Rattle.policy.specs.Doors.{doorPassage};
+ghost use Rattle.policy.specs.Doors.{doorPassage, doorCase};
+ghost use Rattle.policy.specs.Flags.{has, OPEN, IRON-DOOR};
 ghost use Rattle.policy.specs.Permission.{forbidden, permission, filled, permissionTable};
 ghost use Rattle.policy.specs.Request.{asked};
 use crate::doors::Passage;
@@ -51,43 +53,50 @@ pub struct Asked {
 }
 
 impl WalkPolicy {
-    // How a state with these flags is met. Only a breaker tells open from closed and iron from wood.
-    pub fn door_passage(self, flags: Flags) -> Passage
-        ensures { λ r. ⌜ passageNumber r ≡ doorPassage self (flags .bits) ⌝ }
+    // How a breaker meets a door with these flags. It alone tells open from closed and iron from wood.
+    fn breaker_passage(self, flags: Flags) -> Passage
+        ensures { λ r. ⌜ passageNumber r ≡ doorCase true true (self .«can_pass_doors») (self .«can_open_doors») (self .«can_open_iron_doors») (has OPEN (flags .bits)) (has IRON-DOOR (flags .bits)) ⌝ }
     {
-        if !flags.is_door() {
-            return Passage::Shape;
-        }
-        if !self.door_breaker {
-            if self.can_open_doors {
-                return Passage::Through;
-            }
-            if self.can_pass_doors {
-                return Passage::Shape;
-            }
-            return Passage::Wall;
-        }
         if !self.can_pass_doors {
             return Passage::Wall;
         }
-        if flags.is_open() {
+        if flags.has(Flags::OPEN) {
             return Passage::Shape;
         }
-        if flags.is_iron_door() {
-            if self.can_open_iron_doors {
-                return Passage::Through;
-            }
-            return Passage::Wall;
+        if !flags.has(Flags::IRON_DOOR) {
+            return Passage::Through;
         }
-        Passage::Through
+        if self.can_open_iron_doors {
+            return Passage::Through;
+        }
+        Passage::Wall
+    }
+
+    // How a state with these flags is met.
+    pub fn door_passage(self, flags: Flags) -> Passage
+        ensures { λ r. ⌜ passageNumber r ≡ doorPassage self (flags .bits) ⌝ }
+    {
+        if !flags.has(Flags::DOOR) {
+            return Passage::Shape;
+        }
+        if self.door_breaker {
+            return self.breaker_passage(flags);
+        }
+        if self.can_open_doors {
+            return Passage::Through;
+        }
+        if self.can_pass_doors {
+            return Passage::Shape;
+        }
+        Passage::Wall
     }
 
     // Whether a state with these flags is forbidden. A body in water may leave it, so water isn't then.
     fn forbids(self, in_water: bool, flags: Flags) -> bool
         ensures { λ r. ⌜ r ≡ forbidden self «in_water» (flags .bits) ⌝ }
     {
-        let water = self.avoid_water & !in_water & flags.is_water();
-        let damage = self.avoid_damage_blocks & flags.is_damaging();
+        let water = self.avoid_water & !in_water & flags.has(Flags::WATER);
+        let damage = self.avoid_damage_blocks & flags.has(Flags::DAMAGING);
         water | damage
     }
 

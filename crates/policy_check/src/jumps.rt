@@ -1,9 +1,9 @@
 // The jumps of the input, records of 24 bytes: the power's bits, 4 bytes that are not read, the
 // gravity's bits, 8 that are not read.
+use jump::Apex;
+use jump::jump_apex;
 use libc::STDIN_FILENO;
 use libc::STDOUT_FILENO;
-use policy::Apex;
-use policy::jump_apex;
 
 // The f32 of a bit pattern: every NaN pattern is the one NaN.
 fn power_of(pattern: u32) -> f32 {

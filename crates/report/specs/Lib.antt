@@ -1,5 +1,3 @@
-pub mod Digits
 pub mod Lines
-pub mod Writing
-pub mod DigitLaws
+pub mod Words
 pub mod LineLaws

@@ -1,38 +1,23 @@
 -- Laws of writing: a line is its fields, written one behind another.
 use Prim.Native.Nat.{ℕ, zero, suc, _+_, _*_, _/_, _<_, _≤_}
 use native.Mathlib.Omega.{arith}
-use native.Mathlib.Nat.{add-zero, zero-add}
-use native.Mathlib.Numerals.{add-one}
+use native.Mathlib.Nat.{zero-add}
 use mathlib.Core.Path.{_≡_, refl, sym, ap, _∙_}
 use mathlib.Core.Bool.{Bool, true, false, cond}
 use mathlib.Core.List.{List, [], _∷_, _++_, append-assoc}
 use borrow.Author.Tests.{lt-ltb, le-ltb, le-leb, lt-leb, eq-eqb, ne-eqb}
 use lib.Dec.{ltb}
-use lib.ListN.{length, getD, take, drop, set, length-append, drop-of-length-le}
-use lib.Seq.{sets, sets-eq, length-sets, drop-cons}
+use lib.ListN.{length, drop, length-append}
+use lib.Seq.{sets, sets-eq, length-sets}
 use lib.Ieee.{Float, binary64, toBits}
 use Rattle.fields.specs.Little.{field}
 use Rattle.report.specs.Lines.{recordOf, lineOne, refusedLine, firstLine, waypointFields, waypointLine, inBuffer, countIn}
-use Rattle.report.specs.Writing.{Wrote, Field, Whole}
+use Rattle.digits.specs.Writing.{Wrote, sets-append}
 
--- a run of stores in two parts
-pub sets-append : (a b s : List ℕ) (i : ℕ) → sets s i (a ++ b) ≡ sets (sets s i a) (i + length a) b
-sets-append [] b s i = rw (add-zero i)
-sets-append (x ∷ a) b s i = let there : i + suc (length a) ≡ suc i + length a = omega arith in rw there (sets-append a b (set s i x) (suc i))
-
--- a field, once its bytes and the one that ends it are stored
-pub field-is : (s t f : List ℕ) (at r end : ℕ) → t ≡ set (sets s at f) (at + length f) end → r ≡ at + length f + 1 → length f ≤ 20 → Field s t at r f end
-field-is s t f at r end e n h =
-    let is : t ≡ sets s at (f ++ (end ∷ [])) = e ∙ sym (sets-append f (end ∷ []) s at) in
-    let size : length (f ++ (end ∷ [])) ≡ length f + 1 = length-append f (end ∷ []) in
-    record { wrote = record { is = is; next = omega arith }; short = omega arith; size = ap length is ∙ length-sets s at (f ++ (end ∷ [])) }
-
--- a word, byte by byte: the whole is what is left to write
-pub one-byte : (s w : List ℕ) (at k : ℕ) → k < length w → sets s (at + k) (drop k w) ≡ sets (set s (at + k) (getD w k 0)) (at + (k + 1)) (drop (k + 1) w)
-one-byte s w at k h = let e : at + (k + 1) ≡ suc (at + k) = omega arith in rw (e, add-one k, drop-cons w k 0)
-
-pub no-byte : (s w : List ℕ) (at k : ℕ) → length w ≤ k → sets s (at + k) (drop k w) ≡ s
-no-byte s w at k h = rw (drop-of-length-le w h)
+-- a whole line was written at the start
+pub record Whole (old new : List ℕ) (r : ℕ) (line : List ℕ) : Type 0 where
+  pub is : new ≡ line ++ drop (length line) old
+  pub count : r ≡ length line
 
 -- a field and what is written behind it
 pub then : {s t u g : List ℕ} {at m r : ℕ} (f : List ℕ) (b : ℕ) → Wrote s t at m (f ++ (b ∷ [])) → Wrote t u m r g → Wrote s u at r (f ++ (b ∷ g))
@@ -48,9 +33,10 @@ then {s} {t} {u} {g} {at} {m} {r} f b first rest =
     }
 
 -- a line from the buffer's start
-pub whole : {s t l : List ℕ} {r : ℕ} → Wrote s t 0 r l → r ≤ length s → Whole s t r l
+pub whole : {s t l : List ℕ} {r : ℕ} → Wrote s t 0 r l → r + 0 ≤ length t → Whole s t r l
 whole {s} {t} {l} {r} w h =
     let n : r ≡ length l = w .next ∙ zero-add (length l) in
+    let size : length t ≡ length s = ap length (w .is) ∙ length-sets s 0 l in
     record {
       is = w .is ∙ sets-eq l s 0 (omega arith) ∙ ap (λ (k : ℕ). l ++ drop k s) (zero-add (length l));
       count = n;

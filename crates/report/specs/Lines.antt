@@ -6,7 +6,7 @@ use lib.Dec.{ltb, leb, eqb}
 use lib.ListN.{length, getD, drop}
 use lib.Ieee.{Float, binary64, toBits}
 use Rattle.fields.specs.Little.{field}
-use Rattle.report.specs.Digits.{hex, decimal}
+use Rattle.digits.specs.Digits.{hex, decimal}
 
 -- ---- words
 

@@ -1,11 +1,11 @@
 // walkprint's lines (01, "Scenes and walkprint"), each written at the start of a lent buffer. A line has at most 128 bytes: a buffer that is
 // shorter is left as it was, and the answer is 0.
 ghost use mathlib.Core.Path.{_≡_};
-ghost use Prim.Native.Nat.{_+_, _≤_, _<_};
+ghost use Prim.Native.Nat.{_≤_, _<_};
 ghost use lib.ListN.{length};
-ghost use Rattle.report.specs.Lines.{outcomeWord, movementWord, lineOne, recordOf, refusedLine, firstLine, waypointFields, waypointLine, inBuffer, countIn};
-ghost use Rattle.report.specs.Writing.{Field, Whole};
-use crate::digits;
+ghost use Rattle.report.specs.Lines.{lineOne, recordOf, refusedLine, firstLine, waypointFields, waypointLine, inBuffer, countIn};
+ghost use Rattle.report.specs.LineLaws.{Whole};
+use crate::words;
 
 // The room that every line has enough of.
 pub const ROOM: usize = 128;
@@ -13,60 +13,6 @@ pub const ROOM: usize = 128;
 const SPACE: u8 = 32;
 
 const NEWLINE: u8 = 10;
-
-// A word and a space. The answer is the offset behind it.
-fn put_word(out: &mut [u8], at: usize, word: &[u8]) -> usize
-    requires { ⌜ (at + 21 ≤ length (now out)) × (length (now word) ≤ 20) ⌝ }
-    ensures { λ r. ⌜ Field (now (out .entry)) (now (out .exit)) at r (now (word .entry)) 32 ⌝ }
-{
-    let mut k: usize = 0;
-    while k < word.len() {
-        out[at + k] = word[k];
-        k += 1;
-    }
-    out[at + k] = SPACE;
-    at + k + 1
-}
-
-// An outcome's word, by its number.
-fn put_outcome(out: &mut [u8], number: u64) -> usize
-    requires { ⌜ (21 ≤ length (now out)) × (number < 3) ⌝ }
-    ensures { λ r. ⌜ Field (now (out .entry)) (now (out .exit)) 0 r (outcomeWord number) 32 ⌝ }
-{
-    if number == 0 {
-        return put_word(out, 0, b"found");
-    }
-    if number == 1 {
-        return put_word(out, 0, b"unreachable");
-    }
-    put_word(out, 0, b"budgetexceeded")
-}
-
-// A movement's word, by its number.
-fn movement_word(movement: u64) -> [u8; 4]
-    requires { ⌜ movement ≤ 3 ⌝ }
-    ensures { λ r. ⌜ r ≡ movementWord movement ⌝ }
-{
-    if movement == 0 {
-        return [b'w', b'a', b'l', b'k'];
-    }
-    if movement == 1 {
-        return [b's', b't', b'e', b'p'];
-    }
-    if movement == 2 {
-        return [b'j', b'u', b'm', b'p'];
-    }
-    [b'd', b'r', b'o', b'p']
-}
-
-// The same, written.
-fn put_movement(out: &mut [u8], at: usize, movement: u64) -> usize
-    requires { ⌜ (at + 21 ≤ length (now out)) × (movement ≤ 3) ⌝ }
-    ensures { λ r. ⌜ Field (now (out .entry)) (now (out .exit)) at r (movementWord movement) 32 ⌝ }
-{
-    let word = movement_word(movement);
-    put_word(out, at, &word)
-}
 
 // Line 1 of a search that was not refused.
 fn line_one(
@@ -80,7 +26,7 @@ fn line_one(
     requires { ⌜ (128 ≤ length (now out)) × (number < 3) ⌝ }
     ensures { λ r. ⌜ Whole (now (out .entry)) (now (out .exit)) r (lineOne number waypoints retained closed bits) ⌝ }
 {
-    let a = put_outcome(out, number);
+    let a = words::put_word(out, 0, words::outcome_word(number));
     let b = digits::put_decimal(out, a, waypoints, SPACE);
     let c = digits::put_decimal(out, b, retained, SPACE);
     let d = digits::put_decimal(out, c, closed, SPACE);
@@ -99,7 +45,7 @@ fn refused_line(out: &mut [u8], number: u64, bad: u64) -> usize
     requires { ⌜ 128 ≤ length (now out) ⌝ }
     ensures { λ r. ⌜ Whole (now (out .entry)) (now (out .exit)) r (refusedLine number bad) ⌝ }
 {
-    let a = put_word(out, 0, b"refused");
+    let a = words::put_word(out, 0, words::REFUSED);
     let b = digits::put_decimal(out, a, number, SPACE);
     let named = record_of(number, bad);
     digits::put_decimal(out, b, named, NEWLINE)
@@ -148,7 +94,7 @@ fn waypoint_fields(
     ensures { λ r. ⌜ Whole (now (out .entry)) (now (out .exit)) r (waypointFields place movement x y z lift) ⌝ }
 {
     let a = digits::put_decimal(out, 0, place, SPACE);
-    let b = put_movement(out, a, movement);
+    let b = words::put_word(out, a, words::movement_word(movement));
     let c = digits::put_hex(out, b, x, SPACE);
     let d = digits::put_hex(out, c, y, SPACE);
     let e = digits::put_hex(out, d, z, SPACE);

@@ -4,4 +4,3 @@ pub mod Laws
 pub mod Rounds
 pub mod Pass
 pub mod PassLaws
-pub mod Examples

@@ -1,29 +1,38 @@
 -- `report::lines::waypoint_fields` meets its contract. Assumes nothing.
 use native.Mathlib.Omega.{arith}
-use Rattle.report.specs.Digits.{hex, decimal}
+use borrow.Author.Needs.{needs}
+use Rattle.digits.specs.Digits.{hex, decimal}
+use Rattle.digits.specs.Writing.{left}
+use Rattle.digits.specs.Laws.{hex-field, decimal-field}
 use Rattle.report.specs.Lines.{movementWord, waypointFields}
 use Rattle.report.specs.LineLaws.{then, whole}
-use borrow.Author.Needs.{needs}
 use Rattle.report.proofs.lines.waypoint_fields.Statement.{statement}
 use Rattle.report.proofs.lines.waypoint_fields.Tie as tie
 
 put-decimal-requires : tie.Need-put-decimal-requires
-put-decimal-requires c κs = omega arith
+put-decimal-requires c κs = tt
 
-put-movement-requires : tie.Need-put-movement-requires
-put-movement-requires c κs = (omega arith, omega arith)
+movement-word-requires : tie.Need-movement-word-requires
+movement-word-requires c κs = omega arith
+
+put-word-requires : tie.Need-put-word-requires
+put-word-requires c κs =
+    let start = c .before .before .before .before .before .before .before in
+    let place = decimal-field (start .args .place) 32 21 (start .fits .place .fits) (c .before .before .before .before .put-decimal .ensures) (omega (arith, start .pre)) in
+    let word = c .movement-word .ensures in
+    (place .1, word .inside, word .short)
 
 put-hex-requires : tie.Need-put-hex-requires
-put-hex-requires c κs = omega arith
+put-hex-requires c κs = tt
 
 put-hex-requires-2 : tie.Need-put-hex-requires-2
-put-hex-requires-2 c κs = omega arith
+put-hex-requires-2 c κs = tt
 
 put-hex-requires-3 : tie.Need-put-hex-requires-3
-put-hex-requires-3 c κs = omega arith
+put-hex-requires-3 c κs = tt
 
 put-hex-requires-4 : tie.Need-put-hex-requires-4
-put-hex-requires-4 c κs = omega arith
+put-hex-requires-4 c κs = tt
 
 same-length : tie.Need-same-length
 same-length c = search needs
@@ -31,34 +40,29 @@ same-length c = search needs
 returns : tie.Need-returns
 unfolding waypointFields
 returns c =
-    let lift-call = c .before .before in
-    let z-call = lift-call .before .before .before .before in
-    let y-call = z-call .before .before .before .before in
-    let x-call = y-call .before .before .before .before in
-    let movement-call = x-call .before .before .before .before in
-    let place-call = movement-call .before .before .before .before in
-    let start = place-call .before .before .before in
+    let start = c .before .before .before .before .before .before .before .before .before .before .before .before .before .before .before .before .before .before .before .before .before .before .before .before .before .before in
     let a = start .args in
-    let place = place-call .put-decimal .ensures in
-    let movement = movement-call .put-movement .ensures in
-    let x = x-call .put-hex .ensures in
-    let y = y-call .put-hex2 .ensures in
-    let z = z-call .put-hex3 .ensures in
-    let lift = lift-call .put-hex4 .ensures in
+    let place = decimal-field (a .place) 32 105 (start .fits .place .fits) (c .before .before .before .before .before .before .before .before .before .before .before .before .before .before .before .before .before .before .before .before .before .before .before .put-decimal .ensures) (omega (arith, start .pre)) in
+    let movement = rw (c .before .before .before .before .before .before .before .before .before .before .before .before .before .before .before .before .before .before .before .movement-word .ensures .is) at (c .before .before .before .before .before .before .before .before .before .before .before .before .before .before .before .before .before .before .put-word .ensures) in
+    let x = hex-field (a .x) 32 63 (c .before .before .before .before .before .before .before .before .before .before .before .before .before .before .put-hex .ensures) (left 84 movement (place .1)) in
+    let y = hex-field (a .y) 32 42 (c .before .before .before .before .before .before .before .before .before .before .put-hex2 .ensures) (x .1) in
+    let z = hex-field (a .z) 32 21 (c .before .before .before .before .before .before .put-hex3 .ensures) (y .1) in
+    let lift = hex-field (a .lift) 10 0 (c .before .before .put-hex4 .ensures) (z .1) in
     whole
-    (then (decimal (a .place)) 32 (place .wrote)
+    (then (decimal (a .place)) 32 (place .0 .wrote)
     (then (movementWord (a .movement)) 32 (movement .wrote)
-    (then (hex (a .x)) 32 (x .wrote)
-    (then (hex (a .y)) 32 (y .wrote)
-    (then (hex (a .z)) 32 (z .wrote) (lift .wrote))))))
-    (omega (arith, start .pre, place .short, movement .short, x .short, y .short, z .short, lift .short))
+    (then (hex (a .x)) 32 (x .0 .wrote)
+    (then (hex (a .y)) 32 (y .0 .wrote)
+    (then (hex (a .z)) 32 (z .0 .wrote) (lift .0 .wrote))))))
+    (lift .1)
 
 pub waypoint-fields-spec : {M : Type 1} → statement M
 waypoint-fields-spec =
     tie.close
     (tie.spec
     put-decimal-requires
-    put-movement-requires
+    movement-word-requires
+    put-word-requires
     put-hex-requires
     put-hex-requires-2
     put-hex-requires-3

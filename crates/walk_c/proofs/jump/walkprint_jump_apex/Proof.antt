@@ -4,7 +4,7 @@ use mathlib.Core.List.{List}
 use Prim.Native.Nat.{ℕ}
 use lib.Ieee.{Float}
 use denote.Ref.{now}
-use Rattle.policy.specs.Answers.{apexAnswer}
+use Rattle.jump.specs.Answers.{apexAnswer}
 use Rattle.walk_c.specs.Answers.{firstWritten}
 use borrow.Author.Needs.{needs}
 use Rattle.walk_c.proofs.jump.walkprint_jump_apex.Statement.{statement}

@@ -1,17 +1,18 @@
 -- `policy::policy::WalkPolicy::forbids` meets its contract. Assumes nothing.
+use borrow.Author.Needs.{needs}
 use Rattle.policy.specs.Permission.{forbidden}
 use Rattle.policy.proofs.policy.WalkPolicy.forbids.Statement.{statement}
 use Rattle.policy.proofs.policy.WalkPolicy.forbids.Tie as tie
 
-is-water-requires : tie.Need-is-water-requires
-is-water-requires c κs = tt
+has-requires : tie.Need-has-requires
+has-requires c κs = search needs
 
-is-damaging-requires : tie.Need-is-damaging-requires
-is-damaging-requires c κs = tt
+has-requires-2 : tie.Need-has-requires-2
+has-requires-2 c κs = search needs
 
 returns : tie.Need-returns
 unfolding forbidden
-returns c = cc
+returns c = rw (c .before .before .has .ensures, c .before .has2 .ensures)
 
 pub forbids-spec : {M : Type 1} → statement M
-forbids-spec = tie.close (tie.spec is-water-requires is-damaging-requires returns)
+forbids-spec = tie.close (tie.spec has-requires has-requires-2 returns)

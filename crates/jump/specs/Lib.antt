@@ -1,0 +1,4 @@
+pub mod Answers
+pub mod Jump
+pub mod Laws
+pub mod Infinite
