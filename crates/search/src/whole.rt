@@ -36,11 +36,11 @@ fn conclude(nodes: &[u8], goal: Feet, turn: Turn, out: &mut [u8]) -> Answer
         Turn::Rest(c) => verdict(c),
         Turn::Going(c) => verdict(c),
         Turn::At(c, k) => {
-            let count = rooms::list_at(nodes, c.retained, k, out);
+            let count = lists::list_at(nodes, c.retained, k, out);
             Answer { outcome: Outcome::Found, count, retained: c.retained, closed: c.closed }
         }
         Turn::By(c, k, label) => {
-            let count = rooms::list_by(nodes, c.retained, k, goal, label, out);
+            let count = lists::list_by(nodes, c.retained, k, goal, label, out);
             Answer { outcome: Outcome::Found, count, retained: c.retained, closed: c.closed }
         }
     }
@@ -73,6 +73,6 @@ pub(crate) fn search(
     let begun = visits::begin(nodes, front, budget, start);
     let turn = spin(w, cells, perms, shapes, boxes, r, body, nodes, front, aim, begun, budget);
     let answer = conclude(nodes, goal, turn, out);
-    rooms::zero(front);
+    writes::zero(front);
     answer
 }
