@@ -13,7 +13,7 @@ ghost use Rattle.scans.specs.Laws.{Holds};
 fn is_at(nodes: &[u8], i: usize, q: Feet) -> bool
     ensures { λ r. ⌜ r ≡ samePoint (nodeAt (now (nodes .entry)) i .feet) q ⌝ }
 {
-    points::same_point(rooms::get_feet(nodes, i), q)
+    equal_points::same_point(rooms::get_feet(nodes, i), q)
 }
 
 // The first of n nodes at a point, or n.

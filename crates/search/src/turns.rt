@@ -43,7 +43,7 @@ pub(crate) fn expand(
     let shut = closing.counts;
     let feet = node.feet;
     let goal = aim.goal;
-    let arrived = points::same_point(feet, goal);
+    let arrived = equal_points::same_point(feet, goal);
     if arrived {
         return Turn::At(shut, k);
     }

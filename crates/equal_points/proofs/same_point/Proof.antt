@@ -1,8 +1,8 @@
--- `points::same_point` meets its contract. Assumes nothing.
+-- `equal_points::same_point` meets its contract. Assumes nothing.
 use mathlib.Core.Bool.{_&&_}
 use Rattle.rooms.specs.Waypoints.{samePoint}
-use Rattle.points.proofs.same_point.Statement.{statement}
-use Rattle.points.proofs.same_point.Tie as tie
+use Rattle.equal_points.proofs.same_point.Statement.{statement}
+use Rattle.equal_points.proofs.same_point.Tie as tie
 
 same-word-requires : tie.Need-same-word-requires
 same-word-requires c κs = tt

@@ -1,8 +1,8 @@
--- `points::same_word` meets its contract. Assumes nothing.
+-- `equal_points::same_word` meets its contract. Assumes nothing.
 use lib.Dec.{eqb}
 use Rattle.rooms.specs.Waypoints.{sameWord}
-use Rattle.points.proofs.same_word.Statement.{statement}
-use Rattle.points.proofs.same_word.Tie as tie
+use Rattle.equal_points.proofs.same_word.Statement.{statement}
+use Rattle.equal_points.proofs.same_word.Tie as tie
 
 canonical-word-requires : tie.Need-canonical-word-requires
 canonical-word-requires c κs = tt

@@ -1,8 +1,8 @@
--- `points::canonical_word` meets its contract. Assumes nothing.
+-- `equal_points::canonical_word` meets its contract. Assumes nothing.
 use borrow.Author.Tests.{eq-eqb, ne-eqb}
 use Rattle.rooms.specs.Waypoints.{canonicalWord}
-use Rattle.points.proofs.canonical_word.Statement.{statement}
-use Rattle.points.proofs.canonical_word.Tie as tie
+use Rattle.equal_points.proofs.canonical_word.Statement.{statement}
+use Rattle.equal_points.proofs.canonical_word.Tie as tie
 
 returns : tie.Need-returns
 unfolding canonicalWord
