@@ -56,11 +56,11 @@ pub fn conclude(nodes: &[u8], goal: Feet, turn: Turn, out: &mut [u8]) -> Answer
         Turn::Rest(c) => verdict(c),
         Turn::Going(c) => verdict(c),
         Turn::At(c, k) => {
-            let count = rooms::list_at(nodes, c.retained, k, out);
+            let count = lists::list_at(nodes, c.retained, k, out);
             Answer { outcome: Outcome::Found, count, retained: c.retained, closed: c.closed }
         }
         Turn::By(c, k, label) => {
-            let count = rooms::list_by(nodes, c.retained, k, goal, label, out);
+            let count = lists::list_by(nodes, c.retained, k, goal, label, out);
             Answer { outcome: Outcome::Found, count, retained: c.retained, closed: c.closed }
         }
     }

@@ -15,6 +15,10 @@ waypointLayout = 8 ∷ 8 ∷ 8 ∷ 8 ∷ 8 ∷ []
 abbrev pub waypointWords : Feet → Label → List ℕ
 waypointWords p l = p .x ∷ p .y ∷ p .z ∷ l .lift ∷ l .movement ∷ []
 
+-- a list with waypoint k written
+unfoldable pub withWaypoint : List ℕ → ℕ → Feet → Label → List ℕ
+withWaypoint out k p l = withRecord waypointLayout out (40 * k) (waypointWords p l)
+
 abbrev pub feetFrom : List ℕ → Feet
 feetFrom vs = record { x = getD vs 0 0; y = getD vs 1 0; z = getD vs 2 0 }
 

@@ -1,23 +1,13 @@
 // The rooms of the search (01, "Tables, little-endian records"): node records, frontier records, and the list that is written of them.
 //
-// The types stand here, as the raw words of the records, so that whatever bytes a room holds are read and written back as they were. `records` reads and
-// writes one record, `scans` looks through a room, `lists` writes the found list. Every public function answers for every room: a record past the room's
-// end is read as zeros, and a write past it changes nothing.
-pub mod lists;
-pub mod records;
-pub mod scans;
+// The types stand here, as the raw words of the records, so that whatever bytes a room holds are read and written back as they were. `records` reads one
+// record; the crates `writes`, `scans` and `lists` write one, look through a room, and write the found list. Every public function answers for every room:
+// a record past the room's end is read as zeros.
+mod records;
 
-pub use lists::list_at;
-pub use lists::list_by;
 pub use records::get_entry;
+pub use records::get_feet;
 pub use records::get_node;
-pub use records::put_entry;
-pub use records::put_node;
-pub use scans::pick;
-pub use scans::same_point;
-pub use scans::same_word;
-pub use scans::seek;
-pub use scans::zero;
 
 // The feet of a waypoint: the patterns of three f64.
 pub struct Feet {

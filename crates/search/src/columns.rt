@@ -47,7 +47,7 @@ fn step_to(
     };
     let feet = steps::feet_of(way.feet);
     let label = steps::label_of(way);
-    let counts = visits::visit(nodes, front, aim, at.number, at.node, c.counts, feet, label);
+    let counts = reach::visit(nodes, front, aim, at.number, at.node, c.counts, feet, label);
     let flat = steps::is_level(at.point, way.feet);
     Column { counts, level: c.level | flat }
 }

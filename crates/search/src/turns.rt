@@ -34,7 +34,7 @@ pub(crate) fn expand(
     ensures { λ t. ⌜ Turned aim (space w (now (cells .entry)) (now (perms .entry)) (now (shapes .entry)) (now (boxes .entry))) r body c t (now (nodes .entry)) (now (front .entry)) (now (nodes .exit)) (now (front .exit)) ⌝ }
 {
     let n = c.retained;
-    let k = rooms::pick(front, n);
+    let k = scans::pick(front, n);
     if n <= k {
         return Turn::Rest(c);
     }
@@ -43,7 +43,7 @@ pub(crate) fn expand(
     let shut = closing.counts;
     let feet = node.feet;
     let goal = aim.goal;
-    let arrived = rooms::same_point(feet, goal);
+    let arrived = equal_points::same_point(feet, goal);
     if arrived {
         return Turn::At(shut, k);
     }

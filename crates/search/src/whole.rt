@@ -40,6 +40,6 @@ pub(crate) fn search(
     let begun = visits::begin(nodes, front, budget, start);
     let turn = spin(w, cells, perms, shapes, boxes, r, body, nodes, front, aim, begun, budget);
     let answer = outcomes::conclude(nodes, goal, turn, out);
-    rooms::zero(front);
+    writes::zero(front);
     answer
 }

@@ -10,7 +10,7 @@ use Rattle.rooms.specs.declared.Label.{Label}
 use Rattle.rooms.specs.declared.Entry.{Entry}
 use Rattle.rooms.specs.Scans.{waits}
 use Rattle.rooms.specs.Rooms.{Note, nodeWaits, nodeSooner}
-use Rattle.visits.specs.Costs.{costBy, estimateBy, cheaper, pushedAs, lowered}
+use Rattle.costs.specs.Costs.{costBy, estimateBy, cheaper, pushedAs, lowered}
 
 abbrev pub opened : ℕ → Entry → Note
 opened c e = record { cost = c; mark = 0; entry = e }

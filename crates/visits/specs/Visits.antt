@@ -20,7 +20,7 @@ use Rattle.rooms.specs.Laws.Rooms.{BySamePoint}
 use Rattle.rooms.specs.Laws.Writes.{PutNode, PutEntry}
 use Rattle.visits.specs.declared.Aim.{Aim}
 use Rattle.visits.specs.declared.Closing.{Closing}
-use Rattle.visits.specs.Costs.{pushedAs}
+use Rattle.costs.specs.Costs.{pushedAs}
 use Rattle.visits.specs.Best.{relaxed, best}
 
 -- rooms large enough for a budget whose nodes have numbers below none's, and counts that can grow by d

@@ -9,7 +9,7 @@ ghost use Rattle.walk_back.specs.Listed.{listedAt, feet, label};
 ghost use Rattle.walk_back.specs.Laws.{leadsTo};
 use edges::Waypoint;
 use rooms::Feet;
-use rooms::same_word;
+use equal_points::same_word;
 use world::Point;
 
 // A waypoint record as its words: the patterns of the feet and of the lift, and the movement's number.
@@ -57,7 +57,7 @@ fn same_feet(p: Point, v: Listed) -> bool
     ensures { λ r. ⌜ r ≡ samePoint (feetOf p) (feet v) ⌝ }
 {
     let feet = steps::feet_of(p);
-    rooms::same_point(
+    equal_points::same_point(
         feet,
         Feet {
             x: v.x,
@@ -96,7 +96,7 @@ pub(crate) fn is_goal(goal: Point, v: Listed) -> bool
     ensures { λ r. ⌜ r ≡ samePoint (feet v) (feetOf goal) ⌝ }
 {
     let feet = steps::feet_of(goal);
-    rooms::same_point(
+    equal_points::same_point(
         Feet {
             x: v.x,
             y: v.y,

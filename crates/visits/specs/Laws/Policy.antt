@@ -11,7 +11,7 @@ use Rattle.rooms.specs.declared.Feet.{Feet}
 use Rattle.rooms.specs.declared.Entry.{Entry}
 use Rattle.rooms.specs.Scans.{waits}
 use Rattle.rooms.specs.Rooms.{Note, nodeWaits, nodeSooner}
-use Rattle.visits.specs.Costs.{float, costBy, estimateBy, cheaper, loweredBy, lowered}
+use Rattle.costs.specs.Costs.{float, costBy, estimateBy, cheaper, loweredBy, lowered}
 use Rattle.visits.specs.Best.{opened, given, relaxed, best}
 
 given-is : {A : Type 0} (b : Bool) (x r : A) → given b x ≡ some r → x ≡ r

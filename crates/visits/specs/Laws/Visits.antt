@@ -29,7 +29,7 @@ use Rattle.rooms.specs.Laws.Writes.{WroteNode, WroteEntry, PutNode, PutEntry}
 use Rattle.rooms.specs.Laws.Rooms.{BySamePoint, nodes-set, nodes-more, seek-none, seek-some}
 use Rattle.visits.specs.declared.Aim.{Aim}
 use Rattle.visits.specs.declared.Closing.{Closing}
-use Rattle.visits.specs.Costs.{costBy, estimateBy, cheaper, pushedAs, lowered}
+use Rattle.costs.specs.Costs.{costBy, estimateBy, cheaper, pushedAs, lowered}
 use Rattle.visits.specs.Best.{opened, idle, given, relaxed, best}
 use Rattle.visits.specs.Visits.{Ready, ready, Kept, Untouched, Near, Seen, Visited, VisitedIf, Closed, ClosedIf, startRecord, counted, Started, Begun}
 

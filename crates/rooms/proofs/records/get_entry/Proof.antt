@@ -6,8 +6,7 @@ use lib.Dec.{lit≤}
 use mir.Syntax.{w64}
 use mir.Val.{Fits}
 use denote.Ref.{now}
-use Rattle.rooms.specs.Laws.Fields.{entry-read}
-use Rattle.rooms.specs.Laws.Writes.{entry-out}
+use Rattle.rooms.specs.Laws.Fields.{entry-read, entry-out}
 use Rattle.rooms.proofs.records.get_entry.Statement.{statement}
 use Rattle.rooms.proofs.records.get_entry.Tie as tie
 

@@ -7,8 +7,7 @@ use lib.ListN.{length}
 use mir.Syntax.{w64}
 use mir.Val.{Fits}
 use denote.Ref.{now}
-use Rattle.rooms.specs.Laws.Fields.{node-read}
-use Rattle.rooms.specs.Laws.Writes.{node-out}
+use Rattle.rooms.specs.Laws.Fields.{node-read, node-out}
 use Rattle.rooms.proofs.records.get_node.Statement.{statement}
 use Rattle.rooms.proofs.records.get_node.Tie as tie
 

@@ -1,0 +1,114 @@
+// A point that a step reaches (01, "Search"): a new one is retained while there is room and else counted as dropped, an open one may be re-parented.
+//
+// `visit` answers for every input. Where the rooms are too small for the budget, or the counts are no counts of such a search, it leaves all as it is.
+use costs::cheaper;
+use costs::cost_by;
+use costs::estimate;
+use costs::lowered;
+use costs::pushed_as;
+use rooms::Counts;
+use rooms::Entry;
+use rooms::Feet;
+use rooms::Label;
+use rooms::NodeRecord;
+use visits::Aim;
+ghost use Prim.Native.Nat.{_+_, _*_, _≤_, _<_};
+ghost use lib.ListN.{length};
+ghost use Rattle.rooms.specs.Rooms.{nobody};
+ghost use Rattle.rooms.specs.Laws.Writes.{WroteNode, WroteEntry};
+ghost use Rattle.visits.specs.Laws.Visits.{childRecord};
+ghost use Rattle.visits.specs.Visits.{Ready, Seen, VisitedIf};
+
+// Node j written as an open node that is reached from node k, with its entry.
+fn put_open(
+    nodes: &mut [u8],
+    front: &mut [u8],
+    j: usize,
+    k: usize,
+    feet: Feet,
+    label: Label,
+    cost: u64,
+    entry: Entry,
+)
+    requires { ⌜ (56 * j + 56 ≤ length (now nodes)) × (24 * j + 24 ≤ length (now front)) × (k < nobody) ⌝ }
+    ensures { λ _. ⌜ WroteNode (now (nodes .entry)) j (childRecord k feet label cost) (now (nodes .exit)) × WroteEntry (now (front .entry)) j entry (now (front .exit)) ⌝ }
+{
+    let node = NodeRecord {
+        feet,
+        label,
+        cost,
+        parent: k as u32,
+        closed: 0,
+    };
+    writes::put_node(nodes, j, node);
+    writes::put_entry(front, j, entry);
+}
+
+// A step to a point that is retained already, as node j.
+fn again(
+    nodes: &mut [u8],
+    front: &mut [u8],
+    aim: Aim,
+    k: usize,
+    mut c: Counts,
+    j: usize,
+    cost: u64,
+    to: Feet,
+    label: Label,
+) -> Counts
+    requires { ⌜ Ready (now nodes) (now front) (aim .budget) 1 c ⌝ }
+    requires { ⌜ (j < c .retained) × (k < c .retained) ⌝ }
+    ensures { λ r. ⌜ Seen aim k c j cost to label r (now (nodes .entry)) (now (front .entry)) (now (nodes .exit)) (now (front .exit)) ⌝ }
+{
+    let old = rooms::get_node(nodes, j);
+    if old.closed != 0 {
+        return c;
+    }
+    let better = cheaper(cost, old.cost);
+    if !better {
+        return c;
+    }
+    let waiting = rooms::get_entry(front, j);
+    let e = estimate(aim.goal, cost, to);
+    let entry = lowered(e, waiting, c.pushed);
+    let feet = old.feet;
+    put_open(nodes, front, j, k, feet, label, cost, entry);
+    c.pushed += 1;
+    c
+}
+
+// A step that an expansion of node k, which is `from`, found: to a known point it may re-parent, a new point is retained while there is room, and else
+// counted as dropped.
+pub fn visit(
+    nodes: &mut [u8],
+    front: &mut [u8],
+    aim: Aim,
+    k: usize,
+    from: NodeRecord,
+    mut c: Counts,
+    to: Feet,
+    label: Label,
+) -> Counts
+    ensures { λ r. ⌜ VisitedIf aim k from c to label r (now (nodes .entry)) (now (front .entry)) (now (nodes .exit)) (now (front .exit)) ⌝ }
+{
+    let ready = visits::is_ready(nodes.len(), front.len(), aim.budget, k, c);
+    if !ready {
+        return c;
+    }
+    let n = c.retained;
+    let j = scans::seek(nodes, n, to);
+    let cost = cost_by(from.cost, from.feet, to);
+    if j < n {
+        return again(nodes, front, aim, k, c, j, cost, to, label);
+    }
+    if aim.budget <= n {
+        c.dropped += 1;
+        return c;
+    }
+    let e = estimate(aim.goal, cost, to);
+    let entry = pushed_as(e, c.pushed);
+    put_open(nodes, front, n, k, to, label, cost, entry);
+    c.retained = n + 1;
+    c.pushed += 1;
+    c
+}

@@ -1,0 +1,2 @@
+-- Scans of the rooms. The definitions are those of `rooms`. What is proved of them: Laws.
+pub mod Laws
