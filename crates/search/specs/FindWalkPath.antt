@@ -14,7 +14,8 @@ use Rattle.world.specs.Space.{Space, space}
 use Rattle.tables.specs.BadWorld.{badWorld}
 use Rattle.request.specs.Request.{validRequest, tooLarge}
 use Rattle.ends.specs.Ends.{endsGood}
-use Rattle.steps.specs.Words.{feetOf, graph}
+use Rattle.words.specs.Words.{feetOf}
+use Rattle.steps.specs.Graph.{graph}
 use Rattle.rooms.specs.declared.Feet.{Feet}
 use Rattle.rooms.specs.declared.Label.{Label}
 use Rattle.rooms.specs.Lists.{listBytes}
