@@ -20,12 +20,15 @@ use Rattle.world.specs.Space.{Space}
 use Rattle.request.specs.Laws.{FinitePoint}
 use Rattle.clear.specs.Clear.{clear}
 use Rattle.support.specs.Support.{supported}
-use Rattle.edges.specs.declared.answer.Movement.the-variants.{Walk}
-use Rattle.edges.specs.declared.answer.EdgeAnswer.the-variants.{To}
-use Rattle.edges.specs.Edges.{inRange, standable, moving, raised, across, up, swept, wayClear, passable, edge, near, connector}
+use Rattle.moves.specs.declared.answer.Movement.the-variants.{Walk}
+use Rattle.moves.specs.declared.answer.EdgeAnswer.the-variants.{To}
+use Rattle.moves.specs.Moves.{moving}
+use Rattle.places.specs.Places.{inRange, standable, near}
+use Rattle.edges.specs.Edges.{raised, across, up, swept, wayClear, passable, edge, connector}
 use Rattle.rooms.specs.declared.Feet.{Feet}
-use Rattle.rooms.specs.Waypoints.{canonicalWord, sameWord, samePoint}
-use Rattle.steps.specs.Words.{coordinate, pointOf, feetOf, labelOf, standing, graph}
+use Rattle.rooms.specs.Waypoints.{canonicalWord, sameWord, samePoint, standing}
+use Rattle.words.specs.Words.{coordinate, pointOf, feetOf, labelOf}
+use Rattle.steps.specs.Graph.{graph}
 use Rattle.arrival.specs.Alike.{Alike, Zero, zero-alike, nought-zero, finite-alike, sub-alike, no-difference, with-zero, lt-alike, le-alike, absolute-alike}
 use Rattle.arrival.specs.Areas.{AlikePoint, ZeroPoint, Held, swept-alike, clear-alike, supported-alike}
 

@@ -16,11 +16,12 @@ use Rattle.tables.specs.BadWorld.{badWorld}
 use Rattle.tables.specs.Good.{GoodWorld, not-bad-is-good}
 use Rattle.heights.specs.declared.Band.{Band}
 use Rattle.heights.specs.Heights.{tops, insert, sorted, within, thinnedAfter, thinned, heights}
-use Rattle.edges.specs.declared.answer.EdgeAnswer.{EdgeAnswer}
-use Rattle.edges.specs.declared.answer.EdgeAnswer.the-variants.{To, Nowhere}
+use Rattle.moves.specs.declared.answer.EdgeAnswer.{EdgeAnswer}
+use Rattle.moves.specs.declared.answer.EdgeAnswer.the-variants.{To, Nowhere}
 use Rattle.edges.specs.Edges.{edge}
 use Rattle.steps.specs.declared.columns.Centre.{Centre}
-use Rattle.steps.specs.Columns.{centreOf, bandOf, target, ahead, lookedBy, edgesAt, columnSteps, sides, columnIf, stepsFrom}
+use Rattle.sides.specs.Sides.{lookedBy}
+use Rattle.steps.specs.Columns.{centreOf, bandOf, target, ahead, edgesAt, columnSteps, sides, columnIf, stepsFrom}
 use Rattle.bounds.specs.Gathers.{gather-each}
 use Rattle.bounds.specs.Layers.{column-tops}
 

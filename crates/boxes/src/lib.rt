@@ -1,7 +1,7 @@
-// What is done with points and boxes (01, "Boxes"): a box is two corners of three numbers each. One rounding per operation, in the source's order.
-// The types and the definitions are `world`'s, whose space is made of boxes.
+// What is done with boxes (01, "Boxes"): a box is two corners of three numbers each. One rounding per operation, in the source's order; what is done with
+// the corners is `points`. The types and the definitions are `world`'s, whose space is made of boxes.
 ghost use mathlib.Core.Path.{_≡_};
-ghost use Rattle.world.specs.Boxes.{meets, corner, plus, minus, moved, cube, voxel, fromFeet, minZero, maxZero, expandTowards};
+ghost use Rattle.world.specs.Boxes.{meets, moved, cube, voxel, fromFeet, minZero, maxZero, expandTowards};
 use world::Aabb;
 use world::Point;
 
@@ -17,46 +17,13 @@ pub fn intersects(a: Aabb, b: Aabb) -> bool
         & (b.min.z < a.max.z)
 }
 
-// A cell's least corner.
-pub fn corner_of(x: i64, y: i64, z: i64) -> Point
-    ensures { λ r. ⌜ r ≡ corner x y z ⌝ }
-{
-    Point {
-        x: cells::float_cell(x),
-        y: cells::float_cell(y),
-        z: cells::float_cell(z),
-    }
-}
-
-// The sum of two points, axis by axis.
-pub fn sum(p: Point, q: Point) -> Point
-    ensures { λ r. ⌜ r ≡ plus p q ⌝ }
-{
-    Point {
-        x: p.x + q.x,
-        y: p.y + q.y,
-        z: p.z + q.z,
-    }
-}
-
-// p - q, axis by axis.
-pub fn difference(p: Point, q: Point) -> Point
-    ensures { λ r. ⌜ r ≡ minus p q ⌝ }
-{
-    Point {
-        x: p.x - q.x,
-        y: p.y - q.y,
-        z: p.z - q.z,
-    }
-}
-
 // A box moved by a point.
 pub fn offset(b: Aabb, by: Point) -> Aabb
     ensures { λ r. ⌜ r ≡ moved b by ⌝ }
 {
     Aabb {
-        min: sum(b.min, by),
-        max: sum(b.max, by),
+        min: points::sum(b.min, by),
+        max: points::sum(b.max, by),
     }
 }
 
@@ -84,7 +51,7 @@ pub fn voxel_at(p: Point) -> Aabb
 {
     Aabb {
         min: p,
-        max: sum(
+        max: points::sum(
             p,
             Point {
                 x: 1.0,
@@ -140,7 +107,7 @@ pub fn expand_towards(b: Aabb, delta: Point) -> Aabb
     ensures { λ r. ⌜ r ≡ expandTowards b delta ⌝ }
 {
     Aabb {
-        min: sum(b.min, min_zero(delta)),
-        max: sum(b.max, max_zero(delta)),
+        min: points::sum(b.min, min_zero(delta)),
+        max: points::sum(b.max, max_zero(delta)),
     }
 }

@@ -14,7 +14,7 @@ use Rattle.world.specs.declared.Body.{Body}
 use Rattle.world.specs.declared.Request.{Request}
 use Rattle.world.specs.declared.Window.{Window}
 use Rattle.world.specs.Space.{Space, space}
-use Rattle.steps.specs.Words.{graph}
+use Rattle.steps.specs.Graph.{graph}
 use Rattle.rooms.specs.declared.Feet.{Feet}
 use Rattle.rooms.specs.declared.Label.{Label}
 use Rattle.rooms.specs.Lists.{listBytes}

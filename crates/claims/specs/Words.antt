@@ -10,8 +10,8 @@ use Rattle.world.specs.declared.Body.{Body}
 use Rattle.world.specs.declared.Request.{Request}
 use Rattle.world.specs.Space.{Space}
 use Rattle.request.specs.Request.{validRequest}
-use Rattle.edges.specs.Edges.{inRange, standable}
-use Rattle.steps.specs.Words.{graph}
+use Rattle.places.specs.Places.{inRange, standable}
+use Rattle.steps.specs.Graph.{graph}
 use Rattle.rooms.specs.declared.Feet.{Feet}
 use Rattle.rooms.specs.declared.Label.{Label}
 

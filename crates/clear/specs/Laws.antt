@@ -6,8 +6,7 @@ use mathlib.Core.Path.{_≡_, refl}
 use mathlib.Core.Bool.{Bool, true, false, not, _&&_, _||_}
 use mathlib.Core.List.{List, map}
 use lib.IntN.{ℤ, pos, _+ℤ_}
-use lib.ListN.{length, take, drop, length-drop}
-use lib.Seq.{take-all}
+use lib.ListN.{length, drop}
 use Rattle.world.specs.Laws.{run-past}
 use Rattle.cells.specs.declared.ranges.Range.{Range}
 use Rattle.world.specs.declared.Point.{Point}
@@ -48,12 +47,6 @@ module _ (area : Aabb) (by : Point) (s : List ℕ) (at : ℕ) where
   unfolding run hits
   none zero h = refl
   none (suc n) h = absurd (omega arith)
-
--- ---- a part of a table
-
--- a part to the end is what is left past its start
-pub part-is : (n : ℕ) (s : List ℕ) → take (length s - n) (drop n s) ≡ drop n s
-part-is n s = take-all (length s - n) (drop n s) (omega (arith, length-drop n s))
 
 -- past its end a table has no boxes
 pub past : (area : Aabb) (by : Point) (s : List ℕ) (n left : ℕ) → length s < n → runHits area by (drop n s) left 0 ≡ false

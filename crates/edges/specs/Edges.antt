@@ -1,8 +1,7 @@
--- 01, The graph, "In range", "Edge" and "Connector", over a space, a request and a body. Definitions only.
-use Prim.Native.Nat.{ℕ}
+-- 01, The graph, "Edge" and "Connector", over a space, a request and a body. Definitions only.
 use mathlib.Core.Bool.{Bool, _&&_, cond}
-use lib.Ieee.{Float, binary64, lt, le, add, sub, neg, ofBits}
-use Rattle.floats.specs.Floats.{E, nought, smaller, larger, absolute}
+use lib.Ieee.{Float, binary64, add, sub, ofBits}
+use Rattle.floats.specs.Floats.{nought}
 use Rattle.world.specs.declared.Point.{Point}
 use Rattle.world.specs.declared.Aabb.{Aabb}
 use Rattle.world.specs.declared.Body.{Body}
@@ -11,54 +10,12 @@ use Rattle.world.specs.Boxes.{fromFeet, expandTowards, minus}
 use Rattle.world.specs.Space.{Space}
 use Rattle.clear.specs.Clear.{clear}
 use Rattle.support.specs.Support.{supported}
-use Rattle.edges.specs.declared.answer.Movement.{Movement}
-use Rattle.edges.specs.declared.answer.Movement.the-variants.{Walk, Step, Jump, Drop}
-use Rattle.edges.specs.declared.answer.Moving.{Moving}
-use Rattle.edges.specs.declared.answer.Moving.the-variants.{By, None}
-use Rattle.edges.specs.declared.answer.EdgeAnswer.{EdgeAnswer}
-use Rattle.edges.specs.declared.answer.EdgeAnswer.the-variants.{To, Nowhere}
-
--- 01, Tables: "movement as u64 (0 Walk, 1 Step, 2 Jump, 3 Drop)"
-abbrev pub movementNumber : Movement → ℕ
-movementNumber Walk = 0
-movementNumber Step = 1
-movementNumber Jump = 2
-movementNumber Drop = 3
-
--- two numbers differ by at most so much
-abbrev pub near : Float → Float → Float → Bool
-near most a b = le (absolute (sub binary64 a b)) most
-
--- 01, The graph: "In range: each coordinate differs from the start's by at most max_range + E."
-unfoldable pub inRange : Request → Point → Bool
-inRange r p =
-    let most = add binary64 (r .«max_range») E in
-    near most (p .x) (r .start .x) && near most (p .y) (r .start .y) && near most (p .z) (r .start .z)
-
--- a body may stand at a point: its box is clear there, and what is under its feet supports it
-unfoldable pub standable : Space → Body → Point → Bool
-standable sp body p = clear sp (fromFeet p (body .width) (body .height)) && supported sp (body .width) p p
-
--- "step = the smaller step height"
-unfoldable pub stepHeight : Request → Body → Float
-stepHeight r body = smaller (r .«step_height») (body .«step_height»)
-
--- "Rise above E: Step with lift dy if dy ≤ step + E, else Jump with lift jump_height if dy ≤ jump_height + E, else none."
-unfoldable pub rising : Request → Body → Float → Moving
-rising r body dy =
-    cond (le dy (add binary64 (stepHeight r body) E)) (By Step dy)
-    (cond (le dy (add binary64 (r .«jump_height») E)) (By Jump (r .«jump_height»)) None)
-
--- "Fall beyond E: Drop, lift 0, if at most max_drop + E, else none."
-unfoldable pub falling : Request → Float → Moving
-falling r dy = cond (le (neg dy) (add binary64 (r .«max_drop») E)) (By Drop nought) None
-
--- "Otherwise Walk, lift the larger of dy and 0.": of a zero +0.0
-unfoldable pub moving : Request → Body → Float → Moving
-moving r body dy =
-    cond (lt E dy) (rising r body dy)
-    (cond (lt dy (neg E)) (falling r dy)
-    (By Walk (larger dy nought)))
+use Rattle.places.specs.Places.{near, inRange, standable}
+use Rattle.moves.specs.declared.answer.Moving.{Moving}
+use Rattle.moves.specs.declared.answer.Moving.the-variants.{By, None}
+use Rattle.moves.specs.declared.answer.EdgeAnswer.{EdgeAnswer}
+use Rattle.moves.specs.declared.answer.EdgeAnswer.the-variants.{To, Nowhere}
+use Rattle.moves.specs.Moves.{moving}
 
 -- the corners of the way: up by the lift, across, and down or up to the target
 abbrev pub raised : Point → Float → Point

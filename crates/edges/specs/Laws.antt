@@ -5,22 +5,12 @@ use lib.Ieee.{Float}
 use Rattle.world.specs.declared.Point.{Point}
 use Rattle.world.specs.declared.Body.{Body}
 use Rattle.world.specs.declared.Request.{Request}
-use Rattle.world.specs.Boxes.{fromFeet, minus}
+use Rattle.world.specs.Boxes.{minus}
 use Rattle.world.specs.Space.{Space}
 use Rattle.clear.specs.Clear.{clear}
 use Rattle.support.specs.Support.{supported}
-use Rattle.edges.specs.Edges.{inRange, standable, raised, across, up, swept, wayClear, passable}
-
--- ---- standable
-
-module _ (sp : Space) (body : Body) (p : Point) where
-  pub no-room : clear sp (fromFeet p (body .width) (body .height)) ≡ false → standable sp body p ≡ false
-  unfolding standable
-  no-room e = rw e
-
-  pub by-support : clear sp (fromFeet p (body .width) (body .height)) ≡ true → standable sp body p ≡ supported sp (body .width) p p
-  unfolding standable
-  by-support e = rw e
+use Rattle.places.specs.Places.{inRange, standable}
+use Rattle.edges.specs.Edges.{raised, across, up, swept, wayClear, passable}
 
 -- ---- the three areas
 

@@ -49,11 +49,11 @@ fn way_clear(
         y,
         z: to.z,
     };
-    let crossing = swept(body, raised, boxes::difference(across, raised));
+    let crossing = swept(body, raised, points::difference(across, raised));
     if !clear::clear_area(w, cells, perms, shapes, boxes, crossing) {
         return false;
     }
-    let settling = swept(body, across, boxes::difference(to, across));
+    let settling = swept(body, across, points::difference(to, across));
     clear::clear_area(w, cells, perms, shapes, boxes, settling)
 }
 
@@ -72,7 +72,7 @@ pub(crate) fn passable(
 ) -> bool
     ensures { λ a. ⌜ a ≡ passable (space w (now (cells .entry)) (now (perms .entry)) (now (shapes .entry)) (now (boxes .entry))) r body from to lift ⌝ }
 {
-    if !crate::in_range(r, to) {
+    if !places::in_range(r, to) {
         return false;
     }
     let raised = Point {
@@ -80,10 +80,10 @@ pub(crate) fn passable(
         y: from.y + lift,
         z: from.z,
     };
-    if !crate::in_range(r, raised) {
+    if !places::in_range(r, raised) {
         return false;
     }
-    if !crate::standable(w, cells, perms, shapes, boxes, body, to) {
+    if !places::standable(w, cells, perms, shapes, boxes, body, to) {
         return false;
     }
     if !way_clear(w, cells, perms, shapes, boxes, body, from, to, lift) {

@@ -4,9 +4,9 @@ use mathlib.Core.List.{List}
 use Rattle.fields.specs.Little.{floatField}
 use Rattle.world.specs.declared.Request.{Request}
 use Rattle.scene_records.specs.Layout.{startOf, goalOf, rangeOf}
-use Rattle.edges.specs.declared.answer.EdgeAnswer.{EdgeAnswer}
-use Rattle.edges.specs.declared.answer.EdgeAnswer.the-variants.{To, Nowhere}
-use Rattle.edges.specs.Edges.{movementNumber}
+use Rattle.moves.specs.declared.answer.EdgeAnswer.{EdgeAnswer}
+use Rattle.moves.specs.declared.answer.EdgeAnswer.the-variants.{To, Nowhere}
+use Rattle.moves.specs.Moves.{movementNumber}
 
 -- a scene's records of kind 1, "start, goal, max_range", and of kind 2, "step, jump, drop"; no edge reads the budget
 unfoldable pub requestOf : List ℕ → List ℕ → Request

@@ -4,7 +4,7 @@ ghost use Rattle.world.specs.Space.{space};
 ghost use Rattle.scene_records.specs.Layout.{bodyOf, windowOf};
 ghost use Rattle.edges.specs.Edges.{edge};
 ghost use Rattle.edges_c.specs.Called.{requestOf, answerNumber};
-use edges::EdgeAnswer;
+use moves::EdgeAnswer;
 use scene_records::body_of;
 use scene_records::point_at;
 use scene_records::window_of;
@@ -32,7 +32,7 @@ fn answer_number(a: EdgeAnswer) -> u64
     match a {
         EdgeAnswer::To(w) => {
             let movement = w.movement;
-            steps::movement_number(movement)
+            moves::movement_number(movement)
         }
         EdgeAnswer::Nowhere => 4,
     }

@@ -3,7 +3,7 @@ use mathlib.Core.Bool.{Bool, _&&_}
 use Rattle.world.specs.declared.Body.{Body}
 use Rattle.world.specs.declared.Request.{Request}
 use Rattle.world.specs.Space.{Space}
-use Rattle.edges.specs.Edges.{inRange, standable}
+use Rattle.places.specs.Places.{inRange, standable}
 
 -- "goal in range, start standable, goal standable"
 unfoldable pub endsGood : Space → Request → Body → Bool

@@ -21,11 +21,11 @@ pub fn ends_good(
 {
     let start = r.start;
     let goal = r.goal;
-    if !edges::in_range(r, goal) {
+    if !places::in_range(r, goal) {
         return false;
     }
-    if !edges::standable(w, cells, perms, shapes, boxes, body, start) {
+    if !places::standable(w, cells, perms, shapes, boxes, body, start) {
         return false;
     }
-    edges::standable(w, cells, perms, shapes, boxes, body, goal)
+    places::standable(w, cells, perms, shapes, boxes, body, goal)
 }

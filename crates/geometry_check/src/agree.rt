@@ -1,12 +1,12 @@
 // Whether a question's own answer is the stored one, bit for bit.
 use crate::input::Question;
-use edges::EdgeAnswer;
-use edges::Waypoint;
 use heights::Band;
 use heights::Height;
+use moves::EdgeAnswer;
+use moves::Waypoint;
 use scene::Scene;
+use sides::Sides;
 use steps::Centre;
-use steps::Sides;
 use world::Aabb;
 use world::Body;
 use world::Point;
@@ -42,7 +42,7 @@ fn is_stored(kept: &[u8], k: u32, w: Waypoint) -> bool {
         & (floats::bits_of(w.feet.y) == fields::u64_at(kept, at + 8))
         & (floats::bits_of(w.feet.z) == fields::u64_at(kept, at + 16))
         & (floats::bits_of(w.lift) == fields::u64_at(kept, at + 24))
-        & (steps::movement_number(movement) == fields::u64_at(kept, at + 32))
+        & (moves::movement_number(movement) == fields::u64_at(kept, at + 32))
 }
 
 fn edge_agrees(a: EdgeAnswer, number: u32, kept: &[u8]) -> bool {
@@ -95,7 +95,7 @@ fn met_edge(m: Met, from: Point, a: EdgeAnswer, kept: &[u8]) -> Met {
     Met {
         count: std::num::wrapping_add_u32(m.count, 1),
         right: m.right & is_stored(kept, m.count, w),
-        level: m.level | steps::is_level(from, w.feet),
+        level: m.level | sides::is_level(from, w.feet),
     }
 }
 
@@ -247,8 +247,8 @@ fn told_yes(
 ) -> bool {
     let kind = q.kind;
     match kind {
-        1 => edges::in_range(s.request, q.a),
-        2 => edges::standable(s.window, cells, perms, shapes, boxes, s.body, q.a),
+        1 => places::in_range(s.request, q.a),
+        2 => places::standable(s.window, cells, perms, shapes, boxes, s.body, q.a),
         3 => {
             let min = q.a;
             let max = q.b;

@@ -3,7 +3,7 @@ use mathlib.Core.Bool.{Bool, _&&_, _||_, cond}
 use mathlib.Core.List.{List, [], _∷_}
 use lib.IntN.{ℤ, pos, _-ℤ_}
 use lib.Ieee.{Float, binary64, lt, le, add, sub}
-use Rattle.floats.specs.Floats.{E, smaller, larger}
+use Rattle.floats.specs.Floats.{E}
 use Rattle.cells.specs.Cells.{floorCell}
 use Rattle.cells.specs.Ranges.{along}
 use Rattle.world.specs.declared.Aabb.{Aabb}
@@ -11,13 +11,6 @@ use Rattle.world.specs.Space.{Space, Block}
 use Rattle.heights.specs.declared.Band.{Band}
 use Rattle.heights.specs.declared.Height.{Height}
 use Rattle.heights.specs.declared.Height.the-variants.{At, None}
-
--- "Low is the larger of y - max_drop and start y - range, high the smaller of y + max(step, jump) and start y + range."
-unfoldable pub bandFrom : (y drop step jump startY range : Float) → Band
-bandFrom y drop step jump startY range = record {
-  low = larger (sub binary64 y drop) (sub binary64 startY range);
-  high = smaller (add binary64 y (larger step jump)) (add binary64 startY range);
-}
 
 -- "box tops from low to high, E allowed, .. whose box spans the centre, borders included"
 unfoldable pub reaches : Band → Float → Float → Aabb → Bool

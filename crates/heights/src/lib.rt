@@ -14,7 +14,7 @@ ghost use Rattle.cells.specs.RangeLaws.{Near};
 ghost use Rattle.world.specs.declared.Aabb.{Aabb};
 ghost use Rattle.world.specs.Boxes.{moved};
 ghost use Rattle.world.specs.Space.{run, space};
-ghost use Rattle.heights.specs.Heights.{bandFrom, reaches, topsOf, topsIn, nextAfter};
+ghost use Rattle.heights.specs.Heights.{reaches, topsOf, topsIn, nextAfter};
 ghost use Rattle.heights.specs.Laws.{taken};
 ghost use Rattle.heights.specs.Next.{beyond, lower, better, pass};
 
@@ -28,16 +28,6 @@ pub struct Band {
 pub enum Height {
     At(f64),
     None,
-}
-
-// The band of a point at y.
-pub fn band_from(y: f64, drop: f64, step: f64, jump: f64, start_y: f64, range: f64) -> Band
-    ensures { λ r. ⌜ r ≡ bandFrom y drop step jump «start_y» range ⌝ }
-{
-    Band {
-        low: floats::max(y - drop, start_y - range),
-        high: floats::min(y + floats::max(step, jump), start_y + range),
-    }
 }
 
 // Whether a box has a top in the band, and spans the centre.
@@ -170,7 +160,7 @@ fn cell_next(
             count,
         } => {
             if support {
-                let by = boxes::corner_of(cx, y, cz);
+                let by = points::corner_of(cx, y, cz);
                 table_next(boxes, first, count, by, band, x, z, after, best)
             } else {
                 best

@@ -21,7 +21,7 @@ fn feet_at(list: &[u8], k: usize) -> Point
 fn apart(from: Point, to: Point) -> f64
     ensures { λ r. ⌜ r ≡ apart from to ⌝ }
 {
-    let d = boxes::difference(to, from);
+    let d = points::difference(to, from);
     root::distance(d.x, d.y, d.z)
 }
 

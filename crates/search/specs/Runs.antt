@@ -6,7 +6,7 @@ use Rattle.exploration.specs.Explore.{run}
 use Rattle.world.specs.declared.Body.{Body}
 use Rattle.world.specs.declared.Request.{Request}
 use Rattle.world.specs.Space.{Space}
-use Rattle.steps.specs.Words.{graph}
+use Rattle.steps.specs.Graph.{graph}
 use Rattle.rooms.specs.declared.Counts.{Counts}
 use Rattle.rooms.specs.Rooms.{stateOf}
 use Rattle.visits.specs.declared.Aim.{Aim}

@@ -10,10 +10,10 @@ use Rattle.exploration.specs.Explore.{visits}
 use Rattle.world.specs.declared.Body.{Body}
 use Rattle.world.specs.declared.Request.{Request}
 use Rattle.world.specs.Space.{Space}
-use Rattle.edges.specs.declared.answer.Waypoint.{Waypoint}
+use Rattle.moves.specs.declared.answer.Waypoint.{Waypoint}
 use Rattle.steps.specs.Columns.{level, columnIf}
 use Rattle.steps.specs.Expansion.{sidesBefore}
-use Rattle.steps.specs.Words.{stepOf}
+use Rattle.words.specs.Words.{stepOf}
 use Rattle.rooms.specs.declared.Feet.{Feet}
 use Rattle.rooms.specs.declared.Label.{Label}
 use Rattle.rooms.specs.declared.Counts.{Counts}

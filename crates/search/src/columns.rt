@@ -2,10 +2,10 @@
 use crate::Around;
 use crate::Column;
 use crate::Place;
-use edges::EdgeAnswer;
 use heights::Height;
+use moves::EdgeAnswer;
 use rooms::Counts;
-use steps::Sides;
+use sides::Sides;
 use visits::Aim;
 use world::Body;
 use world::Point;
@@ -45,10 +45,10 @@ fn step_to(
     let EdgeAnswer::To(way) = edges::edge(w, cells, perms, shapes, boxes, r, body, at.point, to) else {
         return c;
     };
-    let feet = steps::feet_of(way.feet);
-    let label = steps::label_of(way);
+    let feet = words::feet_of(way.feet);
+    let label = words::label_of(way);
     let counts = reach::visit(nodes, front, aim, at.number, at.node, c.counts, feet, label);
-    let flat = steps::is_level(at.point, way.feet);
+    let flat = sides::is_level(at.point, way.feet);
     Column { counts, level: c.level | flat }
 }
 

@@ -12,7 +12,7 @@ mod whole;
 pub use find::find_walk_path;
 use rooms::Counts;
 use rooms::NodeRecord;
-use steps::Sides;
+use sides::Sides;
 use world::Point;
 
 // The node that is expanded: its number, its record, and the point that its feet are read as.

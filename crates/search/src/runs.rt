@@ -9,7 +9,7 @@ use world::Window;
 ghost use mathlib.Core.Path.{_≡_};
 ghost use Prim.Native.Nat.{_+_, _*_};
 ghost use Rattle.world.specs.Space.{space};
-ghost use Rattle.steps.specs.Words.{feetOf};
+ghost use Rattle.words.specs.Words.{feetOf};
 ghost use Rattle.visits.specs.Visits.{Ready};
 ghost use Rattle.search.specs.Turns.{mostSteps, Bounded};
 ghost use Rattle.search.specs.Runs.{Spun};

@@ -1,7 +1,7 @@
 // One expansion (01, "Search": "Pop, close, try the connector (a start equal to the goal needs none: its list is the start alone), then the columns").
-use crate::columns::columns;
 use crate::Place;
-use edges::EdgeAnswer;
+use crate::columns::columns;
+use moves::EdgeAnswer;
 use outcomes::Turn;
 use rooms::Counts;
 use visits::Aim;
@@ -11,7 +11,7 @@ use world::Window;
 ghost use mathlib.Core.Path.{_≡_};
 ghost use Prim.Native.Nat.{_+_};
 ghost use Rattle.world.specs.Space.{space};
-ghost use Rattle.steps.specs.Words.{feetOf};
+ghost use Rattle.words.specs.Words.{feetOf};
 ghost use Rattle.visits.specs.Visits.{Ready};
 ghost use Rattle.search.specs.Turns.{mostSteps, Bounded, Turned};
 
@@ -47,10 +47,10 @@ pub(crate) fn expand(
     if arrived {
         return Turn::At(shut, k);
     }
-    let point = steps::point_of(feet);
+    let point = words::point_of(feet);
     match edges::connector(w, cells, perms, shapes, boxes, r, body, point) {
         EdgeAnswer::To(way) => {
-            let label = steps::label_of(way);
+            let label = words::label_of(way);
             Turn::By(shut, k, label)
         }
         EdgeAnswer::Nowhere => {

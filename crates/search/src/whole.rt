@@ -33,8 +33,8 @@ pub(crate) fn search(
     ensures { λ _. ⌜ now (front .exit) ≡ frontBy w (now (cells .entry)) (now (perms .entry)) (now (shapes .entry)) (now (boxes .entry)) r body none (now (front .entry)) ⌝ }
     ensures { λ _. ⌜ now (out .exit) ≡ outBy w (now (cells .entry)) (now (perms .entry)) (now (shapes .entry)) (now (boxes .entry)) r body none (now (out .entry)) ⌝ }
 {
-    let start = steps::feet_of(r.start);
-    let goal = steps::feet_of(r.goal);
+    let start = words::feet_of(r.start);
+    let goal = words::feet_of(r.goal);
     let budget = r.node_budget as usize;
     let aim = Aim { budget, goal };
     let begun = visits::begin(nodes, front, budget, start);

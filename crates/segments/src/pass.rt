@@ -75,7 +75,7 @@ fn reach_cell(
 {
     match world::cell_at(w, cells, perms, shapes, x, y, z) {
         Cell::Unknown => {
-            let cube = boxes::offset(boxes::unit(), boxes::corner_of(x, y, z));
+            let cube = boxes::offset(boxes::unit(), points::corner_of(x, y, z));
             support::reach_shape(way, false, cube, covered)
         }
         Cell::Known {
@@ -87,7 +87,7 @@ fn reach_cell(
             if count == 0 {
                 return Reach::To(covered);
             }
-            let by = boxes::corner_of(x, y, z);
+            let by = points::corner_of(x, y, z);
             reach_table(boxes, first, count, by, support, way, covered)
         }
     }

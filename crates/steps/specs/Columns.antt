@@ -1,12 +1,11 @@
 -- 01, The graph, "Graph step": the columns around a point, their heights, and the edges to them. Definitions only.
-use Prim.Native.Nat.{ℕ, zero, suc, _+_, _-_}
-use mathlib.Core.Bool.{Bool, true, false, _&&_, _||_, cond}
+use Prim.Native.Nat.{ℕ, _+_}
+use mathlib.Core.Bool.{Bool, false, _||_, cond}
 use mathlib.Core.List.{List, [], _∷_}
-use lib.Dec.{ltb}
 use lib.IntN.{ℤ, pos, negsuc, _+ℤ_}
-use lib.ListN.{getD, set}
-use lib.Ieee.{Float, binary64, le, add, ofInt}
-use Rattle.floats.specs.Floats.{E}
+use lib.ListN.{getD}
+use lib.Ieee.{Float, binary64, add, sub, ofInt}
+use Rattle.floats.specs.Floats.{smaller, larger}
 use Rattle.cells.specs.Cells.{floorCell}
 use Rattle.cells.specs.Ranges.{gather}
 use Rattle.world.specs.declared.Point.{Point}
@@ -15,15 +14,16 @@ use Rattle.world.specs.declared.Request.{Request}
 use Rattle.world.specs.Space.{Space}
 use Rattle.support.specs.Support.{halfOne}
 use Rattle.heights.specs.declared.Band.{Band}
-use Rattle.heights.specs.Heights.{bandFrom, heights}
-use Rattle.edges.specs.declared.answer.Waypoint.{Waypoint}
-use Rattle.edges.specs.declared.answer.EdgeAnswer.{EdgeAnswer}
-use Rattle.edges.specs.declared.answer.EdgeAnswer.the-variants.{To, Nowhere}
-use Rattle.edges.specs.Edges.{edge, stepHeight}
+use Rattle.heights.specs.Heights.{heights}
+use Rattle.moves.specs.declared.answer.Waypoint.{Waypoint}
+use Rattle.moves.specs.declared.answer.EdgeAnswer.{EdgeAnswer}
+use Rattle.moves.specs.declared.answer.EdgeAnswer.the-variants.{To, Nowhere}
+use Rattle.moves.specs.Moves.{stepHeight}
+use Rattle.edges.specs.Edges.{edge}
+use Rattle.sides.specs.declared.Sides.{Sides}
+use Rattle.sides.specs.Sides.{levelTo, lookedBy}
 use Rattle.steps.specs.declared.columns.Offset.{Offset}
 use Rattle.steps.specs.declared.columns.Centre.{Centre}
-use Rattle.steps.specs.declared.sides.SidePair.{SidePair}
-use Rattle.steps.specs.declared.sides.Sides.{Sides}
 
 -- ---- the columns
 
@@ -47,31 +47,14 @@ centre x d = add binary64 (ofInt binary64 (floorCell x +ℤ d)) halfOne
 unfoldable pub centreOf : Point → ℕ → Centre
 centreOf from n = record { x = centre (from .x) (offsetAt n .0); z = centre (from .z) (offsetAt n .1) }
 
--- ---- the sides
-
--- "Diagonals need two sides: (0,1), (2,1), (2,3), (0,3), numbered from 0 at (1,0)."
-abbrev pub sidePairs : List SidePair
-sidePairs = (0, 1) ∷ (2, 1) ∷ (2, 3) ∷ (0, 3) ∷ []
-
-unfoldable pub pairAt : ℕ → SidePair
-pairAt d = getD sidePairs d (0, 0)
-
--- whether column n is looked at: the point's own and the sides always, a diagonal between two sides that say yes
-unfoldable pub lookedBy : Sides → ℕ → Bool
-lookedBy s n = cond (ltb n 5) true (getD (s .level) (pairAt (n - 5) .0) false && getD (s .level) (pairAt (n - 5) .1) false)
-
--- the answers before any side has answered, and with the answer of column n: from column 1 to column 4 it is a side's
-unfoldable pub noSides : Sides
-noSides = record { level = false ∷ false ∷ false ∷ false ∷ [] }
-
-unfoldable pub answeredBy : Sides → ℕ → Bool → Sides
-answeredBy s n b = cond (ltb 0 n && ltb n 5) (record { level = set (s .level) (n - 1) b }) s
-
 -- ---- the steps
 
 -- "Low is the larger of y - max_drop and start y - range, high the smaller of y + max(step, jump) and start y + range."
 unfoldable pub bandOf : Request → Body → Point → Band
-bandOf r body from = bandFrom (from .y) (r .«max_drop») (stepHeight r body) (r .«jump_height») (r .start .y) (r .«max_range»)
+bandOf r body from = record {
+  low = larger (sub binary64 (from .y) (r .«max_drop»)) (sub binary64 (r .start .y) (r .«max_range»));
+  high = smaller (add binary64 (from .y) (larger (stepHeight r body) (r .«jump_height»))) (add binary64 (r .start .y) (r .«max_range»));
+}
 
 -- a height of a column
 abbrev pub target : Centre → Float → Point
@@ -81,10 +64,7 @@ abbrev pub ahead : EdgeAnswer → List Waypoint → List Waypoint
 ahead Nowhere ws = ws
 ahead (To w) ws = w ∷ ws
 
--- "an edge to a y at most this y + E"
-unfoldable pub levelTo : Point → Point → Bool
-levelTo from to = le (to .y) (add binary64 (from .y) E)
-
+-- whether one of the edges does not climb
 unfoldable pub level : Point → List Waypoint → Bool
 level from [] = false
 level from (w ∷ ws) = levelTo from (w .feet) || level from ws

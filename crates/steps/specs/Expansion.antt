@@ -18,12 +18,13 @@ use Rattle.heights.specs.declared.Height.the-variants.{At, None}
 use Rattle.heights.specs.Heights.{tops, sorted, heights, keptAfter, nextAfter}
 use Rattle.heights.specs.Next.{kept-next, kept-end}
 use Rattle.heights.specs.Laws.{numbers}
-use Rattle.edges.specs.declared.answer.Waypoint.{Waypoint}
-use Rattle.edges.specs.declared.answer.EdgeAnswer.the-variants.{To, Nowhere}
+use Rattle.moves.specs.declared.answer.Waypoint.{Waypoint}
+use Rattle.moves.specs.declared.answer.EdgeAnswer.the-variants.{To, Nowhere}
 use Rattle.edges.specs.Edges.{edge}
-use Rattle.steps.specs.declared.sides.Sides.{Sides}
-use Rattle.steps.specs.Columns.{lookedBy, noSides, answeredBy, centreOf, bandOf, target, ahead, levelTo, level, edgesAt, columnSteps, sides, columnIf, stepsFrom}
-use Rattle.steps.specs.SideLaws.{always, a-diagonal}
+use Rattle.sides.specs.declared.Sides.{Sides}
+use Rattle.sides.specs.Sides.{levelTo, lookedBy, noSides, answeredBy}
+use Rattle.sides.specs.Laws.{always, a-diagonal}
+use Rattle.steps.specs.Columns.{centreOf, bandOf, target, ahead, level, edgesAt, columnSteps, sides, columnIf, stepsFrom}
 
 module _ (sp : Space) (r : Request) (body : Body) (from : Point) where
   -- ---- columns

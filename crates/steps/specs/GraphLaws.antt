@@ -16,8 +16,9 @@ use Rattle.exploration.specs.Canonical.{canonical, canonical-laws}
 use Rattle.steps.specs.Columns.{stepsFrom}
 use Rattle.rooms.specs.declared.Feet.{Feet}
 use Rattle.rooms.specs.declared.Label.{Label}
-use Rattle.rooms.specs.Waypoints.{canonicalWord, sameWord, samePoint, alike}
-use Rattle.steps.specs.Words.{coordinate, pointOf, feetOf, stepOf, labelIf, standing, graph}
+use Rattle.rooms.specs.Waypoints.{canonicalWord, sameWord, samePoint, alike, standing}
+use Rattle.words.specs.Words.{coordinate, pointOf, feetOf, stepOf, labelIf}
+use Rattle.steps.specs.Graph.{graph}
 
 -- the canonical form of a point, and what is read of it
 abbrev canon : Feet → Feet

@@ -1,5 +1,5 @@
 pub mod Columns
-pub mod Words
-pub mod SideLaws
+pub mod Graph
+pub mod ColumnLaws
 pub mod Expansion
 pub mod GraphLaws

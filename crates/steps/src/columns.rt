@@ -61,13 +61,12 @@ pub fn column_centre(from: Point, n: usize) -> Centre
 pub fn band_of(r: Request, body: Body, from: Point) -> Band
     ensures { λ a. ⌜ a ≡ bandOf r body from ⌝ }
 {
-    let step = edges::step_height(r, body);
-    heights::band_from(
-        from.y,
-        r.max_drop,
-        step,
-        r.jump_height,
-        r.start.y,
-        r.max_range,
-    )
+    let step = moves::step_height(r, body);
+    Band {
+        low: floats::max(from.y - r.max_drop, r.start.y - r.max_range),
+        high: floats::min(
+            from.y + floats::max(step, r.jump_height),
+            r.start.y + r.max_range,
+        ),
+    }
 }

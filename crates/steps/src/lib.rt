@@ -1,22 +1,12 @@
-// Graph steps (01, The graph, "Graph step"): the columns around a point, in order, and the sides that diagonals need.
+// Graph steps (01, The graph, "Graph step"): the columns around a point, in order. The sides that diagonals need are `sides`.
 //
 // An expansion goes through the columns 0 to 8 with its side answers in a struct by value. Where a column is looked at, it takes the heights of the column's
 // centre in the point's band one after the other (`heights::next_height`), asks for the edge to each (`edges::edge`), and notes for the column whether an
 // edge does not climb. The laws of `specs/Expansion.antt` say that the edges so met are the graph steps of the point, in order.
 pub mod columns;
-pub mod sides;
-pub mod words;
 
 pub use columns::Centre;
 pub use columns::NEIGHBOURS;
 pub use columns::Offset;
 pub use columns::band_of;
 pub use columns::column_centre;
-pub use sides::DIAGONAL_SIDES;
-pub use sides::SidePair;
-pub use sides::Sides;
-pub use sides::is_level;
-pub use words::feet_of;
-pub use words::label_of;
-pub use words::movement_number;
-pub use words::point_of;

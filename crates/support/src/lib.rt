@@ -1,10 +1,9 @@
 // What carries a body (01, The graph, supported segments): which shapes count under the way from one point to another, and what one of them does to
 // it. `line` has the part of the centre line above one box, `shape` what one more shape makes of what is covered. The crate `segments` goes over the
 // cells; what a supported segment is, is defined here.
-pub mod line;
-pub mod shape;
+mod line;
+mod shape;
 
-pub use line::support_interval;
 pub use shape::footprint;
 pub use shape::reach_shape;
 use world::Aabb;

@@ -25,7 +25,7 @@ fn narrow(start: f64, delta: f64, least: f64, greatest: f64, i: Interval) -> Spa
 }
 
 // The part of the centre line above a box.
-pub fn support_interval(b: Aabb, from: Point, to: Point) -> Span
+pub(crate) fn support_interval(b: Aabb, from: Point, to: Point) -> Span
     ensures { λ r. ⌜ told r ≡ interval b from to ⌝ }
 {
     let all = Interval {

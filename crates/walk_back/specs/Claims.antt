@@ -17,9 +17,9 @@ use Rattle.world.specs.declared.Window.{Window}
 use Rattle.world.specs.Space.{Space, space}
 use Rattle.tables.specs.BadWorld.{badWorld}
 use Rattle.request.specs.Request.{validRequest, sizesTooLarge}
-use Rattle.edges.specs.Edges.{inRange, standable}
+use Rattle.places.specs.Places.{inRange, standable}
 use Rattle.ends.specs.Ends.{endsGood}
-use Rattle.steps.specs.Words.{graph}
+use Rattle.steps.specs.Graph.{graph}
 use Rattle.walk_back.specs.declared.Walked.{Walked}
 use Rattle.walk_back.specs.declared.Walked.the-variants.{Yes, No, BadWorld, TooLarge}
 use Rattle.walk_back.specs.Listed.{waypoints}

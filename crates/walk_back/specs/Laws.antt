@@ -16,9 +16,9 @@ use Rattle.world.specs.declared.Point.{Point}
 use Rattle.world.specs.declared.Body.{Body}
 use Rattle.world.specs.declared.Request.{Request}
 use Rattle.world.specs.Space.{Space}
-use Rattle.edges.specs.declared.answer.Waypoint.{Waypoint}
-use Rattle.edges.specs.declared.answer.EdgeAnswer.{EdgeAnswer}
-use Rattle.edges.specs.declared.answer.EdgeAnswer.the-variants.{To, Nowhere}
+use Rattle.moves.specs.declared.answer.Waypoint.{Waypoint}
+use Rattle.moves.specs.declared.answer.EdgeAnswer.{EdgeAnswer}
+use Rattle.moves.specs.declared.answer.EdgeAnswer.the-variants.{To, Nowhere}
 use Rattle.edges.specs.Edges.{edge, connector}
 use Rattle.ends.specs.Ends.{endsGood}
 use Rattle.heights.specs.declared.Band.{Band}
@@ -28,13 +28,15 @@ use Rattle.heights.specs.Heights.{tops, sorted, keptAfter, nextAfter}
 use Rattle.heights.specs.Next.{kept-next}
 use Rattle.heights.specs.Laws.{numbers}
 use Rattle.steps.specs.declared.columns.Centre.{Centre}
-use Rattle.steps.specs.declared.sides.Sides.{Sides}
-use Rattle.steps.specs.Columns.{centreOf, bandOf, lookedBy, answeredBy, ahead, levelTo, level, columnIf, stepsFrom}
+use Rattle.sides.specs.declared.Sides.{Sides}
+use Rattle.sides.specs.Sides.{lookedBy, answeredBy, levelTo}
+use Rattle.steps.specs.Columns.{centreOf, bandOf, ahead, level, columnIf, stepsFrom}
 use Rattle.steps.specs.Expansion.{columnsFrom, columns-on, columns-end, sidesBefore, sides-on, skipped, stepsAfter, column-begins, column-ends, column-on, noted-none, noted-on}
 use Rattle.rooms.specs.declared.Feet.{Feet}
 use Rattle.rooms.specs.declared.Label.{Label}
 use Rattle.rooms.specs.Waypoints.{samePoint, alike, standing}
-use Rattle.steps.specs.Words.{pointOf, feetOf, labelOf, stepOf, labelIf, graph}
+use Rattle.words.specs.Words.{pointOf, feetOf, labelOf, stepOf, labelIf}
+use Rattle.steps.specs.Graph.{graph}
 use Rattle.walk_back.specs.declared.listed.Listed.{Listed}
 use Rattle.walk_back.specs.declared.pairs.Looked.{Looked}
 use Rattle.walk_back.specs.declared.pairs.Looked.the-variants.{Met, Passed}

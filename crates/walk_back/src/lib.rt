@@ -9,7 +9,7 @@ ghost use Prim.Native.Nat.{_≤_, _-_, _/_};
 ghost use lib.ListN.{length};
 ghost use Rattle.world.specs.Space.{space};
 ghost use Rattle.exploration.specs.WalkBack.{isWay};
-ghost use Rattle.steps.specs.Words.{graph};
+ghost use Rattle.steps.specs.Graph.{graph};
 ghost use Rattle.walk_back.specs.Listed.{listedAt, feet, entriesFrom};
 ghost use Rattle.walk_back.specs.WalkBack.{isRouteList, walked};
 pub use listed::Listed;

@@ -4,10 +4,10 @@ ghost use mathlib.Core.Bool.{_&&_};
 ghost use Prim.Native.Nat.{_*_, _≤_};
 ghost use lib.ListN.{length};
 ghost use Rattle.rooms.specs.Waypoints.{samePoint, alike, standing};
-ghost use Rattle.steps.specs.Words.{pointOf, feetOf, labelOf};
+ghost use Rattle.words.specs.Words.{pointOf, feetOf, labelOf};
 ghost use Rattle.walk_back.specs.Listed.{listedAt, feet, label};
 ghost use Rattle.walk_back.specs.Laws.{leadsTo};
-use edges::Waypoint;
+use moves::Waypoint;
 use rooms::Feet;
 use equal_points::same_word;
 use world::Point;
@@ -45,7 +45,7 @@ pub(crate) fn listed_at(list: &[u8], k: usize) -> Listed
 pub(crate) fn point_at(v: Listed) -> Point
     ensures { λ p. ⌜ p ≡ pointOf (feet v) ⌝ }
 {
-    steps::point_of(Feet {
+    words::point_of(Feet {
         x: v.x,
         y: v.y,
         z: v.z,
@@ -56,7 +56,7 @@ pub(crate) fn point_at(v: Listed) -> Point
 fn same_feet(p: Point, v: Listed) -> bool
     ensures { λ r. ⌜ r ≡ samePoint (feetOf p) (feet v) ⌝ }
 {
-    let feet = steps::feet_of(p);
+    let feet = words::feet_of(p);
     equal_points::same_point(
         feet,
         Feet {
@@ -79,7 +79,7 @@ pub(crate) fn same_label(step: Waypoint, v: Listed) -> bool
     ensures { λ r. ⌜ r ≡ alike (labelOf step) (label v) ⌝ }
 {
     let kind = step.movement;
-    let movement = steps::movement_number(kind);
+    let movement = moves::movement_number(kind);
     let lift = floats::bits_of(step.lift);
     (movement == v.movement) & same_word(lift, v.lift)
 }
@@ -95,7 +95,7 @@ pub(crate) fn is_start(start: Point, v: Listed) -> bool
 pub(crate) fn is_goal(goal: Point, v: Listed) -> bool
     ensures { λ r. ⌜ r ≡ samePoint (feet v) (feetOf goal) ⌝ }
 {
-    let feet = steps::feet_of(goal);
+    let feet = words::feet_of(goal);
     equal_points::same_point(
         Feet {
             x: v.x,

@@ -12,9 +12,9 @@ ghost use Rattle.steps.specs.Expansion.{sidesBefore};
 ghost use Rattle.walk_back.specs.Laws.{leadsTo, taken, lookedIn, connectorTo};
 use crate::listed;
 use crate::listed::Listed;
-use edges::EdgeAnswer;
 use heights::Height;
-use steps::Sides;
+use moves::EdgeAnswer;
+use sides::Sides;
 use world::Body;
 use world::Point;
 use world::Request;
@@ -48,7 +48,7 @@ fn look(
     if listed::leads_to(v, step) {
         return Looked::Met;
     }
-    Looked::Passed(noted | steps::is_level(from, step.feet))
+    Looked::Passed(noted | sides::is_level(from, step.feet))
 }
 
 // What column n says, with the side answers of the columns before it.

@@ -7,9 +7,9 @@ use lib.Ieee.{Float}
 use lib.ListN.{length}
 use Rattle.fields.specs.Little.{withField, withFloat}
 use Rattle.root.specs.Root.{Given, value, refusal}
-use Rattle.edges.specs.declared.answer.EdgeAnswer.{EdgeAnswer}
-use Rattle.edges.specs.declared.answer.EdgeAnswer.the-variants.{To, Nowhere}
-use Rattle.edges.specs.Edges.{movementNumber}
+use Rattle.moves.specs.declared.answer.EdgeAnswer.{EdgeAnswer}
+use Rattle.moves.specs.declared.answer.EdgeAnswer.the-variants.{To, Nowhere}
+use Rattle.moves.specs.Moves.{movementNumber}
 use Rattle.outcomes.specs.declared.Answer.{Answer}
 use Rattle.outcomes.specs.Outcomes.{outcomeNumber}
 use Rattle.find_path.specs.declared.answers.Path.{Path}

@@ -7,7 +7,7 @@ ghost use Rattle.walk_c.specs.Answers.{edgeNumber};
 use crate::records::body_in;
 use crate::records::request_in;
 use crate::records::window_in;
-use edges::EdgeAnswer;
+use moves::EdgeAnswer;
 use world::Point;
 
 fn edge_number(a: EdgeAnswer) -> u64
@@ -16,7 +16,7 @@ fn edge_number(a: EdgeAnswer) -> u64
     match a {
         EdgeAnswer::To(w) => {
             let movement = w.movement;
-            steps::movement_number(movement)
+            moves::movement_number(movement)
         }
         EdgeAnswer::Nowhere => 4,
     }

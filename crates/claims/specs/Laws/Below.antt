@@ -16,17 +16,18 @@ use Rattle.world.specs.declared.Body.{Body}
 use Rattle.world.specs.declared.Point.{Point}
 use Rattle.world.specs.declared.Request.{Request}
 use Rattle.world.specs.Space.{Space}
-use Rattle.edges.specs.declared.answer.Movement.{Movement}
-use Rattle.edges.specs.declared.answer.Movement.the-variants.{Walk, Step, Jump, Drop}
-use Rattle.edges.specs.declared.answer.Waypoint.{Waypoint}
-use Rattle.edges.specs.declared.answer.EdgeAnswer.{EdgeAnswer}
-use Rattle.edges.specs.Edges.{movementNumber}
+use Rattle.moves.specs.declared.answer.Movement.{Movement}
+use Rattle.moves.specs.declared.answer.Movement.the-variants.{Walk, Step, Jump, Drop}
+use Rattle.moves.specs.declared.answer.Waypoint.{Waypoint}
+use Rattle.moves.specs.declared.answer.EdgeAnswer.{EdgeAnswer}
+use Rattle.moves.specs.Moves.{movementNumber}
 use Rattle.steps.specs.Columns.{stepsFrom}
-use Rattle.steps.specs.Words.{pointOf, feetOf, labelOf, stepOf, labelIf, standing, graph}
+use Rattle.words.specs.Words.{pointOf, feetOf, labelOf, stepOf, labelIf}
+use Rattle.steps.specs.Graph.{graph}
+use Rattle.rooms.specs.Waypoints.{standing, canonicalWord, sameWord, samePoint, alike}
 use Rattle.rooms.specs.declared.Feet.{Feet}
 use Rattle.rooms.specs.declared.Label.{Label}
 use Rattle.rooms.specs.Records.{waypointLayout, waypointWords}
-use Rattle.rooms.specs.Waypoints.{canonicalWord, sameWord, samePoint, alike}
 use Rattle.claims.specs.Words.{InF64}
 use Rattle.claims.specs.Laws.Fits.{Each, end, more, F64, Made, MadeIf, nowhere, made, connector-made}
 

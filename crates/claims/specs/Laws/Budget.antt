@@ -10,13 +10,16 @@ use Rattle.world.specs.declared.Request.{Request}
 use Rattle.world.specs.Space.{Space}
 use Rattle.request.specs.Request.{validRequest, allFinite, notNegative, limit, placed}
 use Rattle.heights.specs.Heights.{heights}
-use Rattle.edges.specs.declared.answer.Waypoint.{Waypoint}
-use Rattle.edges.specs.Edges.{inRange, stepHeight, passable, edge, connector}
+use Rattle.moves.specs.declared.answer.Waypoint.{Waypoint}
+use Rattle.moves.specs.Moves.{stepHeight}
+use Rattle.places.specs.Places.{inRange}
+use Rattle.edges.specs.Edges.{passable, edge, connector}
 use Rattle.ends.specs.Ends.{endsGood}
 use Rattle.steps.specs.declared.columns.Centre.{Centre}
 use Rattle.steps.specs.Columns.{centreOf, bandOf, target, edgesAt, columnSteps, sides, columnIf, stepsFrom}
-use Rattle.steps.specs.Words.{pointOf, feetOf, stepOf, labelIf, standing, graph}
-use Rattle.rooms.specs.Waypoints.{samePoint, alike}
+use Rattle.words.specs.Words.{pointOf, feetOf, stepOf, labelIf}
+use Rattle.steps.specs.Graph.{graph}
+use Rattle.rooms.specs.Waypoints.{standing, samePoint, alike}
 use Rattle.claims.specs.Words.{withBudget}
 use Rattle.claims.specs.Laws.Edges.{edge-is}
 

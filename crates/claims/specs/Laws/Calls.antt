@@ -18,9 +18,9 @@ use Rattle.world.specs.declared.Window.{Window}
 use Rattle.world.specs.Space.{Space, space}
 use Rattle.tables.specs.BadWorld.{badWorld}
 use Rattle.request.specs.Request.{validRequest, sizesTooLarge, tooLarge}
-use Rattle.edges.specs.Edges.{inRange, standable}
+use Rattle.places.specs.Places.{inRange, standable}
 use Rattle.ends.specs.Ends.{endsGood}
-use Rattle.steps.specs.Words.{graph}
+use Rattle.steps.specs.Graph.{graph}
 use Rattle.rooms.specs.declared.Feet.{Feet}
 use Rattle.rooms.specs.declared.Label.{Label}
 use Rattle.rooms.specs.Lists.{listBytes}

@@ -7,11 +7,12 @@ use Rattle.world.specs.declared.Point.{Point}
 use Rattle.world.specs.declared.Body.{Body}
 use Rattle.world.specs.declared.Request.{Request}
 use Rattle.world.specs.Space.{Space}
-use Rattle.edges.specs.declared.answer.Movement.{Movement}
-use Rattle.edges.specs.declared.answer.Movement.the-variants.{Walk, Step, Jump, Drop}
-use Rattle.edges.specs.declared.answer.EdgeAnswer.{EdgeAnswer}
-use Rattle.edges.specs.declared.answer.EdgeAnswer.the-variants.{To, Nowhere}
-use Rattle.edges.specs.Edges.{stepHeight, rising, falling, moving, passable, edge}
+use Rattle.moves.specs.declared.answer.Movement.{Movement}
+use Rattle.moves.specs.declared.answer.Movement.the-variants.{Walk, Step, Jump, Drop}
+use Rattle.moves.specs.declared.answer.EdgeAnswer.{EdgeAnswer}
+use Rattle.moves.specs.declared.answer.EdgeAnswer.the-variants.{To, Nowhere}
+use Rattle.moves.specs.Moves.{stepHeight, rising, falling, moving}
+use Rattle.edges.specs.Edges.{passable, edge}
 
 module _ (sp : Space) (r : Request) (body : Body) (from to : Point) where
   -- by this movement and lift, where the way is passable

@@ -22,14 +22,16 @@ use Rattle.world.specs.Boxes.{plus, moved, corner, cube}
 use Rattle.world.specs.Space.{Space, Block, run, cellAt, blockOf, space}
 use Rattle.heights.specs.declared.Band.{Band}
 use Rattle.heights.specs.Heights.{reaches, topsOf, topsIn, tops, insert, sorted, within, thinnedAfter, thinned, heights}
-use Rattle.edges.specs.declared.answer.Movement.{Movement}
-use Rattle.edges.specs.declared.answer.Movement.the-variants.{Walk, Step, Jump, Drop}
-use Rattle.edges.specs.declared.answer.Waypoint.{Waypoint}
-use Rattle.edges.specs.declared.answer.EdgeAnswer.{EdgeAnswer}
-use Rattle.edges.specs.declared.answer.EdgeAnswer.the-variants.{To, Nowhere}
-use Rattle.edges.specs.Edges.{stepHeight, passable, edge, nearGoal, connector}
+use Rattle.moves.specs.declared.answer.Movement.{Movement}
+use Rattle.moves.specs.declared.answer.Movement.the-variants.{Walk, Step, Jump, Drop}
+use Rattle.moves.specs.declared.answer.Waypoint.{Waypoint}
+use Rattle.moves.specs.declared.answer.EdgeAnswer.{EdgeAnswer}
+use Rattle.moves.specs.declared.answer.EdgeAnswer.the-variants.{To, Nowhere}
+use Rattle.moves.specs.Moves.{stepHeight}
+use Rattle.edges.specs.Edges.{passable, edge, nearGoal, connector}
 use Rattle.steps.specs.declared.columns.Centre.{Centre}
-use Rattle.steps.specs.Columns.{centre, centreOf, lookedBy, bandOf, target, ahead, edgesAt, columnSteps, sides, columnIf, stepsFrom}
+use Rattle.sides.specs.Sides.{lookedBy}
+use Rattle.steps.specs.Columns.{centre, centreOf, bandOf, target, ahead, edgesAt, columnSteps, sides, columnIf, stepsFrom}
 use Rattle.claims.specs.Words.{InF64}
 use Rattle.claims.specs.Laws.Edges.{by, rise, edge-is}
 

@@ -17,7 +17,8 @@ use Rattle.exploration.specs.Laws.Expansions.{sound-room, final-sound}
 use Rattle.world.specs.declared.Body.{Body}
 use Rattle.world.specs.declared.Request.{Request}
 use Rattle.world.specs.Space.{Space}
-use Rattle.steps.specs.Words.{feetOf, graph}
+use Rattle.words.specs.Words.{feetOf}
+use Rattle.steps.specs.Graph.{graph}
 use Rattle.steps.specs.GraphLaws.{graph-laws}
 use Rattle.rooms.specs.declared.Feet.{Feet}
 use Rattle.rooms.specs.declared.Label.{Label}

@@ -2,7 +2,8 @@
 use Prim.Native.Nat.{_*_}
 use mathlib.Core.Path.{sym, _∙_}
 use denote.Ref.{now}
-use Rattle.clear.specs.Laws.{part-is, past}
+use Rattle.world.specs.Laws.{part-is}
+use Rattle.clear.specs.Laws.{past}
 use borrow.Author.Needs.{needs}
 use Rattle.clear.proofs.table_hits.Statement.{statement}
 use Rattle.clear.proofs.table_hits.Tie as tie

@@ -11,7 +11,7 @@ use Rattle.exploration.specs.Laws.Expansions.{Done, at-found, at-end, done-run}
 use Rattle.world.specs.declared.Body.{Body}
 use Rattle.world.specs.declared.Request.{Request}
 use Rattle.world.specs.Space.{Space}
-use Rattle.steps.specs.Words.{graph}
+use Rattle.steps.specs.Graph.{graph}
 use Rattle.rooms.specs.declared.Feet.{Feet}
 use Rattle.rooms.specs.declared.Label.{Label}
 use Rattle.rooms.specs.declared.Counts.{Counts}

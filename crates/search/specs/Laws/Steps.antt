@@ -20,15 +20,16 @@ use Rattle.heights.specs.declared.Height.the-variants.{At, None}
 use Rattle.heights.specs.Heights.{tops, sorted, heights, keptAfter, nextAfter}
 use Rattle.heights.specs.Next.{kept-next}
 use Rattle.heights.specs.Laws.{numbers}
-use Rattle.edges.specs.declared.answer.Waypoint.{Waypoint}
-use Rattle.edges.specs.declared.answer.EdgeAnswer.{EdgeAnswer}
-use Rattle.edges.specs.declared.answer.EdgeAnswer.the-variants.{To, Nowhere}
+use Rattle.moves.specs.declared.answer.Waypoint.{Waypoint}
+use Rattle.moves.specs.declared.answer.EdgeAnswer.{EdgeAnswer}
+use Rattle.moves.specs.declared.answer.EdgeAnswer.the-variants.{To, Nowhere}
 use Rattle.edges.specs.Edges.{edge}
 use Rattle.steps.specs.declared.columns.Centre.{Centre}
-use Rattle.steps.specs.declared.sides.Sides.{Sides}
-use Rattle.steps.specs.Columns.{lookedBy, answeredBy, centreOf, bandOf, target, ahead, levelTo, level, columnSteps, columnIf, stepsFrom}
+use Rattle.sides.specs.declared.Sides.{Sides}
+use Rattle.sides.specs.Sides.{lookedBy, answeredBy, levelTo}
+use Rattle.steps.specs.Columns.{centreOf, bandOf, target, ahead, level, columnSteps, columnIf, stepsFrom}
 use Rattle.steps.specs.Expansion.{columnsFrom, columns-begin, columns-on, columns-end, sidesBefore, sides-on, looked-before, skipped, sides-skipped, stepsAfter, column-ends, column-on}
-use Rattle.steps.specs.Words.{feetOf, labelOf, stepOf}
+use Rattle.words.specs.Words.{feetOf, labelOf, stepOf}
 use Rattle.rooms.specs.declared.Feet.{Feet}
 use Rattle.rooms.specs.declared.Label.{Label}
 use Rattle.rooms.specs.declared.Counts.{Counts}

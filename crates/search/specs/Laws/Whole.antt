@@ -21,7 +21,8 @@ use Rattle.world.specs.declared.Body.{Body}
 use Rattle.world.specs.declared.Request.{Request}
 use Rattle.world.specs.declared.Window.{Window}
 use Rattle.world.specs.Space.{Space, space}
-use Rattle.steps.specs.Words.{feetOf, graph}
+use Rattle.words.specs.Words.{feetOf}
+use Rattle.steps.specs.Graph.{graph}
 use Rattle.steps.specs.GraphLaws.{graph-laws}
 use Rattle.rooms.specs.declared.Feet.{Feet}
 use Rattle.rooms.specs.declared.Label.{Label}

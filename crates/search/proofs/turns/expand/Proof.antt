@@ -6,9 +6,9 @@ use mathlib.Core.Bool.{true, false}
 use borrow.Author.Needs.{needs}
 use denote.Ref.{now}
 use Rattle.world.specs.Space.{space}
-use Rattle.edges.specs.declared.answer.EdgeAnswer.the-variants.{To, Nowhere}
+use Rattle.moves.specs.declared.answer.EdgeAnswer.the-variants.{To, Nowhere}
 use Rattle.edges.specs.Edges.{connector}
-use Rattle.steps.specs.Words.{pointOf}
+use Rattle.words.specs.Words.{pointOf}
 use Rattle.rooms.specs.Waypoints.{samePoint}
 use Rattle.rooms.specs.Records.{nodeAt}
 use Rattle.rooms.specs.Scans.{nextOf}

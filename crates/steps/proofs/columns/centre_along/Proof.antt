@@ -6,7 +6,7 @@ use mir.Facts.{toZ-ofZ, sfits-widen}
 use borrow.Author.Needs.{needs}
 use Rattle.cells.specs.Cells.{floorCell}
 use Rattle.steps.specs.Columns.{centre}
-use Rattle.steps.specs.SideLaws.{column-fits}
+use Rattle.steps.specs.ColumnLaws.{column-fits}
 use Rattle.steps.proofs.columns.centre_along.Statement.{statement}
 use Rattle.steps.proofs.columns.centre_along.Tie as tie
 

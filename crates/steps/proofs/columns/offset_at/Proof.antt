@@ -2,7 +2,7 @@
 use mathlib.Core.Path.{sym}
 use borrow.Author.Needs.{needs}
 use Rattle.steps.specs.Columns.{offsetAt}
-use Rattle.steps.specs.SideLaws.{offset-past}
+use Rattle.steps.specs.ColumnLaws.{offset-past}
 use Rattle.steps.proofs.columns.offset_at.Statement.{statement}
 use Rattle.steps.proofs.columns.offset_at.Tie as tie
 

@@ -4,7 +4,7 @@ use mathlib.Core.Bool.{_&&_}
 use mathlib.Core.Path.{ap, _∙_}
 use Prim.Native.Nat.{ℕ}
 use Rattle.rooms.specs.Waypoints.{sameWord, alike}
-use Rattle.steps.specs.Words.{labelOf}
+use Rattle.words.specs.Words.{labelOf}
 use Rattle.walk_back.proofs.listed.same_label.Statement.{statement}
 use Rattle.walk_back.proofs.listed.same_label.Tie as tie
 

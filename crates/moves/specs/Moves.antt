@@ -1,0 +1,39 @@
+-- 01, The graph, "Edge": the movement and the lift by a difference in height. Definitions only.
+use Prim.Native.Nat.{ℕ}
+use mathlib.Core.Bool.{cond}
+use lib.Ieee.{Float, binary64, lt, le, add, neg}
+use Rattle.floats.specs.Floats.{E, nought, smaller, larger}
+use Rattle.world.specs.declared.Body.{Body}
+use Rattle.world.specs.declared.Request.{Request}
+use Rattle.moves.specs.declared.answer.Movement.{Movement}
+use Rattle.moves.specs.declared.answer.Movement.the-variants.{Walk, Step, Jump, Drop}
+use Rattle.moves.specs.declared.answer.Moving.{Moving}
+use Rattle.moves.specs.declared.answer.Moving.the-variants.{By, None}
+
+-- 01, Tables: "movement as u64 (0 Walk, 1 Step, 2 Jump, 3 Drop)"
+abbrev pub movementNumber : Movement → ℕ
+movementNumber Walk = 0
+movementNumber Step = 1
+movementNumber Jump = 2
+movementNumber Drop = 3
+
+-- "step = the smaller step height"
+unfoldable pub stepHeight : Request → Body → Float
+stepHeight r body = smaller (r .«step_height») (body .«step_height»)
+
+-- "Rise above E: Step with lift dy if dy ≤ step + E, else Jump with lift jump_height if dy ≤ jump_height + E, else none."
+unfoldable pub rising : Request → Body → Float → Moving
+rising r body dy =
+    cond (le dy (add binary64 (stepHeight r body) E)) (By Step dy)
+    (cond (le dy (add binary64 (r .«jump_height») E)) (By Jump (r .«jump_height»)) None)
+
+-- "Fall beyond E: Drop, lift 0, if at most max_drop + E, else none."
+unfoldable pub falling : Request → Float → Moving
+falling r dy = cond (le (neg dy) (add binary64 (r .«max_drop») E)) (By Drop nought) None
+
+-- "Otherwise Walk, lift the larger of dy and 0.": of a zero +0.0
+unfoldable pub moving : Request → Body → Float → Moving
+moving r body dy =
+    cond (lt E dy) (rising r body dy)
+    (cond (lt dy (neg E)) (falling r dy)
+    (By Walk (larger dy nought)))

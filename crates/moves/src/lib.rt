@@ -1,0 +1,13 @@
+// Moves: how a body moves by a difference in height, and what an edge answers (01, The graph, "Edge").
+//
+// `answer` has the kinds of movement and the waypoint that carries one; `lift` says which of them a rise or a fall takes, and how far the body is lifted.
+pub mod answer;
+mod lift;
+
+pub use answer::EdgeAnswer;
+pub use answer::Movement;
+pub use answer::Moving;
+pub use answer::Waypoint;
+pub use answer::movement_number;
+pub use lift::moving;
+pub use lift::step_height;
