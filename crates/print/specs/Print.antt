@@ -5,10 +5,11 @@ use mathlib.Core.List.{List, [], _∷_, _++_}
 use lib.Dec.{ltb}
 use lib.ListN.{length, take}
 use Rattle.floats.specs.Floats.{nought}
-use Rattle.scene.specs.declared.state.Reading.{Reading}
-use Rattle.scene.specs.declared.state.Scene.{Scene}
+use Rattle.scene_state.specs.declared.state.Reading.{Reading}
+use Rattle.scene_state.specs.declared.state.Scene.{Scene}
 use Rattle.scene.specs.Scene.{cellsRead, permsRead, shapesRead, boxesRead}
-use Rattle.scene.specs.Answers.{Answer, given, refused, step, ended}
+use Rattle.scene_state.specs.Answers.{Answer, given, refused, ended}
+use Rattle.scene_step.specs.Next.{step}
 use Rattle.search.specs.declared.answers.Answer as search
 use Rattle.search.specs.FindWalkPath.{outcomeNumber, found, nodesAfter, frontAfter, outAfter}
 use Rattle.lengths.specs.Length.{lengthOf}
