@@ -7,10 +7,10 @@ use mathlib.Core.List.{List, [], _++_}
 use lib.Dec.{ltb}
 use lib.ListN.{length, drop, length-append}
 use borrow.Author.Tests.{lt-ltb, le-ltb}
-use Rattle.scene.specs.declared.state.Reading.{Reading}
-use Rattle.scene.specs.declared.state.Ended.{Ended}
-use Rattle.scene.specs.declared.state.Scene.{Scene}
-use Rattle.scene.specs.Answers.{Answer, refused, endedAnswer, ended}
+use Rattle.scene_state.specs.declared.state.Reading.{Reading}
+use Rattle.scene_state.specs.declared.state.Ended.{Ended}
+use Rattle.scene_state.specs.declared.state.Scene.{Scene}
+use Rattle.scene_state.specs.Answers.{Answer, refused, endedAnswer, ended}
 use Rattle.report.specs.Lines.{waypointLine, inBuffer, countIn}
 use Rattle.print.specs.declared.types.Progress.{Progress}
 use Rattle.print.specs.declared.types.Progress.the-variants.{Going, Refused}

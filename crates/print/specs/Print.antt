@@ -5,10 +5,11 @@ use mathlib.Core.List.{List, [], _∷_, _++_}
 use lib.Dec.{ltb}
 use lib.ListN.{length, take}
 use Rattle.floats.specs.Floats.{nought}
-use Rattle.scene.specs.declared.state.Reading.{Reading}
-use Rattle.scene.specs.declared.state.Scene.{Scene}
+use Rattle.scene_state.specs.declared.state.Reading.{Reading}
+use Rattle.scene_state.specs.declared.state.Scene.{Scene}
 use Rattle.scene.specs.Scene.{cellsRead, permsRead, shapesRead, boxesRead}
-use Rattle.scene.specs.Answers.{Answer, given, refused, step, ended}
+use Rattle.scene_state.specs.Answers.{Answer, given, refused, ended}
+use Rattle.scene_step.specs.Next.{step}
 use Rattle.outcomes.specs.declared.Answer as search
 use Rattle.outcomes.specs.Outcomes.{outcomeNumber}
 use Rattle.search.specs.FindWalkPath.{found, nodesAfter, frontAfter, outAfter}

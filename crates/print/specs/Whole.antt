@@ -4,9 +4,10 @@ use mathlib.Core.Path.{_≡_, refl}
 use mathlib.Core.Bool.{Bool, true, false}
 use mathlib.Core.List.{List, [], _∷_, _++_}
 use Rattle.scene_records.specs.Layout.{kindOf}
-use Rattle.scene.specs.declared.state.Reading.{Reading}
-use Rattle.scene.specs.Scene.{goodIn, next, cellsRead, permsRead, shapesRead, boxesRead}
-use Rattle.scene.specs.Answers.{Answer, given, refused, begun, step, Tables, tablesRead, Read, readFrom, onward, readAll}
+use Rattle.scene_state.specs.declared.state.Reading.{Reading}
+use Rattle.scene_step.specs.Next.{goodIn, next, step}
+use Rattle.scene.specs.Scene.{cellsRead, permsRead, shapesRead, boxesRead, Tables, tablesRead, Read, readFrom, onward, readAll}
+use Rattle.scene_state.specs.Answers.{Answer, given, refused, begun}
 use Rattle.print.specs.declared.types.Progress.{Progress}
 use Rattle.print.specs.declared.types.Progress.the-variants.{Going, Refused}
 use Rattle.print.specs.declared.types.Told.{Told}

@@ -1,6 +1,6 @@
 // A scene taken in, record by record.
 ghost use mathlib.Core.Path.{_≡_};
-ghost use Rattle.scene.specs.Answers.{begun};
+ghost use Rattle.scene_state.specs.Answers.{begun};
 ghost use Rattle.print.specs.Print.{progressAnswer, further, cellsFurther, permsFurther, shapesFurther, boxesFurther};
 use crate::types::Progress;
 use scene::Begun;

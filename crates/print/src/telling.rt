@@ -3,7 +3,7 @@ ghost use mathlib.Core.Path.{_≡_};
 ghost use Prim.Native.Nat.{_*_};
 ghost use lib.ListN.{length, take};
 ghost use Rattle.outcomes.specs.Outcomes.{outcomeNumber};
-ghost use Rattle.scene.specs.Answers.{given};
+ghost use Rattle.scene_state.specs.Answers.{given};
 ghost use Rattle.print.specs.Print.{refusal, toldOf, answered, nodesOf, frontOf, outOf, sceneOf, told};
 use crate::types::Progress;
 use crate::types::Told;

@@ -3,14 +3,15 @@ use Prim.Native.Nat.{ℕ, zero, suc, _+_, _-_, _*_, _≤_, _<_}
 use native.Mathlib.Omega.{arith}
 use native.Mathlib.Numerals.{add-one}
 use mathlib.Core.Path.{_≡_, refl, sym, ap, _∙_}
-use mathlib.Core.Bool.{Bool, true, false, cond}
+use mathlib.Core.Bool.{false}
 use mathlib.Core.List.{List, [], _∷_}
 use lib.ListN.{length, take, drop, length-drop}
 use lib.Seq.{take-all}
-use Rattle.scene_records.specs.Layout.{kindOf}
-use Rattle.scene.specs.declared.state.Reading.{Reading}
-use Rattle.scene.specs.Scene.{goodIn, next, cellsRead, permsRead, shapesRead, boxesRead}
-use Rattle.scene.specs.Answers.{Answer, given, refused, step, ended, begun, Tables, Read, tablesRead, readFrom, onward, readAll}
+use Rattle.scene_state.specs.declared.state.Reading.{Reading}
+use Rattle.scene.specs.Scene.{cellsRead, permsRead, shapesRead, boxesRead, Tables, Read, tablesRead, readFrom, onward, readAll}
+use Rattle.scene_state.specs.Answers.{Answer, given, refused, ended, begun}
+use Rattle.scene_step.specs.Next.{goodIn, step}
+use Rattle.scene_step.specs.Laws.{took, left}
 use Rattle.read_scene.specs.Whole.{recordCount, recordAt, recordsFrom, records}
 
 -- four tables
@@ -43,18 +44,7 @@ unfolding recordsFrom
 from-done s k n l = rw (let e : n - k ≡ 0 = omega arith in e)
 
 module _ (r : Reading) (s : List ℕ) where
-  -- a record that is taken in is good, and leads to the next state
-  took : (r' : Reading) → given r' ≡ step r s → (b : Bool) → goodIn r s ≡ b → (goodIn r s ≡ true) × (r' ≡ next (kindOf s) r s)
-  unfolding step
-  took r' e true g = (g, cc (rw g at e))
-  took r' e false g = absurd (let z : _≡_ {A = ℕ} 0 1 = cc (rw g at e) in omega arith)
-
-  -- one that is not is bad, and writes nothing
-  left : (n m : ℕ) → refused n m ≡ step r s → (b : Bool) → goodIn r s ≡ b → goodIn r s ≡ false
-  unfolding step
-  left n m e true g = absurd (let z : _≡_ {A = ℕ} 0 1 = cc (rw g at e) in omega arith)
-  left n m e false g = g
-
+  -- a bad record writes nothing
   nothing : (t : Tables) → goodIn r s ≡ false → tablesRead r s t ≡ t
   unfolding cellsRead permsRead shapesRead boxesRead
   nothing t g = rw g

@@ -2,8 +2,9 @@
 use Prim.Native.Nat.{ℕ, zero, suc, _+_, _*_, _/_}
 use mathlib.Core.List.{List, [], _∷_}
 use lib.ListN.{length, take, drop}
-use Rattle.scene.specs.declared.state.Scene.{Scene}
-use Rattle.scene.specs.Answers.{Answer, given, refused, Read, readAll}
+use Rattle.scene_state.specs.declared.state.Scene.{Scene}
+use Rattle.scene_state.specs.Answers.{Answer, given, refused}
+use Rattle.scene.specs.Scene.{Read, readAll}
 use Rattle.read_scene.specs.declared.answer.SceneAnswer.{SceneAnswer}
 use Rattle.read_scene.specs.declared.answer.SceneAnswer.the-variants.{Whole, BadScene, NoRoom}
 

@@ -1,4 +1,1 @@
 pub mod Scene
-pub mod Answers
-pub mod Laws
-pub mod Good

@@ -1,16 +1,15 @@
 // The scene reader (01, "Scenes and walkprint"): a scene is read record by record, so it has no length limit. `begin` judges the rooms, `read_record`
-// takes one record in, `end` says what stands when the input ends. What has been read is a state by value; the tables are the caller's.
-pub mod after;
+// takes one record in, `end` says what stands when the input ends. What has been read is a state by value (`scene_state`); the tables are the caller's.
 pub mod reader;
-pub mod state;
+pub mod writes;
 
-pub use reader::begin;
-pub use reader::end;
-pub use reader::in_use;
 pub use reader::read_record;
-pub use state::Begun;
-pub use state::Ended;
-pub use state::InUse;
-pub use state::Reading;
-pub use state::Scene;
-pub use state::Step;
+pub use scene_state::Begun;
+pub use scene_state::Ended;
+pub use scene_state::InUse;
+pub use scene_state::Reading;
+pub use scene_state::Scene;
+pub use scene_state::Step;
+pub use scene_state::begin;
+pub use scene_state::end;
+pub use scene_state::in_use;

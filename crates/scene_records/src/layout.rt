@@ -1,10 +1,8 @@
 // The fields of a scene record.
 ghost use mathlib.Core.Path.{_≡_};
-ghost use Prim.Native.Nat.{_≤_};
-ghost use lib.ListN.{getD, drop};
+ghost use lib.ListN.{getD};
 ghost use Rattle.tables.specs.BadWorld.{Sizes, sizeAbove};
-ghost use Rattle.scene_records.specs.Layout.{numberOf, zeros, threeZeros, unusedFrom, pointAt, bodyOf, windowOf, cellCount, volume, boxOf};
-use world::Aabb;
+ghost use Rattle.scene_records.specs.Layout.{numberOf, pointAt, bodyOf, windowOf, cellCount, volume};
 use world::Body;
 use world::Point;
 use world::Window;
@@ -24,44 +22,6 @@ pub fn number_of(bytes: &[u8]) -> u32
     ensures { λ r. ⌜ r ≡ numberOf (now (bytes .entry)) ⌝ }
 {
     fields::u32_at(bytes, 4)
-}
-
-// Whether the three bytes behind the kind are zero.
-pub(crate) fn three_zeros(bytes: &[u8]) -> bool
-    ensures { λ r. ⌜ r ≡ threeZeros (now (bytes .entry)) ⌝ }
-{
-    let a = byte_at(bytes, 1);
-    let b = byte_at(bytes, 2);
-    let c = byte_at(bytes, 3);
-    (a == 0) & (b == 0) & (c == 0)
-}
-
-// Whether every byte from an offset on is zero.
-pub(crate) fn zeros_from(bytes: &[u8], from: usize) -> bool
-    ensures { λ r. ⌜ r ≡ zeros (drop from (now (bytes .entry))) ⌝ }
-{
-    let mut i = from;
-    while i < bytes.len() {
-        if bytes[i] != 0 {
-            return false;
-        }
-        i += 1;
-    }
-    true
-}
-
-// Where the bytes begin that a kind does not use.
-pub(crate) fn unused_from(kind: u8) -> usize
-    ensures { λ r. ⌜ r ≡ unusedFrom kind ⌝ }
-{
-    match kind {
-        1 => 64,
-        2 => 56,
-        3 => 32,
-        4 => 56,
-        5 => 9,
-        _ => 40,
-    }
 }
 
 // Three f64 from an offset on.
@@ -124,14 +84,4 @@ pub fn cell_count(w: Window) -> u32
         return 0;
     }
     product(w)
-}
-
-// The box of kind 4.
-pub fn box_of(bytes: &[u8]) -> Aabb
-    ensures { λ r. ⌜ r ≡ boxOf (now (bytes .entry)) ⌝ }
-{
-    Aabb {
-        min: point_at(bytes, 8),
-        max: point_at(bytes, 32),
-    }
 }

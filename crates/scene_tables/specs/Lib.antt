@@ -1,3 +1,2 @@
 pub mod Made
 pub mod Laws
-pub mod Turns

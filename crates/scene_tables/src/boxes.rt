@@ -1,6 +1,5 @@
-// A box record of 48 bytes, and a permission byte.
+// A box record of 48 bytes.
 ghost use mathlib.Core.Path.{_≡_};
-ghost use lib.ListN.{set};
 ghost use Rattle.scene_tables.specs.Made.{withBox};
 
 // Box k set to the six numbers of a scene record, word by word.
@@ -13,15 +12,5 @@ pub fn put_box(boxes: &mut [u8], k: u32, bytes: &[u8])
         let word = fields::u64_at(bytes, 8 + 8 * j);
         stores::put_u64(boxes, at + 8 * j, word);
         j += 1;
-    }
-}
-
-// The permission of state n.
-pub fn put_permission(perms: &mut [u8], n: u32, permission: u8)
-    ensures { λ _. ⌜ now (perms .exit) ≡ set (now (perms .entry)) n permission ⌝ }
-{
-    let at = n as usize;
-    if at < perms.len() {
-        perms[at] = permission;
     }
 }

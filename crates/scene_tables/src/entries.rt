@@ -1,37 +1,36 @@
 // Records of 8 bytes: cells and shapes.
 ghost use mathlib.Core.Path.{_≡_};
-ghost use Prim.Native.Nat.{_^_, _<_};
+ghost use Prim.Native.Nat.{_^_, _≤_};
 ghost use Rattle.scene_tables.specs.Made.{withEntry, unfilled, emptyShapes, withShape};
 
 // Record i set to two numbers.
-pub(crate) fn put_entry(table: &mut [u8], i: usize, a: u32, b: u32)
-    requires { ⌜ i < 2 ^ 40 ⌝ }
+pub fn put_entry(table: &mut [u8], i: u32, a: u32, b: u32)
     ensures { λ _. ⌜ now (table .exit) ≡ withEntry a b i (now (table .entry)) ⌝ }
 {
-    stores::put_u32(table, 8 * i, a);
-    stores::put_u32(table, 8 * i + 4, b);
+    let at = 8 * (i as usize);
+    stores::put_u32(table, at, a);
+    stores::put_u32(table, at + 4, b);
 }
 
 // The first n cells, unfilled.
 pub fn clear_cells(cells: &mut [u8], n: u32)
     ensures { λ _. ⌜ now (cells .exit) ≡ unfilled n (now (cells .entry)) ⌝ }
 {
-    let end = n as usize;
-    let mut i: usize = 0;
-    while i < end {
+    let mut i: u32 = 0;
+    while i < n {
         put_entry(cells, i, 4294967295, 0);
         i += 1;
     }
 }
 
-// The empty shapes from one to n, each with a first box.
+// The empty shapes from one to n, each with a first box. The end is a usize: behind the last u32 there is one more.
 fn empty_shapes(shapes: &mut [u8], from: u32, end: usize, first: u32)
-    requires { ⌜ end < 2 ^ 40 ⌝ }
+    requires { ⌜ end ≤ 2 ^ 32 ⌝ }
     ensures { λ _. ⌜ now (shapes .exit) ≡ emptyShapes from end first (now (shapes .entry)) ⌝ }
 {
     let mut i = from as usize;
     while i < end {
-        put_entry(shapes, i, first, 0);
+        put_entry(shapes, i as u32, first, 0);
         i += 1;
     }
 }

@@ -10,9 +10,9 @@ use Rattle.world.specs.declared.Point.{Point}
 use Rattle.world.specs.declared.Body.{Body}
 use Rattle.world.specs.declared.Request.{Request}
 use Rattle.world.specs.declared.Window.{Window}
-use Rattle.scene.specs.declared.state.InUse.{InUse}
-use Rattle.scene.specs.declared.state.Scene.{Scene}
-use Rattle.scene.specs.Answers.{Answer, given, refused}
+use Rattle.scene_state.specs.declared.state.InUse.{InUse}
+use Rattle.scene_state.specs.declared.state.Scene.{Scene}
+use Rattle.scene_state.specs.Answers.{Answer, given, refused}
 
 -- three f64 at an offset
 unfoldable pub withPoint : Point → ℕ → List ℕ → List ℕ

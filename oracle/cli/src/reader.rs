@@ -5,84 +5,110 @@ use scene::{Partial, Record, write_bytes};
 
 use crate::digest::Digest;
 
-/// The digest of what a reader holds at its end or at a refusal.
-fn read_digest(partial: &Partial) -> u64 {
-    let mut digest = Digest::default();
-    if let Some(ends) = partial.ends {
-        floats(&mut digest, &ends.start);
-        floats(&mut digest, &ends.goal);
-        floats(&mut digest, &[ends.max_range]);
-        digest.take(&ends.node_budget.to_le_bytes());
-    } else {
-        digest.take(&[0; 64]);
+/// The reader's tables at their largest sizes. They stay as they are from
+/// scene to scene.
+struct Rooms([Vec<u8>; 4]);
+
+impl Rooms {
+    fn empty() -> Self {
+        Rooms([8 * 4096, 256, 8 * 256, 48 * 256].map(|size| vec![0; size]))
     }
-    if let Some(steps) = partial.steps {
-        let body = steps.body;
-        floats(
-            &mut digest,
-            &[steps.step_height, steps.jump_height, steps.max_drop],
-        );
-        floats(&mut digest, &[body.width, body.height, body.step_height]);
-    } else {
-        digest.take(&[0; 48]);
+
+    /// Reads a scene into them: the line that the gate's program must print.
+    fn line(&mut self, bytes: &[u8]) -> String {
+        let (partial, bad) = scene::read_partial(bytes);
+        let raw = partial.tables.raw();
+        let made = [&raw.cells, &raw.permissions, &raw.shapes, &raw.boxes];
+        for (room, made) in self.0.iter_mut().zip(made) {
+            room[..made.len()].copy_from_slice(made);
+        }
+        let mut digest = Digest::default();
+        if bad.is_none() {
+            answer(&mut digest, &partial);
+            for table in made {
+                digest.number(table.len() as u64);
+            }
+        }
+        for room in &self.0 {
+            digest.take(room);
+        }
+        let (number, record) = bad.map_or((0, 0), |bad| (7, bad.record));
+        format!("{number} {record} {}\n", digest.0)
     }
-    let raw = partial.tables.raw();
-    digest.take(raw.window.origin.map(i32::to_le_bytes).as_flattened());
-    digest.take(raw.window.sizes.map(u32::to_le_bytes).as_flattened());
-    for table in [&raw.cells, &raw.permissions, &raw.shapes, &raw.boxes] {
-        digest.take(table);
+}
+
+/// The request, the body and the window of a whole scene.
+fn answer(digest: &mut Digest, partial: &Partial) {
+    let ends = partial.ends.expect("a record of kind 1");
+    let steps = partial.steps.expect("a record of kind 2");
+    floats(digest, &ends.start);
+    floats(digest, &ends.goal);
+    floats(digest, &[ends.max_range]);
+    digest.number(ends.node_budget);
+    floats(
+        digest,
+        &[steps.step_height, steps.jump_height, steps.max_drop],
+    );
+    let body = steps.body;
+    floats(digest, &[body.width, body.height, body.step_height]);
+    let window = partial.window.expect("a record of kind 3");
+    for origin in window.origin {
+        digest.number(u64::from(origin as u32));
     }
-    digest.0
+    for size in window.sizes {
+        digest.number(u64::from(size));
+    }
 }
 
 /// Their bits, with one pattern for every NaN.
 fn floats(digest: &mut Digest, numbers: &[f64]) {
     for &number in numbers {
-        let bits = if number.is_nan() {
+        digest.number(if number.is_nan() {
             0x7ff8_0000_0000_0000
         } else {
             number.to_bits()
-        };
-        digest.take(&bits.to_le_bytes());
+        });
     }
 }
 
-/// Refusal number (0 or 7), record, digest of what stands.
-fn read_answer(bytes: &[u8]) -> [u32; 3] {
-    let (partial, bad) = scene::read_partial(bytes);
-    let digest = read_digest(&partial) as u32;
-    match bad {
-        None => [0, 0, digest],
-        Some(bad) => [7, bad.record as u32, digest],
-    }
-}
+/// No place of a scene: what is written there is lost.
+const NOWHERE: u32 = u32::MAX;
 
-/// A base scene with many small damages, then whole scenes.
-pub fn cases() -> Vec<u8> {
+/// What the gate's program reads and what it must print: a base scene with
+/// many small damages, then whole scenes.
+pub fn cases() -> (Vec<u8>, String) {
+    let mut rooms = Rooms::empty();
+    let mut count: u32 = 0;
+    let mut input = Vec::new();
+    let mut output = String::new();
+    let mut case = |new: &[u8], length: usize, place: u32, word: [u8; 8], scene: &[u8]| {
+        for number in [new.len() as u32, length as u32, place] {
+            input.extend(number.to_le_bytes());
+        }
+        input.extend(word);
+        input.extend(new);
+        output.push_str(&rooms.line(scene));
+        count += 1;
+    };
     let base = write_bytes(&base_records());
-    let mut out = (base.len() as u32).to_le_bytes().to_vec();
-    out.extend(&base);
-    let damages = damages(&base);
-    out.extend((damages.len() as u32).to_le_bytes());
-    for damage in &damages {
-        for number in [damage.length, damage.at] {
-            out.extend((number as u32).to_le_bytes());
-        }
-        out.extend(damage.bytes);
-        for number in read_answer(&damage.applied(&base)) {
-            out.extend(number.to_le_bytes());
-        }
+    case(&base, base.len(), NOWHERE, [0; 8], &base);
+    for damage in damages(&base) {
+        let scene = damage.applied(&base);
+        case(&[], damage.length, damage.at as u32, damage.bytes, &scene);
     }
-    let scenes = whole_scenes();
-    out.extend((scenes.len() as u32).to_le_bytes());
-    for bytes in &scenes {
-        out.extend((bytes.len() as u32).to_le_bytes());
-        for number in read_answer(bytes) {
-            out.extend(number.to_le_bytes());
-        }
-        out.extend(bytes);
+    for scene in whole_scenes() {
+        let read = to_first_bad(&scene);
+        case(read, read.len(), NOWHERE, [0; 8], read);
     }
-    out
+    let mut all = count.to_le_bytes().to_vec();
+    all.extend(input);
+    (all, output)
+}
+
+/// A scene to its first bad record: a reader reads no further.
+fn to_first_bad(bytes: &[u8]) -> &[u8] {
+    let good = scene::read_partial(bytes).0.good as usize;
+    &bytes[..bytes.len().min(scene::RECORD * (good + 1))]
 }
 
 /// Eight bytes written over a scene at a place, then a cut.
@@ -235,7 +261,7 @@ fn field_damages(base: &[u8], begin: usize, out: &mut Vec<Damage>) {
 /// Orders, counts at their limits and one past them, and made scenes.
 fn whole_scenes() -> Vec<Vec<u8>> {
     let base = base_records();
-    let mut out = vec![write_bytes(&base)];
+    let mut out = Vec::new();
     for place in 0..base.len() {
         let mut removed = base.clone();
         removed.remove(place);

@@ -27,12 +27,14 @@ pub fn store(folder: &Path) -> Result<String, String> {
 /// Each list's file and bytes.
 pub fn lists(folder: &Path) -> Result<Vec<(&'static str, Vec<u8>)>, String> {
     let (replay, names) = replay(folder)?;
+    let (scenes, lines) = reader::cases();
     Ok(vec![
         ("replay.bin", replay),
         ("replay.lst", names.into_bytes()),
         ("geometry.bin", geometry_cases(folder)?),
         ("walkback.bin", walks::cases()),
-        ("reader.bin", reader::cases()),
+        ("../crates/scene_check/stdin", scenes),
+        ("../crates/scene_check/stdout", lines.into_bytes()),
         ("jumps.bin", policy::jump_records()),
     ])
 }

@@ -1,6 +1,6 @@
 -- `read_scene::ended_answer` meets its contract. Assumes nothing.
 use mathlib.Core.Path.{sym, ap}
-use Rattle.scene.specs.Answers.{endedAnswer}
+use Rattle.scene_state.specs.Answers.{endedAnswer}
 use borrow.Author.Needs.{needs}
 use Rattle.read_scene.proofs.ended_answer.Statement.{statement}
 use Rattle.read_scene.proofs.ended_answer.Tie as tie

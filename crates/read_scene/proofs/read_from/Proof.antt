@@ -6,7 +6,9 @@ use native.Mathlib.Omega.{arith}
 use borrow.Author.Needs.{needs}
 use denote.Ref.{now}
 use lib.ListN.{length}
-use Rattle.scene.specs.Answers.{stepAnswer, Read, readFrom, step}
+use Rattle.scene_state.specs.Answers.{stepAnswer}
+use Rattle.scene_step.specs.Next.{step}
+use Rattle.scene.specs.Scene.{Read, readFrom}
 use Rattle.read_scene.specs.Whole.{recordsFrom, records}
 use Rattle.read_scene.specs.Laws.{tablesOf, from-first, goes-on, stops, ends}
 use Rattle.read_scene.proofs.read_from.Statement.{statement}

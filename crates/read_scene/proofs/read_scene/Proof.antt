@@ -2,7 +2,8 @@
 use mathlib.Core.Path.{_≡_, sym, ap, _∙_}
 use borrow.Author.Needs.{needs}
 use denote.Ref.{now}
-use Rattle.scene.specs.Answers.{begunAnswer, Tables, Read}
+use Rattle.scene_state.specs.Answers.{begunAnswer}
+use Rattle.scene.specs.Scene.{Tables, Read}
 use Rattle.read_scene.specs.Whole.{records}
 use Rattle.read_scene.specs.Laws.{tablesOf, begins, no-room}
 use Rattle.read_scene.proofs.read_scene.Statement.{statement}

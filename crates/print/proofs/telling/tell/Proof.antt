@@ -1,6 +1,6 @@
 -- `print::telling::tell` meets its contract. Assumes nothing.
 use mathlib.Core.Path.{refl, ap, _∙_}
-use Rattle.scene.specs.Answers.{endedAnswer}
+use Rattle.scene_state.specs.Answers.{endedAnswer}
 use Rattle.print.specs.Print.{told, nodesOf, frontOf, outOf}
 use Rattle.print.specs.Laws.{scene-refused, scene-ended}
 use borrow.Author.Needs.{needs}

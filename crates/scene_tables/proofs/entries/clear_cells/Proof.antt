@@ -11,16 +11,16 @@ use Rattle.scene_tables.proofs.entries.clear_cells.Statement.{statement
 use Rattle.scene_tables.proofs.entries.clear_cells.Tie as tie
 
 abbrev Inv-loop : tie.InvT-loop
-Inv-loop cells₀ n end i₀ cells i = (length cells ≡ length cells₀) × (inTurn (withEntry 4294967295 0) 0 end cells₀ ≡ inTurn (withEntry 4294967295 0) i (end - i) cells)
+Inv-loop cells₀ n i₀ cells i = (length cells ≡ length cells₀) × (inTurn (withEntry 4294967295 0) 0 n cells₀ ≡ inTurn (withEntry 4294967295 0) i (n - i) cells)
 
 abbrev μ-loop : tie.MeasureT-loop
-μ-loop cells₀ n end i₀ cells i = end - i
+μ-loop cells₀ n i₀ cells i = n - i
 
 loop-holds : tie.Need-loop-holds Inv-loop μ-loop
 loop-holds c = (refl, ap (λ (m : ℕ). inTurn (withEntry 4294967295 0) 0 m (now (c .before .args .cells))) (omega arith))
 
 put-entry-requires : tie.Need-put-entry-requires Inv-loop μ-loop
-put-entry-requires c κs = omega (arith, c .before .before .before .before .fits .n)
+put-entry-requires c κs = tt
 
 add-i : tie.Need-add-i Inv-loop μ-loop
 add-i c = omega arith

@@ -18,8 +18,11 @@ abbrev μ-loop : tie.MeasureT-loop
 loop-holds : tie.Need-loop-holds Inv-loop μ-loop
 loop-holds c = (refl, refl)
 
+cast-put-entry : tie.Need-cast-put-entry Inv-loop μ-loop
+cast-put-entry c = record { fits = omega (arith, c .before .before .before .before .pre) }
+
 put-entry-requires : tie.Need-put-entry-requires Inv-loop μ-loop
-put-entry-requires c κs = omega (arith, c .before .before .before .before .pre)
+put-entry-requires c κs = tt
 
 add-i : tie.Need-add-i Inv-loop μ-loop
 add-i c = omega (arith, c .before .before .before .before .before .before .before .pre)
@@ -50,6 +53,7 @@ empty-shapes-spec =
     Inv-loop
     μ-loop
     loop-holds
+    cast-put-entry
     put-entry-requires
     add-i
     loop-less

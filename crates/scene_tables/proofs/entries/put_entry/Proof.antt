@@ -8,14 +8,11 @@ use borrow.Author.Needs.{needs}
 use Rattle.scene_tables.proofs.entries.put_entry.Statement.{statement}
 use Rattle.scene_tables.proofs.entries.put_entry.Tie as tie
 
-mul-put-u32 : tie.Need-mul-put-u32
-mul-put-u32 c = search needs
+mul-at : tie.Need-mul-at
+mul-at c = search needs
 
 put-u32-requires : tie.Need-put-u32-requires
 put-u32-requires c κs = tt
-
-mul-put-u32-2 : tie.Need-mul-put-u32-2
-mul-put-u32-2 c = search needs
 
 add-put-u32 : tie.Need-add-put-u32
 add-put-u32 c = search needs
@@ -36,9 +33,8 @@ pub put-entry-spec : {M : Type 1} → statement M
 put-entry-spec =
     tie.close
     (tie.spec
-    mul-put-u32
+    mul-at
     put-u32-requires
-    mul-put-u32-2
     add-put-u32
     put-u32-requires-2
     same-length

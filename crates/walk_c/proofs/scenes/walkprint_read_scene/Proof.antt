@@ -1,8 +1,8 @@
 -- `walk_c::scenes::walkprint_read_scene` meets its contract. Assumes nothing.
 use mathlib.Core.Path.{_≡_, sym, ap, _∙_}
 use denote.Ref.{now}
-use Rattle.scene.specs.declared.state.Scene.{Scene}
-use Rattle.scene.specs.Answers.{Answer}
+use Rattle.scene_state.specs.declared.state.Scene.{Scene}
+use Rattle.scene_state.specs.Answers.{Answer}
 use Rattle.walk_c.specs.Scenes.{sceneNumber, sceneWritten}
 use borrow.Author.Needs.{needs}
 use Rattle.walk_c.proofs.scenes.walkprint_read_scene.Statement.{statement}

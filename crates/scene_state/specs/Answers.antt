@@ -1,0 +1,48 @@
+-- The reader's answers: 01's number for each case of an enum, and its values.
+use Prim.Native.Nat.{ℕ}
+use mathlib.Core.Bool.{Bool, _&&_, cond}
+use mathlib.Core.List.{List}
+use lib.Dec.{leb, ltb}
+use lib.ListN.{length}
+use Rattle.scene_state.specs.declared.state.Reading.{Reading}
+use Rattle.scene_state.specs.declared.state.Scene.{Scene}
+use Rattle.scene_state.specs.declared.state.Begun.{Begun}
+use Rattle.scene_state.specs.declared.state.Begun.the-variants.{Ready, NoRoom}
+use Rattle.scene_state.specs.declared.state.Step.{Step}
+use Rattle.scene_state.specs.declared.state.Step.the-variants as steps
+use Rattle.scene_state.specs.declared.state.Ended.{Ended}
+use Rattle.scene_state.specs.declared.state.Ended.the-variants as ends
+use Rattle.scene_state.specs.State.{empty, inUse}
+
+-- no refusal and its value, or a refusal's number and record: 0 unless 7
+pub data Answer (A : Type 0) : Type 0 where
+  given : A → Answer A
+  refused : ℕ → ℕ → Answer A
+
+-- ---- 5 NoRoom: "a scene table's room below its largest size (before 7, nothing written)": 4,096 cells of 8 bytes, 256 permissions, 256 shapes of 8 bytes and
+-- 256 boxes of 48
+
+abbrev pub begunAnswer : Begun → Answer Reading
+begunAnswer (Ready r) = given r
+begunAnswer NoRoom = refused 5 0
+
+unfoldable pub begun : List ℕ → List ℕ → List ℕ → List ℕ → Answer Reading
+begun cells perms shapes boxes =
+    cond (leb 32768 (length cells) && leb 256 (length perms) && leb 2048 (length shapes) && leb 12288 (length boxes)) (given empty) (refused 5 0)
+
+-- ---- 7 BadScene: "first bad record, counted from 0"
+
+abbrev pub stepAnswer : Step → Answer Reading
+stepAnswer (steps.On r) = given r
+stepAnswer (steps.Bad k) = refused 7 k
+
+-- "a missing or partial record is bad at its own number": records 0 to 2 can be missing
+
+abbrev pub endedAnswer : Ended → Answer Scene
+endedAnswer (ends.Whole x) = given x
+endedAnswer (ends.Bad k) = refused 7 k
+
+unfoldable pub ended : Reading → Answer Scene
+ended r =
+    cond (ltb (r .kind) 3) (refused 7 (r .number))
+    (given (record { request = r .request; body = r .body; window = r .window; «in_use» = inUse (r .counts) }))

@@ -1,0 +1,107 @@
+// How reading begins and how it ends.
+ghost use mathlib.Core.Path.{_≡_};
+ghost use Rattle.scene_state.specs.State.{inUse, empty};
+ghost use Rattle.scene_state.specs.Answers.{begunAnswer, begun, endedAnswer, ended};
+use crate::state::Begun;
+use crate::state::Ended;
+use crate::state::InUse;
+use crate::state::Reading;
+use crate::state::Scene;
+use scene_rules::Counts;
+use world::Body;
+use world::Point;
+use world::Request;
+use world::Window;
+
+// A state before the first record.
+fn empty() -> Reading
+    ensures { λ r. ⌜ r ≡ empty ⌝ }
+{
+    let zero = Point {
+        x: 0.0,
+        y: 0.0,
+        z: 0.0,
+    };
+    Reading {
+        number: 0,
+        kind: 0,
+        request: Request {
+            start: zero,
+            goal: zero,
+            max_range: 0.0,
+            node_budget: 0,
+            step_height: 0.0,
+            jump_height: 0.0,
+            max_drop: 0.0,
+        },
+        body: Body {
+            width: 0.0,
+            height: 0.0,
+            step_height: 0.0,
+        },
+        window: Window {
+            x: 0,
+            y: 0,
+            z: 0,
+            sx: 0,
+            sy: 0,
+            sz: 0,
+        },
+        counts: Counts {
+            cells: 0,
+            states: 0,
+            shapes: 0,
+            boxes: 0,
+            last: 0,
+        },
+    }
+}
+
+// Whether the lent tables have room for any scene; nothing is written.
+pub fn begin(cells: &[u8], perms: &[u8], shapes: &[u8], boxes: &[u8]) -> Begun
+    ensures { λ r. ⌜ begunAnswer r ≡ begun (now (cells .entry)) (now (perms .entry)) (now (shapes .entry)) (now (boxes .entry)) ⌝ }
+{
+    if cells.len() < 32768 {
+        return Begun::NoRoom;
+    }
+    if perms.len() < 256 {
+        return Begun::NoRoom;
+    }
+    if shapes.len() < 2048 {
+        return Begun::NoRoom;
+    }
+    if boxes.len() < 12288 {
+        return Begun::NoRoom;
+    }
+    Begun::Ready(empty())
+}
+
+// How many bytes of each table are in use.
+pub fn in_use(c: Counts) -> InUse
+    ensures { λ r. ⌜ r ≡ inUse c ⌝ }
+{
+    InUse {
+        cells: 8 * (c.cells as usize),
+        perms: c.states as usize,
+        shapes: 8 * (c.shapes as usize),
+        boxes: 48 * (c.boxes as usize),
+    }
+}
+
+// What stands where the input ends.
+pub fn end(state: Reading) -> Ended
+    ensures { λ r. ⌜ endedAnswer r ≡ ended state ⌝ }
+{
+    if state.kind < 3 {
+        return Ended::Bad(state.number);
+    }
+    let request = state.request;
+    let body = state.body;
+    let window = state.window;
+    Ended::Whole(Scene {
+        request,
+        body,
+        window,
+        in_use: in_use(state.counts),
+    })
+}

@@ -1,0 +1,14 @@
+// What has been read of a scene (01, "Scenes and walkprint"), a state by value: `state` has the types and the reader's answers, `ends` judges the rooms
+// before the first record and says what stands where the input ends.
+pub mod ends;
+pub mod state;
+
+pub use ends::begin;
+pub use ends::end;
+pub use ends::in_use;
+pub use state::Begun;
+pub use state::Ended;
+pub use state::InUse;
+pub use state::Reading;
+pub use state::Scene;
+pub use state::Step;

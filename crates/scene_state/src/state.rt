@@ -1,0 +1,50 @@
+// What has been read of a scene, and the reader's answers.
+use scene_rules::Counts;
+use world::Body;
+use world::Request;
+use world::Window;
+
+// What the good records so far say: how many they are, the last one's kind (0 before the first), what kinds 1 to 3 gave, and how much of each table
+// is made. What no record has given is zero.
+pub struct Reading {
+    pub number: u64,
+    pub kind: u8,
+    pub request: Request,
+    pub body: Body,
+    pub window: Window,
+    pub counts: Counts,
+}
+
+// Reading begins, or 5 NoRoom.
+pub enum Begun {
+    Ready(Reading),
+    NoRoom,
+}
+
+// The record was good, or 7 BadScene with its number.
+pub enum Step {
+    On(Reading),
+    Bad(u64),
+}
+
+// How many bytes of each table the scene made.
+pub struct InUse {
+    pub cells: usize,
+    pub perms: usize,
+    pub shapes: usize,
+    pub boxes: usize,
+}
+
+// A whole scene: what a search is asked, and the part of each table to hand on.
+pub struct Scene {
+    pub request: Request,
+    pub body: Body,
+    pub window: Window,
+    pub in_use: InUse,
+}
+
+// The scene is whole, or 7 BadScene with the number of a missing record.
+pub enum Ended {
+    Whole(Scene),
+    Bad(u64),
+}
