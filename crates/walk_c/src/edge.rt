@@ -2,11 +2,11 @@
 ghost use mathlib.Core.Path.{_≡_};
 ghost use Rattle.world.specs.Space.{space};
 ghost use Rattle.edges.specs.Edges.{edge};
-ghost use Rattle.walk_c.specs.Records.{windowIn, requestIn, bodyIn};
+ghost use Rattle.c_records.specs.Records.{windowIn, requestIn, bodyIn};
 ghost use Rattle.walk_c.specs.Answers.{edgeNumber};
-use crate::records::body_in;
-use crate::records::request_in;
-use crate::records::window_in;
+use c_records::body_in;
+use c_records::request_in;
+use c_records::window_in;
 use edges::EdgeAnswer;
 use world::Point;
 

@@ -2,12 +2,12 @@
 ghost use mathlib.Core.Path.{_≡_};
 ghost use lib.ListN.{length};
 ghost use Rattle.search.specs.FindWalkPath.{outcomeNumber, found, nodesAfter, frontAfter, outAfter};
-ghost use Rattle.walk_c.specs.Records.{windowIn, requestIn, bodyIn};
-ghost use Rattle.walk_c.specs.Answers.{answerWritten};
-use crate::answers::put_answer;
-use crate::records::body_in;
-use crate::records::request_in;
-use crate::records::window_in;
+ghost use Rattle.c_records.specs.Records.{windowIn, requestIn, bodyIn};
+ghost use Rattle.c_answers.specs.Answers.{answerWritten};
+use c_answers::put_answer;
+use c_records::body_in;
+use c_records::request_in;
+use c_records::window_in;
 
 // The outcome's number, 0 to 5: the list goes to `out`, `nodes` and `front` are the search's rooms, and `answer` gets the outcome, the list's count, and the
 // retained and closed nodes.

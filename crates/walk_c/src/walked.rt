@@ -1,10 +1,10 @@
 // The walk-back (01, Modules 5).
 ghost use mathlib.Core.Path.{_≡_};
 ghost use Rattle.walk_back.specs.WalkBack.{walked, walkedNumber};
-ghost use Rattle.walk_c.specs.Records.{windowIn, requestIn, bodyIn};
-use crate::records::body_in;
-use crate::records::request_in;
-use crate::records::window_in;
+ghost use Rattle.c_records.specs.Records.{windowIn, requestIn, bodyIn};
+use c_records::body_in;
+use c_records::request_in;
+use c_records::window_in;
 use walk_back::Walked;
 
 fn walked_number(a: Walked) -> u64

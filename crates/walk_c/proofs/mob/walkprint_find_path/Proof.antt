@@ -3,7 +3,7 @@ use mathlib.Core.Path.{_≡_, sym, ap, _∙_}
 use denote.Ref.{now}
 use Rattle.find_path.specs.declared.answers.Path.{Path}
 use Rattle.find_path.specs.FindPath.{pathNumber}
-use Rattle.walk_c.specs.Answers.{pathWritten}
+use Rattle.c_answers.specs.Answers.{pathWritten}
 use borrow.Author.Needs.{needs}
 use Rattle.walk_c.proofs.mob.walkprint_find_path.Statement.{statement}
 use Rattle.walk_c.proofs.mob.walkprint_find_path.Tie as tie
@@ -11,8 +11,8 @@ use Rattle.walk_c.proofs.mob.walkprint_find_path.Tie as tie
 policy-in-requires : tie.Need-policy-in-requires
 policy-in-requires c κs = search needs
 
-has-bit-requires : tie.Need-has-bit-requires
-has-bit-requires c κs = search needs
+in-water-requires : tie.Need-in-water-requires
+in-water-requires c κs = search needs
 
 window-in-requires : tie.Need-window-in-requires
 window-in-requires c κs = search needs
@@ -53,7 +53,7 @@ returns c =
     let p = c .before .before .put-path .ensures in
     rw (
       ← c .before .before .before .before .before .before .before .before .before .before .before .before .before .before .before .before .before .before .before .before .before .before .policy-in .ensures,
-      ← c .before .before .before .before .before .before .before .before .before .before .before .before .before .before .before .before .before .before .before .before .before .has-bit .ensures,
+      ← c .before .before .before .before .before .before .before .before .before .before .before .before .before .before .before .before .before .before .before .before .before .in-water .ensures,
       ← c .before .before .before .before .before .before .before .before .before .before .before .before .before .before .before .before .before .before .before .before .window-in .ensures,
       ← c .before .before .before .before .before .before .before .before .before .before .before .before .before .before .before .before .before .before .before .point-at .ensures,
       ← c .before .before .before .before .before .before .before .before .before .before .before .before .before .before .before .before .before .before .point-at2 .ensures,
@@ -68,7 +68,7 @@ walkprint-find-path-spec =
     tie.close
     (tie.spec
     policy-in-requires
-    has-bit-requires
+    in-water-requires
     window-in-requires
     point-at-requires
     point-at-requires-2

@@ -3,7 +3,7 @@ use mathlib.Core.Path.{_≡_, sym, ap, _∙_}
 use denote.Ref.{now}
 use Rattle.search.specs.declared.answers.Answer.{Answer}
 use Rattle.search.specs.FindWalkPath.{outcomeNumber}
-use Rattle.walk_c.specs.Answers.{answerWritten}
+use Rattle.c_answers.specs.Answers.{answerWritten}
 use borrow.Author.Needs.{needs}
 use Rattle.walk_c.proofs.path.walkprint_find_walk_path.Statement.{statement}
 use Rattle.walk_c.proofs.path.walkprint_find_walk_path.Tie as tie

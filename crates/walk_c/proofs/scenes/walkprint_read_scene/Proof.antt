@@ -3,7 +3,7 @@ use mathlib.Core.Path.{_≡_, sym, ap, _∙_}
 use denote.Ref.{now}
 use Rattle.scene.specs.declared.state.Scene.{Scene}
 use Rattle.scene.specs.Answers.{Answer}
-use Rattle.walk_c.specs.Scenes.{sceneNumber, sceneWritten}
+use Rattle.c_scene.specs.Scenes.{sceneNumber, sceneWritten}
 use borrow.Author.Needs.{needs}
 use Rattle.walk_c.proofs.scenes.walkprint_read_scene.Statement.{statement}
 use Rattle.walk_c.proofs.scenes.walkprint_read_scene.Tie as tie
