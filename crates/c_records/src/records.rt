@@ -6,7 +6,7 @@ use world::Body;
 use world::Request;
 use world::Window;
 
-pub fn window_in(window: &[u8]) -> Window
+pub(crate) fn window_in(window: &[u8]) -> Window
     ensures { λ r. ⌜ r ≡ windowIn (now (window .entry)) ⌝ }
 {
     Window {
@@ -19,7 +19,7 @@ pub fn window_in(window: &[u8]) -> Window
     }
 }
 
-pub fn request_in(request: &[u8]) -> Request
+pub(crate) fn request_in(request: &[u8]) -> Request
     ensures { λ r. ⌜ r ≡ requestIn (now (request .entry)) ⌝ }
 {
     Request {
@@ -33,7 +33,7 @@ pub fn request_in(request: &[u8]) -> Request
     }
 }
 
-pub fn body_in(body: &[u8]) -> Body
+pub(crate) fn body_in(body: &[u8]) -> Body
     ensures { λ r. ⌜ r ≡ bodyIn (now (body .entry)) ⌝ }
 {
     Body {

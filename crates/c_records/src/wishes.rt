@@ -13,7 +13,7 @@ fn has_bit(bits: u64, weight: u64) -> bool
     bits / weight % 2 == 1
 }
 
-pub fn policy_in(bits: u64, jump_height: f64) -> WalkPolicy
+pub(crate) fn policy_in(bits: u64, jump_height: f64) -> WalkPolicy
     ensures { λ r. ⌜ r ≡ policyIn bits «jump_height» ⌝ }
 {
     WalkPolicy {
@@ -28,7 +28,7 @@ pub fn policy_in(bits: u64, jump_height: f64) -> WalkPolicy
     }
 }
 
-pub fn in_water(bits: u64) -> bool
+pub(crate) fn in_water(bits: u64) -> bool
     ensures { λ r. ⌜ r ≡ inWater bits ⌝ }
 {
     has_bit(bits, 128)

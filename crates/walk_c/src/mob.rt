@@ -7,11 +7,7 @@ ghost use Rattle.find_path.specs.FindPath.{pathNumber, path, nodesAfterPath, fr
 ghost use Rattle.c_records.specs.Records.{windowIn, bodyIn, policyIn, inWater};
 ghost use Rattle.c_answers.specs.Answers.{pathWritten};
 use c_answers::put_path;
-use c_records::body_in;
-use c_records::in_water;
-use c_records::policy_in;
-use c_records::window_in;
-use scene_records::point_at;
+use c_records::mob_in;
 
 // The outcome's number, 0 to 5, or 8 BadTable. `policy` has a bit for each wish of the policy, and for a body in water; `ends` is the start and the goal.
 #[no_mangle]
@@ -38,24 +34,19 @@ pub extern "C" fn walkprint_find_path(
     ensures out { λ _. ⌜ now (out .exit) ≡ outAfterPath (policyIn policy «jump_height») (inWater policy) (now (flags .entry)) (windowIn (now (window .entry))) (now (cells .entry)) (now (permissions .entry)) (now (shapes .entry)) (now (boxes .entry)) (pointAt (now (ends .entry)) 0) (pointAt (now (ends .entry)) 24) (bodyIn (now (body .entry))) (now (nodes .entry)) (now (front .entry)) (now (out .entry)) ⌝ }
     ensures answer { λ _. ⌜ now (answer .exit) ≡ pathWritten (path (policyIn policy «jump_height») (inWater policy) (now (flags .entry)) (windowIn (now (window .entry))) (now (cells .entry)) (now (permissions .entry)) (now (shapes .entry)) (now (boxes .entry)) (pointAt (now (ends .entry)) 0) (pointAt (now (ends .entry)) 24) (bodyIn (now (body .entry))) (length (now (nodes .entry))) (length (now (front .entry))) (length (now (out .entry)))) (now (answer .entry)) ⌝ }
 {
-    let p = policy_in(policy, jump_height);
-    let wet = in_water(policy);
-    let w = window_in(window);
-    let start = point_at(ends, 0);
-    let goal = point_at(ends, 24);
-    let b = body_in(body);
+    let m = mob_in(policy, jump_height, window, ends, body);
     let a = find_path::find_path(
-        p,
-        wet,
+        m.policy,
+        m.in_water,
         flags,
-        w,
+        m.window,
         cells,
         permissions,
         shapes,
         boxes,
-        start,
-        goal,
-        b,
+        m.start,
+        m.goal,
+        m.body,
         nodes,
         front,
         out,

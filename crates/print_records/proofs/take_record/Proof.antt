@@ -1,9 +1,9 @@
--- `print::reading::take_record` meets its contract. Assumes nothing.
+-- `print_records::take_record` meets its contract. Assumes nothing.
 use mathlib.Core.Path.{refl}
-use Rattle.print.specs.Print.{further, cellsFurther, permsFurther, shapesFurther, boxesFurther}
+use Rattle.print_records.specs.Progress.{further, cellsFurther, permsFurther, shapesFurther, boxesFurther}
 use borrow.Author.Needs.{needs}
-use Rattle.print.proofs.reading.take_record.Statement.{statement}
-use Rattle.print.proofs.reading.take_record.Tie as tie
+use Rattle.print_records.proofs.take_record.Statement.{statement}
+use Rattle.print_records.proofs.take_record.Tie as tie
 
 enum-known-progress : tie.Need-enum-known-progress
 enum-known-progress c = search needs

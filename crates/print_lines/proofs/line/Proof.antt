@@ -1,11 +1,11 @@
--- `print::lines::line` meets its contract. Assumes nothing.
+-- `print_lines::line` meets its contract. Assumes nothing.
 use denote.Ref.{now}
 use Rattle.report.specs.LineLaws.{nothing-shown}
-use Rattle.print.specs.Print.{lineOf}
-use Rattle.print.specs.Laws.{past-list, in-list}
+use Rattle.print_lines.specs.Lines.{lineOf}
+use Rattle.print_lines.specs.Laws.{past-list, in-list}
 use borrow.Author.Needs.{needs}
-use Rattle.print.proofs.lines.line.Statement.{statement}
-use Rattle.print.proofs.lines.line.Tie as tie
+use Rattle.print_lines.proofs.line.Statement.{statement}
+use Rattle.print_lines.proofs.line.Tie as tie
 
 first-line-requires : tie.Need-first-line-requires
 first-line-requires c κs = search needs

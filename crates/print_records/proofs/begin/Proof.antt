@@ -1,7 +1,7 @@
--- `print::reading::begin` meets its contract. Assumes nothing.
+-- `print_records::begin` meets its contract. Assumes nothing.
 use borrow.Author.Needs.{needs}
-use Rattle.print.proofs.reading.begin.Statement.{statement}
-use Rattle.print.proofs.reading.begin.Tie as tie
+use Rattle.print_records.proofs.begin.Statement.{statement}
+use Rattle.print_records.proofs.begin.Tie as tie
 
 begin-requires : tie.Need-begin-requires
 begin-requires c κs = search needs

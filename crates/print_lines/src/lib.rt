@@ -1,8 +1,17 @@
-// The lines of what is told.
+// What walkprint tells of a scene, and its lines (01, "Scenes and walkprint").
 ghost use mathlib.Core.Path.{_≡_};
 ghost use Rattle.report.specs.Lines.{inBuffer, countIn};
-ghost use Rattle.print.specs.Print.{lineOf};
-use crate::types::Told;
+ghost use Rattle.print_lines.specs.Lines.{lineOf};
+
+// The number given back, the record that a refusal names, how many waypoints the list has, how many nodes were retained and closed, and the length.
+pub struct Told {
+    pub number: u64,
+    pub bad: u64,
+    pub waypoints: usize,
+    pub retained: u64,
+    pub closed: u64,
+    pub total: f64,
+}
 
 // Line k at the start of a buffer: line 0 is the first one, and line k + 1 that of waypoint k. The answer is how many bytes it has.
 pub fn line(told: Told, list: &[u8], k: usize, buffer: &mut [u8]) -> usize

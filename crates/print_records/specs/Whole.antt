@@ -1,33 +1,15 @@
--- A whole scene: what walkprint prints of it, and that its records, taken in one behind another, are the scene reader's fold.
-use Prim.Native.Nat.{ℕ, zero, suc}
+-- The records of a whole scene, taken in one behind another, are the scene reader's fold.
+use Prim.Native.Nat.{ℕ}
 use mathlib.Core.Path.{_≡_, refl}
 use mathlib.Core.Bool.{Bool, true, false}
-use mathlib.Core.List.{List, [], _∷_, _++_}
+use mathlib.Core.List.{List, [], _∷_}
 use Rattle.scene_records.specs.Layout.{kindOf}
 use Rattle.scene.specs.declared.state.Reading.{Reading}
 use Rattle.scene.specs.Scene.{goodIn, next, cellsRead, permsRead, shapesRead, boxesRead}
 use Rattle.scene.specs.Answers.{Answer, given, refused, begun, step, Tables, tablesRead, Read, readFrom, onward, readAll}
-use Rattle.print.specs.declared.types.Progress.{Progress}
-use Rattle.print.specs.declared.types.Progress.the-variants.{Going, Refused}
-use Rattle.print.specs.declared.types.Told.{Told}
-use Rattle.print.specs.Print.{further, cellsFurther, permsFurther, shapesFurther, boxesFurther, sceneOf, told, outOf, lineOf}
-
--- ---- what is printed
-
--- n lines from line k on
-abbrev pub linesFrom : Told → List ℕ → ℕ → ℕ → List ℕ
-linesFrom t list k zero = []
-linesFrom t list k (suc n) = lineOf t list k ++ linesFrom t list (suc k) n
-
--- the output for a scene of these records, in the lent tables and rooms: the first line, and one for each waypoint
-unfoldable pub printed : Tables → List ℕ → List ℕ → List ℕ → List (List ℕ) → List ℕ
-printed t nodes front out ss =
-    let r = readAll t ss in
-    let b = r .tables in
-    let x = told (b .cells) (b .perms) (b .shapes) (b .boxes) (r .answer) nodes front out in
-    linesFrom x (outOf (b .cells) (b .perms) (b .shapes) (b .boxes) (r .answer) nodes front out) 0 (suc (x .waypoints))
-
--- ---- the records, one behind another
+use Rattle.print_records.specs.declared.Progress.{Progress}
+use Rattle.print_records.specs.declared.Progress.the-variants.{Going, Refused}
+use Rattle.print_records.specs.Progress.{further, cellsFurther, permsFurther, shapesFurther, boxesFurther, sceneOf}
 
 -- the progress that `progressAnswer` gives this answer
 abbrev pub progressOf : Answer Reading → Progress
@@ -80,7 +62,7 @@ unfolding onward
 from-answer (given r) t ss = going-on r t ss
 from-answer (refused n k) t ss = refused-stays n k t ss
 
--- `begin`, then `take_record` for each record, then the end of the input, is `readAll`: the scene that `printed` tells of
+-- `begin`, then `take_record` for each record, then the end of the input, is `readAll`: the scene that `print`'s `printed` tells of
 pub takes-whole : (t : Tables) (ss : List (List ℕ)) → takenIn (progressOf (begun (t .cells) (t .perms) (t .shapes) (t .boxes))) t ss ≡ readAll t ss
 unfolding readAll
 takes-whole t ss = from-answer (begun (t .cells) (t .perms) (t .shapes) (t .boxes)) t ss

@@ -1,10 +1,16 @@
-// A scene taken in, record by record.
+// A scene taken in for walkprint, record by record (01, "Scenes and walkprint"): the scene reader's state, or a refusal that stands whatever follows.
 ghost use mathlib.Core.Path.{_≡_};
 ghost use Rattle.scene.specs.Answers.{begun};
-ghost use Rattle.print.specs.Print.{progressAnswer, further, cellsFurther, permsFurther, shapesFurther, boxesFurther};
-use crate::types::Progress;
+ghost use Rattle.print_records.specs.Progress.{progressAnswer, further, cellsFurther, permsFurther, shapesFurther, boxesFurther};
 use scene::Begun;
+use scene::Reading;
 use scene::Step;
+
+// What the good records so far say, or a refusal: its number and its record.
+pub enum Progress {
+    Going(Reading),
+    Refused(u64, u64),
+}
 
 // Before the first record: 5 NoRoom where a lent table is too short for some scene.
 pub fn begin(cells: &[u8], perms: &[u8], shapes: &[u8], boxes: &[u8]) -> Progress
