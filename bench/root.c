@@ -16,7 +16,11 @@ double walkprint_square_root(double x);
 /* Not inlined, as the proved one is not: both are timed with the cost of a call. */
 __attribute__((noinline)) static double hardware_square_root(double x) {
     double r;
+#ifdef __aarch64__
+    __asm__ volatile("fsqrt %d0, %d1" : "=w"(r) : "w"(x));
+#else
     __asm__ volatile("sqrtsd %1, %0" : "=x"(r) : "x"(x));
+#endif
     return r;
 }
 

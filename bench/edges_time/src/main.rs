@@ -17,16 +17,12 @@ const NONE: u64 = 4;
 
 type Pair = ([f64; 3], [f64; 3]);
 
-#[link(name = "edges_c", kind = "static")]
+#[link(name = "walk_c", kind = "static")]
 unsafe extern "C" {
     /// A slice is a pointer and a length.
     fn walkprint_edge(
-        ends: *const u8,
-        ends_length: usize,
-        moves: *const u8,
-        moves_length: usize,
-        place: *const u8,
-        place_length: usize,
+        window: *const u8,
+        window_length: usize,
         cells: *const u8,
         cells_length: usize,
         permissions: *const u8,
@@ -35,6 +31,10 @@ unsafe extern "C" {
         shapes_length: usize,
         boxes: *const u8,
         boxes_length: usize,
+        request: *const u8,
+        request_length: usize,
+        body: *const u8,
+        body_length: usize,
         from_x: f64,
         from_y: f64,
         from_z: f64,
@@ -44,60 +44,57 @@ unsafe extern "C" {
     ) -> u64;
 }
 
-/// A scene in the bytes that the proved check reads: its first three records
-/// and its tables.
+/// A scene in the bytes that the proved check reads (include/walkprint.h).
 struct Bytes {
-    records: [Vec<u8>; 3],
+    window: Vec<u8>,
     tables: [Vec<u8>; 4],
+    request: Vec<u8>,
+    body: Vec<u8>,
+}
+
+fn floats(numbers: &[f64]) -> Vec<u8> {
+    numbers.iter().flat_map(|n| n.to_le_bytes()).collect()
+}
+
+fn entries(pairs: &[(u32, u32)]) -> Vec<u8> {
+    let numbers = pairs.iter().flat_map(|&(a, b)| [a, b]);
+    numbers.flat_map(u32::to_le_bytes).collect()
 }
 
 impl Bytes {
     fn new(scene: &Scene) -> Self {
         let (request, body, tables) = (&scene.request, &scene.body, &scene.tables);
-        let floats = |numbers: &[f64]| numbers.iter().flat_map(|n| n.to_le_bytes()).collect();
-        let entries = |pairs: &[(u32, u32)]| {
-            let numbers = pairs.iter().flat_map(|&(a, b)| [a, b]);
-            numbers.flat_map(u32::to_le_bytes).collect()
-        };
-        let mut ends = vec![0; 8];
-        let three = [request.start, request.goal].concat();
-        ends.extend::<Vec<u8>>(floats(&three));
-        ends.extend(request.max_range.to_le_bytes());
-        let mut moves = vec![0; 8];
-        moves.extend::<Vec<u8>>(floats(&[
+        let mut window: Vec<u8> = Vec::new();
+        window.extend(tables.window.origin.iter().flat_map(|n| n.to_le_bytes()));
+        window.extend(tables.window.sizes.iter().flat_map(|n| n.to_le_bytes()));
+        let mut asked = floats(&[request.start, request.goal].concat());
+        asked.extend(floats(&[
+            request.max_range,
             request.step_height,
             request.jump_height,
             request.max_drop,
-            body.width,
-            body.height,
-            body.step_height,
         ]));
-        let mut place = vec![0; 8];
-        place.extend(tables.window.origin.iter().flat_map(|n| n.to_le_bytes()));
-        place.extend(tables.window.sizes.iter().flat_map(|n| n.to_le_bytes()));
+        asked.extend(request.node_budget.to_le_bytes());
         Self {
-            records: [ends, moves, place],
+            window,
             tables: [
                 entries(&tables.cells),
                 tables.permissions.clone(),
                 entries(&tables.shapes),
                 floats(&tables.boxes.concat()),
             ],
+            request: asked,
+            body: floats(&[body.width, body.height, body.step_height]),
         }
     }
 
     fn edge(&self, (from, to): Pair) -> u64 {
-        let [ends, moves, place] = &self.records;
         let [cells, permissions, shapes, boxes] = &self.tables;
         // Each pointer stands with the length of its vector.
         unsafe {
             walkprint_edge(
-                ends.as_ptr(),
-                ends.len(),
-                moves.as_ptr(),
-                moves.len(),
-                place.as_ptr(),
-                place.len(),
+                self.window.as_ptr(),
+                self.window.len(),
                 cells.as_ptr(),
                 cells.len(),
                 permissions.as_ptr(),
@@ -106,6 +103,10 @@ impl Bytes {
                 shapes.len(),
                 boxes.as_ptr(),
                 boxes.len(),
+                self.request.as_ptr(),
+                self.request.len(),
+                self.body.as_ptr(),
+                self.body.len(),
                 from[0],
                 from[1],
                 from[2],

@@ -16,6 +16,15 @@ use Rattle.print.specs.declared.types.Progress.{Progress}
 use Rattle.print.specs.declared.types.Progress.the-variants.{Going, Refused}
 use Rattle.print.specs.declared.types.Told.{Told}
 use Rattle.print.specs.Print.{sceneOf, lineOf}
+use Prim.Native.Nat.{ℕ}
+use mathlib.Core.Path.{_≡_, sym, _∙_}
+use Rattle.scene_state.specs.declared.state.Reading.{Reading}
+use Rattle.scene_state.specs.declared.state.Ended.{Ended}
+use Rattle.scene_state.specs.declared.state.Scene.{Scene}
+use Rattle.scene_state.specs.Answers.{Answer, refused, endedAnswer, ended}
+use Rattle.print_records.specs.declared.Progress.{Progress}
+use Rattle.print_records.specs.declared.Progress.the-variants.{Going, Refused}
+use Rattle.print_records.specs.Progress.{sceneOf}
 
 -- a refusal is the scene's answer
 pub scene-refused : {p : Progress} {n k : ℕ} → p ≡ Refused n k → sceneOf p ≡ refused n k
@@ -26,25 +35,3 @@ scene-refused e = rw e
 pub scene-ended : {p : Progress} {r : Reading} (e : Ended) {a : Answer Scene} → p ≡ Going r → endedAnswer e ≡ ended r → endedAnswer e ≡ a → sceneOf p ≡ a
 unfolding sceneOf
 scene-ended e {a} g h i = rw g (sym h ∙ i)
-
-module _ (t : Told) (list : List ℕ) where
-  -- behind the last waypoint there is no line
-  pub past-list : (k : ℕ) → t .waypoints < k → lineOf t list k ≡ []
-  unfolding lineOf
-  past-list zero h = absurd (omega arith)
-  past-list (suc k) h = rw (le-ltb k (t .waypoints) (omega arith))
-
-  -- a waypoint's line
-  pub in-list : (k : ℕ) → (k ≡ 0 → ⊥) → k ≤ t .waypoints → lineOf t list k ≡ waypointLine list (k - 1)
-  unfolding lineOf
-  in-list zero d h = absurd (d refl)
-  in-list (suc k) d h = let e : suc k - 1 ≡ k = omega arith in rw (lt-ltb k (t .waypoints) (omega arith), e)
-
--- a line that was written in a buffer has no more bytes than the buffer
-pub count-fits : (l old new : List ℕ) → new ≡ inBuffer l old → length new ≡ length old → countIn l old ≤ length new
-unfolding inBuffer countIn
-count-fits l old new e h = go (ltb (length old) 128) e
-  where
-    go : (t : Bool) → new ≡ cond t old (l ++ drop (length l) old) → cond t 0 (length l) ≤ length new
-    go true d = omega arith
-    go false d = omega (arith, ap length d ∙ length-append l (drop (length l) old))

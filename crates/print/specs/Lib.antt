@@ -1,3 +1,2 @@
 pub mod Print
 pub mod Laws
-pub mod Whole

@@ -1,59 +1,17 @@
--- What walkprint prints of a scene (01, "Scenes and walkprint"): from the records, through the search, to the lines. Definitions only.
+-- What walkprint prints of a scene (01, "Scenes and walkprint"): through the search to what is told, and all lines of it. Definitions only.
 use Prim.Native.Nat.{ℕ, zero, suc, _*_}
-use mathlib.Core.Bool.{cond}
-use mathlib.Core.List.{List, [], _∷_, _++_}
-use lib.Dec.{ltb}
+use mathlib.Core.List.{List, [], _++_}
 use lib.ListN.{length, take}
 use Rattle.floats.specs.Floats.{nought}
-use Rattle.scene_state.specs.declared.state.Reading.{Reading}
 use Rattle.scene_state.specs.declared.state.Scene.{Scene}
-use Rattle.scene.specs.Scene.{cellsRead, permsRead, shapesRead, boxesRead}
-use Rattle.scene_state.specs.Answers.{Answer, given, refused, ended}
-use Rattle.scene_step.specs.Next.{step}
+use Rattle.scene_state.specs.Answers.{Answer, given, refused}
+use Rattle.scene.specs.Scene.{Tables, readAll}
 use Rattle.outcomes.specs.declared.Answer as search
 use Rattle.outcomes.specs.Outcomes.{outcomeNumber}
 use Rattle.search.specs.FindWalkPath.{found, nodesAfter, frontAfter, outAfter}
 use Rattle.lengths.specs.Length.{lengthOf}
-use Rattle.report.specs.Lines.{firstLine, waypointLine}
-use Rattle.print.specs.declared.types.Progress.{Progress}
-use Rattle.print.specs.declared.types.Progress.the-variants.{Going, Refused}
-use Rattle.print.specs.declared.types.Told.{Told}
-
--- ---- the scene, record by record
-
--- a refusal's number and record, or what the good records say
-abbrev pub progressAnswer : Progress → Answer Reading
-progressAnswer (Going r) = given r
-progressAnswer (Refused n k) = refused n k
-
--- one record more: "first bad record", so a refusal stands whatever follows
-unfoldable pub further : Progress → List ℕ → Answer Reading
-further (Going r) s = step r s
-further (Refused n k) s = refused n k
-
--- and the tables: "after 7 the scene's tables hold what the records before it made"
-unfoldable pub cellsFurther : Progress → List ℕ → List ℕ → List ℕ
-cellsFurther (Going r) s t = cellsRead r s t
-cellsFurther (Refused n k) s t = t
-
-unfoldable pub permsFurther : Progress → List ℕ → List ℕ → List ℕ
-permsFurther (Going r) s t = permsRead r s t
-permsFurther (Refused n k) s t = t
-
-unfoldable pub shapesFurther : Progress → List ℕ → List ℕ → List ℕ
-shapesFurther (Going r) s t = shapesRead r s t
-shapesFurther (Refused n k) s t = t
-
-unfoldable pub boxesFurther : Progress → List ℕ → List ℕ → List ℕ
-boxesFurther (Going r) s t = boxesRead r s t
-boxesFurther (Refused n k) s t = t
-
--- ---- the search
-
--- the end of the input: a scene, or a refusal
-unfoldable pub sceneOf : Progress → Answer Scene
-sceneOf (Going r) = ended r
-sceneOf (Refused n k) = refused n k
+use Rattle.print_lines.specs.declared.Told.{Told}
+use Rattle.print_lines.specs.Lines.{lineOf}
 
 -- "Refusals print `refused`, number, record": nothing else is told of one
 unfoldable pub refusal : ℕ → ℕ → Told
@@ -100,9 +58,15 @@ module _ (cells perms shapes boxes : List ℕ) where
   told (refused n k) nodes front out = refusal n k
   told (given s) nodes front out = toldOf (answered s (length nodes) (length front) (length out)) (outOf (given s) nodes front out)
 
--- ---- the lines
+-- n lines from line k on
+abbrev pub linesFrom : Told → List ℕ → ℕ → ℕ → List ℕ
+linesFrom t list k zero = []
+linesFrom t list k (suc n) = lineOf t list k ++ linesFrom t list (suc k) n
 
--- "Line 1: .. Then a line a waypoint": line 0, and line k + 1 for waypoint k of the list; no byte past the last one
-unfoldable pub lineOf : Told → List ℕ → ℕ → List ℕ
-lineOf t list zero = firstLine (t .number) (t .bad) (t .waypoints) (t .retained) (t .closed) (t .total)
-lineOf t list (suc k) = cond (ltb k (t .waypoints)) (waypointLine list k) []
+-- the output for a scene of these records, in the lent tables and rooms: the first line, and one for each waypoint
+unfoldable pub printed : Tables → List ℕ → List ℕ → List ℕ → List (List ℕ) → List ℕ
+printed t nodes front out ss =
+    let r = readAll t ss in
+    let b = r .tables in
+    let x = told (b .cells) (b .perms) (b .shapes) (b .boxes) (r .answer) nodes front out in
+    linesFrom x (outOf (b .cells) (b .perms) (b .shapes) (b .boxes) (r .answer) nodes front out) 0 (suc (x .waypoints))

@@ -1,13 +1,5 @@
-// What walkprint prints of a scene (01, "Scenes and walkprint"): every step between the scene's records and the bytes of the output. `reading` takes the
-// records in, `telling` searches and says what there is to print, `lines` has its lines. A program only moves the bytes.
-pub mod lines;
-pub mod reading;
+// What walkprint prints of a scene (01, "Scenes and walkprint"). `print_records` takes its records in; `telling` here searches it at the end of the input and
+// says what there is to print; `print_lines` has the lines. A program only moves the bytes.
 pub mod telling;
-pub mod types;
 
-pub use lines::line;
-pub use reading::begin;
-pub use reading::take_record;
 pub use telling::tell;
-pub use types::Progress;
-pub use types::Told;

@@ -2,11 +2,9 @@
 ghost use mathlib.Core.Path.{_≡_};
 ghost use Rattle.world.specs.Space.{space};
 ghost use Rattle.edges.specs.Edges.{edge};
-ghost use Rattle.walk_c.specs.Records.{windowIn, requestIn, bodyIn};
+ghost use Rattle.c_records.specs.Records.{windowIn, requestIn, bodyIn};
 ghost use Rattle.walk_c.specs.Answers.{edgeNumber};
-use crate::records::body_in;
-use crate::records::request_in;
-use crate::records::window_in;
+use c_records::question_in;
 use moves::EdgeAnswer;
 use world::Point;
 
@@ -41,9 +39,7 @@ pub extern "C" fn walkprint_edge(
 ) -> u64
     ensures { λ r. ⌜ r ≡ edgeNumber (edge (space (windowIn (now (window .entry))) (now (cells .entry)) (now (permissions .entry)) (now (shapes .entry)) (now (boxes .entry))) (requestIn (now (request .entry))) (bodyIn (now (body .entry))) (record { x = «from_x»; y = «from_y»; z = «from_z» }) (record { x = «to_x»; y = «to_y»; z = «to_z» })) ⌝ }
 {
-    let w = window_in(window);
-    let r = request_in(request);
-    let b = body_in(body);
+    let q = question_in(window, request, body);
     let from = Point {
         x: from_x,
         y: from_y,
@@ -54,6 +50,16 @@ pub extern "C" fn walkprint_edge(
         y: to_y,
         z: to_z,
     };
-    let a = edges::edge(w, cells, permissions, shapes, boxes, r, b, from, to);
+    let a = edges::edge(
+        q.window,
+        cells,
+        permissions,
+        shapes,
+        boxes,
+        q.request,
+        q.body,
+        from,
+        to,
+    );
     edge_number(a)
 }

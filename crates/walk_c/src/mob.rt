@@ -1,52 +1,13 @@
 // A mob's search (01, Policy: "It judges 8, fills the permission table, which stays filled, then searches in the order above").
 ghost use mathlib.Core.Path.{_≡_};
-ghost use Prim.Native.Nat.{_<_};
 ghost use lib.ListN.{length};
-ghost use Rattle.policy.specs.Flags.{has};
 ghost use Rattle.policy.specs.Permission.{permissionTable};
 ghost use Rattle.scene_records.specs.Layout.{pointAt};
 ghost use Rattle.find_path.specs.FindPath.{pathNumber, path, nodesAfterPath, frontAfterPath, outAfterPath};
-ghost use Rattle.walk_c.specs.Records.{windowIn, bodyIn, policyIn, inWater};
-ghost use Rattle.walk_c.specs.Answers.{pathWritten};
-use crate::answers::put_answer;
-use crate::records::body_in;
-use crate::records::window_in;
-use find_path::Path;
-use policy::WalkPolicy;
-use scene_records::point_at;
-
-// Whether a number has the bit of a weight.
-fn has_bit(bits: u64, weight: u64) -> bool
-    requires { ⌜ 0 < weight ⌝ }
-    ensures { λ r. ⌜ r ≡ has weight bits ⌝ }
-{
-    bits / weight % 2 == 1
-}
-
-fn policy_in(bits: u64, jump_height: f64) -> WalkPolicy
-    ensures { λ r. ⌜ r ≡ policyIn bits «jump_height» ⌝ }
-{
-    WalkPolicy {
-        avoid_water: has_bit(bits, 1),
-        avoid_damage_blocks: has_bit(bits, 2),
-        can_jump: has_bit(bits, 4),
-        jump_height,
-        can_pass_doors: has_bit(bits, 8),
-        can_open_doors: has_bit(bits, 16),
-        can_open_iron_doors: has_bit(bits, 32),
-        door_breaker: has_bit(bits, 64),
-    }
-}
-
-fn put_path(p: Path, answer: &mut [u8]) -> u64
-    ensures { λ r. ⌜ r ≡ pathNumber p ⌝ }
-    ensures { λ _. ⌜ now (answer .exit) ≡ pathWritten p (now (answer .entry)) ⌝ }
-{
-    match p {
-        Path::Searched(a) => put_answer(a, answer),
-        Path::BadTable => 8,
-    }
-}
+ghost use Rattle.c_records.specs.Records.{windowIn, bodyIn, policyIn, inWater};
+ghost use Rattle.c_answers.specs.Answers.{pathWritten};
+use c_answers::put_path;
+use c_records::mob_in;
 
 // The outcome's number, 0 to 5, or 8 BadTable. `policy` has a bit for each wish of the policy, and for a body in water; `ends` is the start and the goal.
 #[no_mangle]
@@ -73,24 +34,19 @@ pub extern "C" fn walkprint_find_path(
     ensures out { λ _. ⌜ now (out .exit) ≡ outAfterPath (policyIn policy «jump_height») (inWater policy) (now (flags .entry)) (windowIn (now (window .entry))) (now (cells .entry)) (now (permissions .entry)) (now (shapes .entry)) (now (boxes .entry)) (pointAt (now (ends .entry)) 0) (pointAt (now (ends .entry)) 24) (bodyIn (now (body .entry))) (now (nodes .entry)) (now (front .entry)) (now (out .entry)) ⌝ }
     ensures answer { λ _. ⌜ now (answer .exit) ≡ pathWritten (path (policyIn policy «jump_height») (inWater policy) (now (flags .entry)) (windowIn (now (window .entry))) (now (cells .entry)) (now (permissions .entry)) (now (shapes .entry)) (now (boxes .entry)) (pointAt (now (ends .entry)) 0) (pointAt (now (ends .entry)) 24) (bodyIn (now (body .entry))) (length (now (nodes .entry))) (length (now (front .entry))) (length (now (out .entry)))) (now (answer .entry)) ⌝ }
 {
-    let p = policy_in(policy, jump_height);
-    let wet = has_bit(policy, 128);
-    let w = window_in(window);
-    let start = point_at(ends, 0);
-    let goal = point_at(ends, 24);
-    let b = body_in(body);
+    let m = mob_in(policy, jump_height, window, ends, body);
     let a = find_path::find_path(
-        p,
-        wet,
+        m.policy,
+        m.in_water,
         flags,
-        w,
+        m.window,
         cells,
         permissions,
         shapes,
         boxes,
-        start,
-        goal,
-        b,
+        m.start,
+        m.goal,
+        m.body,
         nodes,
         front,
         out,

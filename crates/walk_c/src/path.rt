@@ -3,12 +3,10 @@ ghost use mathlib.Core.Path.{_≡_};
 ghost use lib.ListN.{length};
 ghost use Rattle.outcomes.specs.Outcomes.{outcomeNumber};
 ghost use Rattle.search.specs.FindWalkPath.{found, nodesAfter, frontAfter, outAfter};
-ghost use Rattle.walk_c.specs.Records.{windowIn, requestIn, bodyIn};
-ghost use Rattle.walk_c.specs.Answers.{answerWritten};
-use crate::answers::put_answer;
-use crate::records::body_in;
-use crate::records::request_in;
-use crate::records::window_in;
+ghost use Rattle.c_records.specs.Records.{windowIn, requestIn, bodyIn};
+ghost use Rattle.c_answers.specs.Answers.{answerWritten};
+use c_answers::put_answer;
+use c_records::question_in;
 
 // The outcome's number, 0 to 5: the list goes to `out`, `nodes` and `front` are the search's rooms, and `answer` gets the outcome, the list's count, and the
 // retained and closed nodes.
@@ -32,17 +30,15 @@ pub extern "C" fn walkprint_find_walk_path(
     ensures out { λ _. ⌜ now (out .exit) ≡ outAfter (windowIn (now (window .entry))) (now (cells .entry)) (now (permissions .entry)) (now (shapes .entry)) (now (boxes .entry)) (requestIn (now (request .entry))) (bodyIn (now (body .entry))) (now (nodes .entry)) (now (front .entry)) (now (out .entry)) ⌝ }
     ensures answer { λ _. ⌜ now (answer .exit) ≡ answerWritten (found (windowIn (now (window .entry))) (now (cells .entry)) (now (permissions .entry)) (now (shapes .entry)) (now (boxes .entry)) (requestIn (now (request .entry))) (bodyIn (now (body .entry))) (length (now (nodes .entry))) (length (now (front .entry))) (length (now (out .entry)))) (now (answer .entry)) ⌝ }
 {
-    let w = window_in(window);
-    let r = request_in(request);
-    let b = body_in(body);
+    let q = question_in(window, request, body);
     let a = search::find_walk_path(
-        w,
+        q.window,
         cells,
         permissions,
         shapes,
         boxes,
-        r,
-        b,
+        q.request,
+        q.body,
         nodes,
         front,
         out,

@@ -1,26 +1,8 @@
 // Reading a scene (01, "Scenes and walkprint").
 ghost use mathlib.Core.Path.{_≡_};
-ghost use Rattle.read_scene.specs.Whole.{read, sceneAnswer};
-ghost use Rattle.walk_c.specs.Scenes.{sceneNumber, sceneWritten};
-use crate::made::put_scene;
-use read_scene::SceneAnswer;
-
-fn put_answer(a: SceneAnswer, made: &mut [u8]) -> u64
-    ensures { λ r. ⌜ r ≡ sceneNumber (sceneAnswer a) ⌝ }
-    ensures { λ _. ⌜ now (made .exit) ≡ sceneWritten (sceneAnswer a) (now (made .entry)) ⌝ }
-{
-    match a {
-        SceneAnswer::Whole(x) => {
-            put_scene(x, made);
-            0
-        }
-        SceneAnswer::BadScene(k) => {
-            stores::put_u64(made, 0, k);
-            7
-        }
-        SceneAnswer::NoRoom => 5,
-    }
-}
+ghost use Rattle.read_scene.specs.Whole.{read};
+ghost use Rattle.c_scene.specs.Scenes.{sceneNumber, sceneWritten};
+use c_scene::put_answer;
 
 // 0, and the request, the body, the window and the sizes in use in `made`; 7 BadScene, and the bad record's number in the first 8 bytes of `made`; or
 // 5 NoRoom, and nothing is written.

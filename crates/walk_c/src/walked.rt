@@ -1,10 +1,8 @@
 // The walk-back (01, Modules 5).
 ghost use mathlib.Core.Path.{_≡_};
 ghost use Rattle.walk_back.specs.WalkBack.{walked, walkedNumber};
-ghost use Rattle.walk_c.specs.Records.{windowIn, requestIn, bodyIn};
-use crate::records::body_in;
-use crate::records::request_in;
-use crate::records::window_in;
+ghost use Rattle.c_records.specs.Records.{windowIn, requestIn, bodyIn};
+use c_records::question_in;
 use walk_back::Walked;
 
 fn walked_number(a: Walked) -> u64
@@ -32,9 +30,16 @@ pub extern "C" fn walkprint_walk_back(
 ) -> u64
     ensures { λ r. ⌜ r ≡ walkedNumber (walked (windowIn (now (window .entry))) (now (cells .entry)) (now (permissions .entry)) (now (shapes .entry)) (now (boxes .entry)) (requestIn (now (request .entry))) (bodyIn (now (body .entry))) (now (list .entry))) ⌝ }
 {
-    let w = window_in(window);
-    let r = request_in(request);
-    let b = body_in(body);
-    let a = walk_back::walk_back(w, cells, permissions, shapes, boxes, r, b, list);
+    let q = question_in(window, request, body);
+    let a = walk_back::walk_back(
+        q.window,
+        cells,
+        permissions,
+        shapes,
+        boxes,
+        q.request,
+        q.body,
+        list,
+    );
     walked_number(a)
 }

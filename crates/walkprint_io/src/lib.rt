@@ -1,10 +1,10 @@
-// Moves the bytes: a scene from standard input, record by record, and its lines to standard output. What they are is `print`'s.
+// Moves the bytes: a scene from standard input, record by record, and its lines to standard output. What they are is said by `print_records`, `print` and `print_lines`.
 ghost use Prim.Native.Nat.{_≤_};
 ghost use Rattle.io.specs.Counts.{Counts};
 use libc::STDIN_FILENO;
 use libc::STDOUT_FILENO;
-use print::Progress;
-use print::Told;
+use print_lines::Told;
+use print_records::Progress;
 
 // The state behind one read, and how many bytes it brought.
 struct Taken {
@@ -38,7 +38,7 @@ fn take_one(
     if count == 0 {
         return Taken { progress, count };
     }
-    let next = print::take_record(progress, &record[..count], cells, perms, shapes, boxes);
+    let next = print_records::take_record(progress, &record[..count], cells, perms, shapes, boxes);
     Taken {
         progress: next,
         count,
@@ -53,7 +53,7 @@ fn read_scene(
     shapes: &mut [u8],
     boxes: &mut [u8],
 ) -> Progress {
-    let mut progress = print::begin(cells, perms, shapes, boxes);
+    let mut progress = print_records::begin(cells, perms, shapes, boxes);
     let mut left = bytes;
     while 0 < left {
         let taken = take_one(progress, left, cells, perms, shapes, boxes);
@@ -71,7 +71,7 @@ fn read_scene(
 fn put_line(told: Told, list: &[u8], k: usize, buffer: &mut [u8]) -> usize
     ensures { λ r. ⌜ Counts r (now (buffer .exit)) ⌝ }
 {
-    print::line(told, list, k, buffer)
+    print_lines::line(told, list, k, buffer)
 }
 
 fn write_line(told: Told, list: &[u8], k: usize) {

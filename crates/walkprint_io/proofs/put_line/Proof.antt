@@ -1,6 +1,6 @@
 -- `walkprint_io::put_line` is safe and ends. Assumes nothing.
 use Rattle.io.proofs.Counting.{counts}
-use Rattle.print.specs.Laws.{count-fits}
+use Rattle.print_lines.specs.Laws.{count-fits}
 use borrow.Author.Needs.{needs}
 use Rattle.walkprint_io.proofs.put_line.Statement.{statement}
 use Rattle.walkprint_io.proofs.put_line.Tie as tie

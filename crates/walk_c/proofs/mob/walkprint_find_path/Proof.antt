@@ -1,30 +1,18 @@
 -- `walk_c::mob::walkprint_find_path` meets its contract. Assumes nothing.
-use mathlib.Core.Path.{_≡_, sym, ap, _∙_}
+use mathlib.Core.Path.{_≡_, ap, _∙_}
+use Prim.Native.Nat.{ℕ}
 use denote.Ref.{now}
+use mathlib.Core.List.{List}
 use Rattle.find_path.specs.declared.answers.Path.{Path}
 use Rattle.find_path.specs.FindPath.{pathNumber}
-use Rattle.walk_c.specs.Answers.{pathWritten}
+use Rattle.c_answers.specs.Answers.{pathWritten}
+use Rattle.c_records.specs.Asked.{mobIn}
 use borrow.Author.Needs.{needs}
 use Rattle.walk_c.proofs.mob.walkprint_find_path.Statement.{statement}
 use Rattle.walk_c.proofs.mob.walkprint_find_path.Tie as tie
 
-policy-in-requires : tie.Need-policy-in-requires
-policy-in-requires c κs = search needs
-
-has-bit-requires : tie.Need-has-bit-requires
-has-bit-requires c κs = search needs
-
-window-in-requires : tie.Need-window-in-requires
-window-in-requires c κs = search needs
-
-point-at-requires : tie.Need-point-at-requires
-point-at-requires c κs = search needs
-
-point-at-requires-2 : tie.Need-point-at-requires-2
-point-at-requires-2 c κs = search needs
-
-body-in-requires : tie.Need-body-in-requires
-body-in-requires c κs = search needs
+mob-in-requires : tie.Need-mob-in-requires
+mob-in-requires c κs = search needs
 
 find-path-requires : tie.Need-find-path-requires
 find-path-requires c κs = search needs
@@ -47,32 +35,22 @@ same-length-4 c = search needs
 same-length-5 : tie.Need-same-length-5
 same-length-5 c = search needs
 
+-- the search's answer, and what is told of it
+told : {p q : Path} {n : ℕ} {new : List ℕ} {T N F O : Type 0} (old : List ℕ) →
+    (p ≡ q) × (T × (N × (F × O))) → (n ≡ pathNumber p) × (new ≡ pathWritten p old) →
+    (n ≡ pathNumber q) × (T × (N × (F × (O × (new ≡ pathWritten q old)))))
+told old (e, (t, (n, (f, o)))) (number, written) =
+    (number ∙ ap pathNumber e, (t, (n, (f, (o, written ∙ ap (λ (p : Path). pathWritten p old) e)))))
+
 returns : tie.Need-returns
-returns c =
-    let r = c .before .before .before .before .before .before .before .before .before .before .before .before .find-path .ensures in
-    let p = c .before .before .put-path .ensures in
-    rw (
-      ← c .before .before .before .before .before .before .before .before .before .before .before .before .before .before .before .before .before .before .before .before .before .before .policy-in .ensures,
-      ← c .before .before .before .before .before .before .before .before .before .before .before .before .before .before .before .before .before .before .before .before .before .has-bit .ensures,
-      ← c .before .before .before .before .before .before .before .before .before .before .before .before .before .before .before .before .before .before .before .before .window-in .ensures,
-      ← c .before .before .before .before .before .before .before .before .before .before .before .before .before .before .before .before .before .before .before .point-at .ensures,
-      ← c .before .before .before .before .before .before .before .before .before .before .before .before .before .before .before .before .before .before .point-at2 .ensures,
-      ← c .before .before .before .before .before .before .before .before .before .before .before .before .before .before .before .before .before .body-in .ensures,
-    ) (
-      p .0 ∙ ap pathNumber (r .0),
-      (r .1 .0, (r .1 .1 .0, (r .1 .1 .1 .0, (r .1 .1 .1 .1, p .1 ∙ ap (λ (q : Path). pathWritten q (now (c .before .before .before .before .before .before .before .before .before .before .before .before .before .before .before .before .before .before .before .before .before .before .before .before .before .before .before .before .before .before .before .before .before .before .before .args .answer))) (r .0))))),
-    )
+unfolding mobIn
+returns c = told (now (c .before .before .before .before .before .before .before .before .before .before .before .before .before .before .before .before .before .before .before .before .before .before .before .before .before .before .before .before .before .before .args .answer)) (rw (c .before .before .before .before .before .before .before .before .before .before .before .before .before .before .before .before .before .mob-in .ensures) at (c .before .before .before .before .before .before .before .before .before .before .before .before .find-path .ensures)) (c .before .before .put-path .ensures)
 
 pub walkprint-find-path-spec : {M : Type 1} → statement M
 walkprint-find-path-spec =
     tie.close
     (tie.spec
-    policy-in-requires
-    has-bit-requires
-    window-in-requires
-    point-at-requires
-    point-at-requires-2
-    body-in-requires
+    mob-in-requires
     find-path-requires
     put-path-requires
     same-length

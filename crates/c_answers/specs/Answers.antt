@@ -1,0 +1,23 @@
+-- The bytes that a search's answer leaves in the slice that a caller lends for it.
+use Prim.Native.Nat.{ℕ}
+use mathlib.Core.Bool.{cond}
+use mathlib.Core.List.{List}
+use lib.Dec.{leb}
+use lib.ListN.{length}
+use Rattle.fields.specs.Little.{withField}
+use Rattle.outcomes.specs.declared.Answer.{Answer}
+use Rattle.outcomes.specs.Outcomes.{outcomeNumber}
+use Rattle.find_path.specs.declared.answers.Path.{Path}
+use Rattle.find_path.specs.declared.answers.Path.the-variants.{Searched, BadTable}
+
+-- the record of an answer, 32 bytes: outcome, count, retained and closed, four u64. Where they do not fit, nothing is written.
+unfoldable pub answerWritten : Answer → List ℕ → List ℕ
+answerWritten a old =
+    cond (leb 32 (length old))
+    (withField 8 (withField 8 (withField 8 (withField 8 old 0 (outcomeNumber (a .outcome))) 8 (a .count)) 16 (a .retained)) 24 (a .closed))
+    old
+
+-- of a mob's search the same record, and "8 .. write nothing"
+abbrev pub pathWritten : Path → List ℕ → List ℕ
+pathWritten (Searched a) old = answerWritten a old
+pathWritten BadTable old = old

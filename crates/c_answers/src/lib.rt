@@ -1,0 +1,50 @@
+// What a search answers, for a call from another language: its number (01, "Numbers given back"), and a record of 32 bytes in a slice that the caller lends.
+// `walk_c` has the calls.
+ghost use mathlib.Core.Path.{_≡_};
+ghost use Rattle.outcomes.specs.Outcomes.{outcomeNumber};
+ghost use Rattle.find_path.specs.FindPath.{pathNumber};
+ghost use Rattle.c_answers.specs.Answers.{answerWritten, pathWritten};
+use find_path::Path;
+use outcomes::Answer;
+use outcomes::Outcome;
+
+fn outcome_number(o: Outcome) -> u64
+    ensures { λ r. ⌜ r ≡ outcomeNumber o ⌝ }
+{
+    match o {
+        Outcome::Found => 0,
+        Outcome::Unreachable => 1,
+        Outcome::BudgetExceeded => 2,
+        Outcome::BadWorld => 3,
+        Outcome::TooLarge => 4,
+        Outcome::NoRoom => 5,
+    }
+}
+
+// The outcome's number; and outcome, count, retained and closed in the first 32 bytes of `answer`, where they fit.
+pub fn put_answer(a: Answer, answer: &mut [u8]) -> u64
+    ensures { λ r. ⌜ r ≡ outcomeNumber (a .outcome) ⌝ }
+    ensures { λ _. ⌜ now (answer .exit) ≡ answerWritten a (now (answer .entry)) ⌝ }
+{
+    let outcome = a.outcome;
+    let number = outcome_number(outcome);
+    if answer.len() < 32 {
+        return number;
+    }
+    stores::put_u64(answer, 0, number);
+    stores::put_u64(answer, 8, a.count as u64);
+    stores::put_u64(answer, 16, a.retained as u64);
+    stores::put_u64(answer, 24, a.closed);
+    number
+}
+
+// The same of a mob's search; 8 BadTable writes nothing.
+pub fn put_path(p: Path, answer: &mut [u8]) -> u64
+    ensures { λ r. ⌜ r ≡ pathNumber p ⌝ }
+    ensures { λ _. ⌜ now (answer .exit) ≡ pathWritten p (now (answer .entry)) ⌝ }
+{
+    match p {
+        Path::Searched(a) => put_answer(a, answer),
+        Path::BadTable => 8,
+    }
+}

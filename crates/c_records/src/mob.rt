@@ -1,0 +1,34 @@
+// What a mob's search is asked, beside the tables: `ends` is the start and the goal, two points.
+ghost use mathlib.Core.Path.{_≡_};
+ghost use Rattle.c_records.specs.Asked.{mobIn};
+use crate::records::body_in;
+use crate::records::window_in;
+use crate::wishes::in_water;
+use crate::wishes::policy_in;
+use policy::WalkPolicy;
+use scene_records::point_at;
+use world::Body;
+use world::Point;
+use world::Window;
+
+pub struct Mob {
+    pub policy: WalkPolicy,
+    pub in_water: bool,
+    pub window: Window,
+    pub start: Point,
+    pub goal: Point,
+    pub body: Body,
+}
+
+pub fn mob_in(policy: u64, jump_height: f64, window: &[u8], ends: &[u8], body: &[u8]) -> Mob
+    ensures { λ r. ⌜ r ≡ mobIn policy «jump_height» (now (window .entry)) (now (ends .entry)) (now (body .entry)) ⌝ }
+{
+    Mob {
+        policy: policy_in(policy, jump_height),
+        in_water: in_water(policy),
+        window: window_in(window),
+        start: point_at(ends, 0),
+        goal: point_at(ends, 24),
+        body: body_in(body),
+    }
+}
