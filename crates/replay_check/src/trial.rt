@@ -3,6 +3,7 @@ ghost use Prim.Native.Nat.{_≤_};
 use crate::digest;
 use crate::input;
 use scene::Scene;
+use search::Answer;
 
 // The byte that place i of a room has before a call.
 fn mark(i: usize) -> u8 {
@@ -32,7 +33,13 @@ fn size(n: usize, short: bool, most: usize) -> usize
     n
 }
 
-// The search, its answer and every byte of its rooms.
+// An answer and every byte of the rooms, added to a digest.
+fn left(d: u64, a: Answer, nodes: &[u8], front: &[u8], out: &[u8]) -> u64 {
+    let e = digest::with_bytes(digest::with_answer(d, a), nodes);
+    digest::with_bytes(digest::with_bytes(e, front), out)
+}
+
+// The search, in rooms as they are lent.
 fn searched(
     s: Scene,
     cells: &[u8],
@@ -45,19 +52,9 @@ fn searched(
     d: u64,
 ) -> u64 {
     let a = search::find_walk_path(
-        s.window,
-        cells,
-        perms,
-        shapes,
-        boxes,
-        s.request,
-        s.body,
-        nodes,
-        front,
-        out,
+        s.window, cells, perms, shapes, boxes, s.request, s.body, nodes, front, out,
     );
-    let e = digest::with_bytes(digest::with_answer(d, a), nodes);
-    digest::with_bytes(digest::with_bytes(e, front), out)
+    left(d, a, nodes, front, out)
 }
 
 // Every room has so many bytes more than the budget asks for; one is a byte short: 1 the node room, 2 the frontier room, 3 the output, 4 the cell table.

@@ -1,16 +1,16 @@
 -- `replay_check::questions` is safe and ends. Assumes nothing.
 use lib.ListN.{length}
 use Prim.Native.Nat.{_-_}
-use mathlib.Core.Path.{_≡_, refl}
+use mathlib.Core.Path.{_≡_}
 use borrow.Author.Needs.{needs}
 use Rattle.replay_check.proofs.questions.Statement.{statement}
 use Rattle.replay_check.proofs.questions.Tie as tie
 
 abbrev Inv-loop : tie.InvT-loop
-Inv-loop s cells perms shapes boxes pool₀ count d₀ t9 counter₀ pool d counter = length pool ≡ length pool₀
+Inv-loop records pool₀ count d₀ counter₀ pool d counter = length pool ≡ length pool₀
 
 abbrev μ-loop : tie.MeasureT-loop
-μ-loop s cells perms shapes boxes pool₀ count d₀ t9 counter₀ pool d counter = count - counter
+μ-loop records pool₀ count d₀ counter₀ pool d counter = count - counter
 
 loop-holds : tie.Need-loop-holds Inv-loop μ-loop
 loop-holds c = search needs
@@ -26,15 +26,6 @@ loop-less c = search needs
 
 loop-again : tie.Need-loop-again Inv-loop μ-loop
 loop-again c = search needs
-
-print-hex-requires : tie.Need-print-hex-requires Inv-loop μ-loop
-print-hex-requires c κs = search needs
-
-slice-aggregate-write-all : tie.Need-slice-aggregate-write-all Inv-loop μ-loop
-slice-aggregate-write-all c = search needs
-
-write-all-requires : tie.Need-write-all-requires Inv-loop μ-loop
-write-all-requires c κs = search needs
 
 same-length : tie.Need-same-length Inv-loop μ-loop
 same-length c = search needs
@@ -53,8 +44,5 @@ questions-spec =
     add-counter
     loop-less
     loop-again
-    print-hex-requires
-    slice-aggregate-write-all
-    write-all-requires
     same-length
     returns)

@@ -1,8 +1,8 @@
--- `replay_check::ask::columns` is safe and ends. Assumes nothing.
+-- `replay_check::columns::columns` is safe and ends. Assumes nothing.
 use Prim.Native.Nat.{_≤_, _-_}
 use borrow.Author.Needs.{needs}
-use Rattle.replay_check.proofs.ask.columns.Statement.{statement}
-use Rattle.replay_check.proofs.ask.columns.Tie as tie
+use Rattle.replay_check.proofs.columns.columns.Statement.{statement}
+use Rattle.replay_check.proofs.columns.columns.Tie as tie
 
 abbrev Inv-loop : tie.InvT-loop
 Inv-loop s cells perms shapes boxes from d sum₀ sides₀ n₀ sum sides n = n ≤ 9
