@@ -5,6 +5,8 @@ use std::fmt::Write;
 use original::Checks;
 use scene::{Scene, Waypoint};
 
+use crate::replay::Case;
+
 /// A question and its answer.
 pub enum Question {
     InRange([f64; 3], bool),
@@ -110,6 +112,27 @@ fn about_pair(checks: &mut Checks, from: [f64; 3], to: [f64; 3], out: &mut Vec<Q
     }
 }
 
+/// The questions of a scene, asked in a case of `replay_check`. A point's
+/// columns have the heights and the steps.
+pub fn ask(scene: &Scene, case: &mut Case) {
+    for question in questions(scene) {
+        match question {
+            Question::InRange(feet, yes) => case.ask_yes(1, &[feet], yes),
+            Question::Standable(feet, yes) => case.ask_yes(2, &[feet], yes),
+            Question::Clear([a, b, c, d, e, f], yes) => {
+                case.ask_yes(3, &[[a, b, c], [d, e, f]], yes);
+            }
+            Question::Supported(from, to, yes) => case.ask_yes(4, &[from, to], yes),
+            Question::Heights(..) => {}
+            Question::Steps(from, _) => {
+                case.ask_columns(from, &Checks::new(scene).columns(from));
+            }
+            Question::Edge(from, to, edge) => case.ask_edge(6, &[from, to], edge),
+            Question::Connector(from, edge) => case.ask_edge(7, &[from], edge),
+        }
+    }
+}
+
 impl Question {
     /// Kind, arguments (six, unused ones 0.0), result number, heights,
     /// waypoints.
@@ -134,23 +157,7 @@ impl Question {
         }
     }
 
-    /// Kind u32, result u32, six f64; then the heights, 8 bytes each, or the
-    /// waypoints, 40 bytes each, as many as the result says.
-    pub fn bytes(&self) -> Vec<u8> {
-        let (kind, arguments, result, heights, waypoints) = self.parts();
-        let mut out = Vec::new();
-        out.extend(kind.to_le_bytes());
-        out.extend(result.to_le_bytes());
-        for number in arguments.iter().chain(heights) {
-            out.extend(number.to_bits().to_le_bytes());
-        }
-        for point in waypoints {
-            out.extend(point.bytes());
-        }
-        out
-    }
-
-    /// The same as a line: name, arguments, `=`, result, and what follows it.
+    /// A line: name, arguments, `=`, result, and what follows it.
     pub fn line(&self) -> String {
         const NAMES: [(&str, usize); 8] = [
             ("in_range", 3),

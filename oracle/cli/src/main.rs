@@ -6,6 +6,7 @@ mod digest;
 mod geometry;
 mod policy;
 mod reader;
+mod replay;
 mod selftest;
 mod stats;
 mod store;

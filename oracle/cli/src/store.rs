@@ -6,6 +6,7 @@ use std::path::Path;
 
 use scene::Verdict;
 
+use crate::replay::{self, Case};
 use crate::{geometry, policy, reader, scene_file, walks};
 
 /// A scene and where it comes from.
@@ -24,15 +25,18 @@ pub fn store(folder: &Path) -> Result<String, String> {
     Ok(out)
 }
 
-/// Each list's file and bytes.
+/// Each list's file and bytes. Those of the gate's programs lie beside the
+/// folder, under `crates`.
 pub fn lists(folder: &Path) -> Result<Vec<(&'static str, Vec<u8>)>, String> {
-    let (replay, names) = replay(folder)?;
+    let mut cases = searches(folder)?;
+    cases.extend(geometries(folder)?);
+    cases.extend(walks::cases());
+    let [input, output, names] = replay::files(&cases);
     let (scenes, lines) = reader::cases();
     Ok(vec![
-        ("replay.bin", replay),
-        ("replay.lst", names.into_bytes()),
-        ("geometry.bin", geometry_cases(folder)?),
-        ("walkback.bin", walks::cases()),
+        ("../crates/replay_check/stdin", input),
+        ("../crates/replay_check/stdout", output),
+        ("replay.lst", names),
         ("../crates/scene_check/stdin", scenes),
         ("../crates/scene_check/stdout", lines.into_bytes()),
         ("jumps.bin", policy::jump_records()),
@@ -50,8 +54,9 @@ pub fn directed(folder: &Path) -> Result<Vec<String>, String> {
     Ok(files)
 }
 
-/// The most bytes of a stored case that was made from a seed.
-const CASE: usize = 2600;
+/// The most bytes of a stored scene that was made from a seed, with the list
+/// and the nodes that its search leaves.
+const LARGEST: usize = 2580;
 /// The seeds that are looked through for each kind.
 const SEEDS: u64 = 1000;
 
@@ -62,55 +67,42 @@ fn number(verdict: &Verdict) -> u32 {
     }
 }
 
-/// A case of replay.bin.
-fn case(bytes: &[u8], verdict: &Verdict) -> Vec<u8> {
-    let mut out = Vec::new();
-    let mut whole = |n: usize| out.extend((n as u32).to_le_bytes());
-    whole(bytes.len() / scene::RECORD);
-    whole(number(verdict) as usize);
-    match verdict {
-        Ok(answer) => {
-            whole(answer.list.len());
-            whole(answer.nodes.len());
-            whole(answer.closed as usize);
-            out.extend(bytes);
-            out.extend(answer.list.iter().flat_map(|point| point.bytes()));
-            out.extend(answer.nodes.iter().flat_map(|node| node.bytes()));
-        }
-        Err(_) => {
-            (0..3).for_each(|_| whole(0));
-            out.extend(bytes);
-        }
-    }
-    out
+/// The bytes of a scene, of its list and of its nodes.
+fn size(bytes: &[u8], verdict: &Verdict) -> usize {
+    let left = |answer: &scene::Answer| 40 * answer.list.len() + 56 * answer.nodes.len();
+    bytes.len() + verdict.as_ref().map_or(0, left)
 }
 
-/// Every directed scene that reads, then of each kind the first seeds with
-/// each answer. Also the list of their names.
-fn replay(folder: &Path) -> Result<(Vec<u8>, String), String> {
+/// The trials of a search: rooms too long by a record of any and a part of
+/// one, of exactly the size, and each of them and the cell table a byte short.
+const TRIALS: [(usize, usize); 6] = [(61, 0), (0, 0), (0, 1), (0, 2), (0, 3), (0, 4)];
+
+/// Every directed scene that reads, the flat one first, then of each kind the
+/// first seeds with each answer.
+fn searches(folder: &Path) -> Result<Vec<Case>, String> {
     let mut sources = Vec::new();
     for name in directed(folder)? {
         let file = folder.join(&name);
         let bytes = scene_file(&file.to_string_lossy())?;
         sources.push(Source { name, bytes });
     }
+    sources.sort_by_key(|source| source.name != "flat.txt");
     for kind in scene::KINDS {
         sources.extend(chosen(kind));
     }
-    let mut names = String::new();
     let mut cases = Vec::new();
-    let mut count: u32 = 0;
-    for source in &sources {
-        let verdict = original::verdict(&source.bytes);
-        if number(&verdict) != 7 {
-            let _ = writeln!(names, "{count} {} {}", source.name, number(&verdict));
-            cases.extend(case(&source.bytes, &verdict));
-            count += 1;
+    for Source { name, bytes } in sources {
+        let Ok(scene) = scene::read(&bytes) else {
+            continue;
+        };
+        let answer = number(&original::judge(&scene));
+        let mut case = Case::new(format!("{name} search {answer}"), bytes);
+        for (more, short) in TRIALS {
+            case.ask_search(&scene, more, short);
         }
+        cases.push(case);
     }
-    let mut out = count.to_le_bytes().to_vec();
-    out.extend(cases);
-    Ok((out, names))
+    Ok(cases)
 }
 
 /// Seeds of a kind whose answers differ in kind, small ones.
@@ -132,7 +124,7 @@ fn chosen(kind: &str) -> Vec<Source> {
             },
             Err(_) => 5,
         };
-        if wanted[sort] > 0 && number(&verdict) != 7 && case(&bytes, &verdict).len() <= CASE {
+        if wanted[sort] > 0 && number(&verdict) != 7 && size(&bytes, &verdict) <= LARGEST {
             wanted[sort] -= 1;
             let name = format!("make {seed} {kind}");
             out.push(Source { name, bytes });
@@ -156,32 +148,34 @@ const GROUNDS: [&str; 10] = [
 ];
 
 /// The first small seed of a kind whose search retains at least five nodes.
-fn ground(kind: &str) -> Option<Vec<u8>> {
-    let fits = |bytes: &Vec<u8>| {
-        let nodes = original::verdict(bytes).map_or(0, |answer| answer.nodes.len());
-        nodes >= 5 && bytes.len() <= 40 * scene::RECORD
+fn ground(kind: &str) -> Option<Source> {
+    let fits = |source: &Source| {
+        let nodes = original::verdict(&source.bytes).map_or(0, |answer| answer.nodes.len());
+        nodes >= 5 && source.bytes.len() <= 40 * scene::RECORD
     };
-    let made = |seed| scene::make(seed, kind).expect("the kind is known");
+    let made = |seed| Source {
+        name: format!("make {seed} {kind}"),
+        bytes: scene::make(seed, kind).expect("the kind is known"),
+    };
     (1..=SEEDS).map(made).find(fits)
 }
 
 /// A ground of each of these kinds, then the directed scenes that only a
 /// question tells apart (`asked-*.txt`), with the questions of `geometry`.
-fn geometry_cases(folder: &Path) -> Result<Vec<u8>, String> {
-    let mut scenes: Vec<Vec<u8>> = GROUNDS.iter().filter_map(|kind| ground(kind)).collect();
-    for file in directed(folder)? {
-        if file.starts_with("asked-") {
-            scenes.push(scene_file(&folder.join(&file).to_string_lossy())?);
+fn geometries(folder: &Path) -> Result<Vec<Case>, String> {
+    let mut sources: Vec<Source> = GROUNDS.iter().filter_map(|kind| ground(kind)).collect();
+    for name in directed(folder)? {
+        if name.starts_with("asked-") {
+            let bytes = scene_file(&folder.join(&name).to_string_lossy())?;
+            sources.push(Source { name, bytes });
         }
     }
-    let mut out = (scenes.len() as u32).to_le_bytes().to_vec();
-    for bytes in scenes {
+    let mut cases = Vec::new();
+    for Source { name, bytes } in sources {
         let scene = scene::read(&bytes).map_err(|bad| format!("bad record {}", bad.record))?;
-        let questions = geometry::questions(&scene);
-        out.extend(((bytes.len() / scene::RECORD) as u32).to_le_bytes());
-        out.extend((questions.len() as u32).to_le_bytes());
-        out.extend(&bytes);
-        out.extend(questions.iter().flat_map(geometry::Question::bytes));
+        let mut case = Case::new(format!("{name} geometry"), bytes);
+        geometry::ask(&scene, &mut case);
+        cases.push(case);
     }
-    Ok(out)
+    Ok(cases)
 }

@@ -2,43 +2,34 @@
 
 use scene::{Answer, Outcome, Scene};
 
+use crate::replay::Case;
+
 const KINDS: [&str; 6] = ["levels", "slabs", "stairs", "doors", "far", "zeros"];
 /// The most bytes of a scene, and the seeds looked through for each kind.
 const SCENE: usize = 32 * scene::RECORD;
 const SEEDS: u64 = 1000;
 
-/// Cases of a walk-back: scenes with lists, and what the walk-back answers.
-pub fn cases() -> Vec<u8> {
-    let mut out = Vec::new();
-    let mut count: u32 = 0;
-    for kind in KINDS {
-        let Some((bytes, answer)) = found(kind) else {
-            continue;
-        };
-        let scene = scene::read(&bytes).expect("it was searched");
-        let lists = lists(&scene, &answer);
-        out.extend(((bytes.len() / scene::RECORD) as u32).to_le_bytes());
-        out.extend((lists.len() as u32).to_le_bytes());
-        out.extend(&bytes);
-        for list in &lists {
-            let yes = original::walk_back(&scene, list).expect("it was searched");
-            out.extend((list.len() as u32).to_le_bytes());
-            out.extend(u32::from(yes).to_le_bytes());
-            out.extend(list);
-        }
-        count += 1;
-    }
-    [&count.to_le_bytes()[..], &out].concat()
+/// Scenes with lists to walk back.
+pub fn cases() -> Vec<Case> {
+    KINDS.into_iter().filter_map(case).collect()
+}
+
+fn case(kind: &str) -> Option<Case> {
+    let (seed, bytes, answer) = found(kind)?;
+    let scene = scene::read(&bytes).expect("it was searched");
+    let mut case = Case::new(format!("make {seed} {kind} walkback"), bytes);
+    case.ask_lists(&scene, &lists(&scene, &answer));
+    Some(case)
 }
 
 /// The first small scene of a kind with a list of four points.
-fn found(kind: &str) -> Option<(Vec<u8>, Answer)> {
+fn found(kind: &str) -> Option<(u64, Vec<u8>, Answer)> {
     (1..=SEEDS).find_map(|seed| {
         let bytes = scene::make(seed, kind)?;
         let answer = original::verdict(&bytes).ok()?;
         let fits =
             answer.outcome == Outcome::Found && answer.list.len() == 4 && bytes.len() <= SCENE;
-        fits.then_some((bytes, answer))
+        fits.then_some((seed, bytes, answer))
     })
 }
 

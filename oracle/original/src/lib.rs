@@ -12,4 +12,4 @@ mod search;
 
 pub use policy::{Apex, Call, Found, Policy, door_passage, find_path, jump_apex, permission_bytes};
 pub use route::walk_back;
-pub use search::{Checks, Navigator, find_walk_path, judge, valid_request, verdict};
+pub use search::{Checks, Column, Navigator, find_walk_path, judge, valid_request, verdict};

@@ -189,6 +189,13 @@ pub fn verdict(bytes: &[u8]) -> Verdict {
     }
 }
 
+/// A column around a point: whether the graph looks at it, and its heights
+/// with the edges to them.
+pub struct Column {
+    pub looked: bool,
+    pub heights: Vec<(f64, Option<Waypoint>)>,
+}
+
 /// The original's checks on a scene, one call each.
 pub struct Checks {
     world: World,
@@ -278,32 +285,42 @@ impl Checks {
         .map(numbers)
     }
 
-    /// The graph steps of a point, in order. The original has no function for
-    /// them: the loop is ours, its tables, heights and edges are the
+    /// The nine columns around a point, in order, whether the graph looks at
+    /// each, its heights and the edges to them. The original has no function
+    /// for them: the loop is ours, its tables, heights and edges are the
     /// original's.
-    pub fn steps(&mut self, from: [f64; 3]) -> Vec<Waypoint> {
+    pub fn columns(&mut self, from: [f64; 3]) -> Vec<Column> {
         let column = vector(from).floor().as_ivec3();
         let mut level = [false; 4];
         let mut out = Vec::new();
         for (n, (dx, dz)) in searched::EXPANSION.into_iter().enumerate() {
-            if n > 4 {
+            let looked = n < 5 || {
                 let (a, b) = searched::SIDES[n - 5];
-                if !(level[a] && level[b]) {
-                    continue;
-                }
-            }
+                level[a] && level[b]
+            };
             let x = f64::from(column.x + dx) + 0.5;
             let z = f64::from(column.z + dz) + 0.5;
+            let mut heights = Vec::new();
             for y in self.candidate_heights(x, z, from[1]) {
-                if let Some(point) = self.edge(from, [x, y, z]) {
-                    if (1..=4).contains(&n) && y <= from[1] + searched::E {
-                        level[n - 1] = true;
-                    }
-                    out.push(point);
+                let edge = self.edge(from, [x, y, z]);
+                if (1..=4).contains(&n) && edge.is_some() && y <= from[1] + searched::E {
+                    level[n - 1] = true;
                 }
+                heights.push((y, edge));
             }
+            out.push(Column { looked, heights });
         }
         out
+    }
+
+    /// The graph steps of a point, in order.
+    pub fn steps(&mut self, from: [f64; 3]) -> Vec<Waypoint> {
+        let columns = self.columns(from).into_iter();
+        let looked = columns.filter(|column| column.looked);
+        looked
+            .flat_map(|column| column.heights)
+            .filter_map(|(_, edge)| edge)
+            .collect()
     }
 
     /// The connector: an edge to the goal with both horizontal differences at
