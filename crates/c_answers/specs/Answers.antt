@@ -7,8 +7,8 @@ use lib.ListN.{length}
 use Rattle.fields.specs.Little.{withField}
 use Rattle.outcomes.specs.declared.Answer.{Answer}
 use Rattle.outcomes.specs.Outcomes.{outcomeNumber}
-use Rattle.find_path.specs.declared.answers.Path.{Path}
-use Rattle.find_path.specs.declared.answers.Path.the-variants.{Searched, BadTable}
+use Rattle.outcomes.specs.declared.Path.{Path}
+use Rattle.outcomes.specs.declared.Path.the-variants.{Searched, BadTable}
 
 -- the record of an answer, 32 bytes: outcome, count, retained and closed, four u64. Where they do not fit, nothing is written.
 unfoldable pub answerWritten : Answer → List ℕ → List ℕ

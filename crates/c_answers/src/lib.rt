@@ -2,24 +2,10 @@
 // `walk_c` has the calls.
 ghost use mathlib.Core.Path.{_≡_};
 ghost use Rattle.outcomes.specs.Outcomes.{outcomeNumber};
-ghost use Rattle.find_path.specs.FindPath.{pathNumber};
+ghost use Rattle.outcomes.specs.Outcomes.{pathNumber};
 ghost use Rattle.c_answers.specs.Answers.{answerWritten, pathWritten};
-use find_path::Path;
+use outcomes::Path;
 use outcomes::Answer;
-use outcomes::Outcome;
-
-fn outcome_number(o: Outcome) -> u64
-    ensures { λ r. ⌜ r ≡ outcomeNumber o ⌝ }
-{
-    match o {
-        Outcome::Found => 0,
-        Outcome::Unreachable => 1,
-        Outcome::BudgetExceeded => 2,
-        Outcome::BadWorld => 3,
-        Outcome::TooLarge => 4,
-        Outcome::NoRoom => 5,
-    }
-}
 
 // The outcome's number; and outcome, count, retained and closed in the first 32 bytes of `answer`, where they fit.
 pub fn put_answer(a: Answer, answer: &mut [u8]) -> u64
@@ -27,7 +13,7 @@ pub fn put_answer(a: Answer, answer: &mut [u8]) -> u64
     ensures { λ _. ⌜ now (answer .exit) ≡ answerWritten a (now (answer .entry)) ⌝ }
 {
     let outcome = a.outcome;
-    let number = outcome_number(outcome);
+    let number = outcomes::number_of(outcome);
     if answer.len() < 32 {
         return number;
     }

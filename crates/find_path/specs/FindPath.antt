@@ -11,15 +11,9 @@ use Rattle.world.specs.declared.Point.{Point}
 use Rattle.world.specs.declared.Body.{Body}
 use Rattle.world.specs.declared.Request.{Request}
 use Rattle.world.specs.declared.Window.{Window}
-use Rattle.outcomes.specs.Outcomes.{outcomeNumber}
 use Rattle.search.specs.FindWalkPath.{found, nodesAfter, frontAfter, outAfter}
-use Rattle.find_path.specs.declared.answers.Path.{Path}
-use Rattle.find_path.specs.declared.answers.Path.the-variants.{Searched, BadTable}
-
--- 01's numbers: "`find_path` gives the outcome number", or 8
-abbrev pub pathNumber : Path → ℕ
-pathNumber (Searched a) = outcomeNumber (a .outcome)
-pathNumber BadTable = 8
+use Rattle.outcomes.specs.declared.Path.{Path}
+use Rattle.outcomes.specs.declared.Path.the-variants.{Searched, BadTable}
 
 -- "`find_path` asks range 16, budget 2,048, drop 3, the body's step, and the policy's jump height or 0 if it can't jump" (policy's `asked`)
 unfoldable pub requestOf : WalkPolicy → Point → Point → Body → Request

@@ -1,5 +1,5 @@
 // A mob's search: the permission table of its policy, then the search that its policy and its body ask for.
-use crate::answers::Path;
+use outcomes::Path;
 use policy::Filled;
 use policy::WalkPolicy;
 use world::Body;

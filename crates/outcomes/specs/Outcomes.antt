@@ -10,6 +10,8 @@ use Rattle.rooms.specs.Lists.{listOf}
 use Rattle.outcomes.specs.declared.Outcome.{Outcome}
 use Rattle.outcomes.specs.declared.Outcome.the-variants.{Found, Unreachable, BudgetExceeded, BadWorld, TooLarge, NoRoom}
 use Rattle.outcomes.specs.declared.Answer.{Answer}
+use Rattle.outcomes.specs.declared.Path.{Path}
+use Rattle.outcomes.specs.declared.Path.the-variants.{Searched, BadTable}
 use Rattle.outcomes.specs.declared.Turn.{Turn}
 use Rattle.outcomes.specs.declared.Turn.the-variants.{Rest, Going, At, By}
 
@@ -21,6 +23,11 @@ outcomeNumber BudgetExceeded = 2
 outcomeNumber BadWorld = 3
 outcomeNumber TooLarge = 4
 outcomeNumber NoRoom = 5
+
+-- of a mob's search: "`find_path` gives the outcome number", or 8
+abbrev pub pathNumber : Path → ℕ
+pathNumber (Searched a) = outcomeNumber (a .outcome)
+pathNumber BadTable = 8
 
 -- the theory's outcome in 01's words; no search ends `Searching` (exploration's Claims, `ends-within-budget`)
 abbrev pub toldBy : explore.Outcome (Feet × Label) → Outcome

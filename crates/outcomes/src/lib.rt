@@ -1,7 +1,7 @@
 // What a search answers (01, "Numbers given back"), and how the end of its run becomes that answer (01, "Search").
 ghost use mathlib.Core.Path.{_≡_};
 ghost use Rattle.rooms.specs.Lists.{written};
-ghost use Rattle.outcomes.specs.Outcomes.{unsearched, countsOf, listIn, endQuiet, endAt, answerOf};
+ghost use Rattle.outcomes.specs.Outcomes.{outcomeNumber, unsearched, countsOf, listIn, endQuiet, endAt, answerOf};
 use rooms::Counts;
 use rooms::Feet;
 use rooms::Label;
@@ -24,12 +24,32 @@ pub struct Answer {
     pub closed: u64,
 }
 
+// What a mob's search answers: the search's answer (0 to 5), or that the flag and permission tables differ in length (8).
+pub enum Path {
+    Searched(Answer),
+    BadTable,
+}
+
 // What one expansion comes to: nothing waits; the search goes on; the list ends at a node; or by a connector from there, with its label.
 pub enum Turn {
     Rest(Counts),
     Going(Counts),
     At(Counts, usize),
     By(Counts, usize, Label),
+}
+
+// 01's number of an outcome.
+pub fn number_of(outcome: Outcome) -> u64
+    ensures { λ r. ⌜ r ≡ outcomeNumber outcome ⌝ }
+{
+    match outcome {
+        Outcome::Found => 0,
+        Outcome::Unreachable => 1,
+        Outcome::BudgetExceeded => 2,
+        Outcome::BadWorld => 3,
+        Outcome::TooLarge => 4,
+        Outcome::NoRoom => 5,
+    }
 }
 
 // The answer where no search began.

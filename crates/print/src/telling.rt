@@ -26,20 +26,6 @@ fn refusal(number: u64, bad: u64) -> Told
     }
 }
 
-// 01's number of an outcome.
-fn number_of(outcome: Outcome) -> u64
-    ensures { λ n. ⌜ n ≡ outcomeNumber outcome ⌝ }
-{
-    match outcome {
-        Outcome::Found => 0,
-        Outcome::Unreachable => 1,
-        Outcome::BudgetExceeded => 2,
-        Outcome::BadWorld => 3,
-        Outcome::TooLarge => 4,
-        Outcome::NoRoom => 5,
-    }
-}
-
 // The first n bytes of a table, or all.
 fn front_of(s: &[u8], n: usize) -> &[u8]
     ensures { λ r. ⌜ now r ≡ take n (now (s .entry)) ⌝ }
@@ -69,7 +55,7 @@ fn told_of(a: Answer, out: &[u8]) -> Told
     let n = a.count;
     let total = lengths::length_of(list_of(out, n));
     Told {
-        number: number_of(outcome),
+        number: outcomes::number_of(outcome),
         bad: 0,
         waypoints: n,
         retained: a.retained as u64,

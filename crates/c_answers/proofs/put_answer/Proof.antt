@@ -10,12 +10,12 @@ use borrow.Author.Needs.{needs}
 use Rattle.c_answers.proofs.put_answer.Statement.{statement}
 use Rattle.c_answers.proofs.put_answer.Tie as tie
 
-outcome-number-requires : tie.Need-outcome-number-requires
-outcome-number-requires c κs = search needs
+number-of-requires : tie.Need-number-of-requires
+number-of-requires c κs = search needs
 
 returns : tie.Need-returns
 unfolding answerWritten
-returns c = (c .before .outcome-number .ensures, rw (lt-leb _ _ (c .if1 .taken)))
+returns c = (c .before .number-of .ensures, rw (lt-leb _ _ (c .if1 .taken)))
 
 put-u64-requires : tie.Need-put-u64-requires
 put-u64-requires c κs = search needs
@@ -36,8 +36,8 @@ returns-2 : tie.Need-returns-2
 unfolding answerWritten
 returns-2 c =
     let a = c .before .before .before .before .before .before .before .before .before .before .before .before .before .before .before .before .before .before .before .args in
-    let before = c .before .before .before .before .before .before .before .before .before .before .before .before .before .before .put-u64 .ensures ∙ ap (withField 8 (now (a .answer)) 0) (c .before .before .before .before .before .before .before .before .before .before .before .before .before .before .before .before .before .outcome-number .ensures) in (
-      c .before .before .before .before .before .before .before .before .before .before .before .before .before .before .before .before .before .outcome-number .ensures,
+    let before = c .before .before .before .before .before .before .before .before .before .before .before .before .before .before .put-u64 .ensures ∙ ap (withField 8 (now (a .answer)) 0) (c .before .before .before .before .before .before .before .before .before .before .before .before .before .before .before .before .before .number-of .ensures) in (
+      c .before .before .before .before .before .before .before .before .before .before .before .before .before .before .before .before .before .number-of .ensures,
       rw (le-leb _ _ (c .before .before .before .before .before .before .before .before .before .before .before .before .before .before .before .before .if1 .left))
           (c .before .before .put-u644 .ensures ∙ ap (λ (t : List ℕ). withField 8 t 24 (a .a .closed)) (c .before .before .before .before .before .before .put-u643 .ensures ∙ ap (λ (t : List ℕ). withField 8 t 16 (a .a .retained)) (c .before .before .before .before .before .before .before .before .before .before .put-u642 .ensures ∙ ap (λ (t : List ℕ). withField 8 t 8 (a .a .count)) before))),
     )
@@ -46,7 +46,7 @@ pub put-answer-spec : {M : Type 1} → statement M
 put-answer-spec =
     tie.close
     (tie.spec
-    outcome-number-requires
+    number-of-requires
     returns
     put-u64-requires
     put-u64-requires-2

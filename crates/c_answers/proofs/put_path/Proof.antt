@@ -1,8 +1,8 @@
 -- `c_answers::put_path` meets its contract. Assumes nothing.
 use mathlib.Core.Path.{_≡_, sym, ap, _∙_}
 use denote.Ref.{now}
-use Rattle.find_path.specs.declared.answers.Path.{Path}
-use Rattle.find_path.specs.FindPath.{pathNumber}
+use Rattle.outcomes.specs.declared.Path.{Path}
+use Rattle.outcomes.specs.Outcomes.{pathNumber}
 use Rattle.c_answers.specs.Answers.{pathWritten}
 use borrow.Author.Needs.{needs}
 use Rattle.c_answers.proofs.put_path.Statement.{statement}

@@ -1,7 +1,7 @@
 -- `find_path::find::find_path` meets its contract. Assumes nothing.
 use mathlib.Core.Path.{ap}
 use denote.Ref.{now}
-use Rattle.find_path.specs.declared.answers.Path.the-variants.{Searched}
+use Rattle.outcomes.specs.declared.Path.the-variants.{Searched}
 use Rattle.find_path.specs.FindPath.{path, nodesAfterPath, frontAfterPath, outAfterPath}
 use Rattle.find_path.specs.Laws.{agree, differ, searched, unsearched}
 use borrow.Author.Needs.{needs}

@@ -3,8 +3,8 @@ use mathlib.Core.Path.{_≡_, ap, _∙_}
 use Prim.Native.Nat.{ℕ}
 use denote.Ref.{now}
 use mathlib.Core.List.{List}
-use Rattle.find_path.specs.declared.answers.Path.{Path}
-use Rattle.find_path.specs.FindPath.{pathNumber}
+use Rattle.outcomes.specs.declared.Path.{Path}
+use Rattle.outcomes.specs.Outcomes.{pathNumber}
 use Rattle.c_answers.specs.Answers.{pathWritten}
 use Rattle.c_records.specs.Asked.{mobIn}
 use borrow.Author.Needs.{needs}
