@@ -165,12 +165,7 @@ fn head_records() -> Vec<Record> {
             budget: 64,
         },
         Record::Body {
-            step: 0.5,
-            jump: 1.25,
-            drop: 3.0,
-            width: 0.625,
-            height: 1.75,
-            body_step: 0.5625,
+            numbers: [0.5, 1.25, 3.0, 0.625, 1.75, 0.5625],
         },
         Record::Window {
             origin: [-2, 0, -3],

@@ -1,9 +1,9 @@
 //! Scenes, made and directed, and rooms of every size around their limits.
 
-use mutants::chance::Chance;
-use mutants::draft::scene_of;
 use std::path::Path;
 
+use mutants::chance::Chance;
+use mutants::draft::scene_of;
 use scene::{RECORD, Record};
 
 use crate::call::Call;
