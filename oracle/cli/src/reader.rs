@@ -18,7 +18,7 @@ impl Rooms {
     fn line(&mut self, bytes: &[u8]) -> String {
         let (partial, bad) = scene::read_partial(bytes);
         let raw = partial.tables.raw();
-        let made = [&raw.cells, &raw.permissions, &raw.shapes, &raw.boxes];
+        let made = raw.all();
         for (room, made) in self.0.iter_mut().zip(made) {
             room[..made.len()].copy_from_slice(made);
         }
