@@ -2,16 +2,15 @@
    numbers go through both, one after the other. The medians are printed with their ratio, and the
    fastest rounds, which other work on the machine disturbed least. Each answer is compared with the
    processor's too. bench/root builds and runs it. */
-#include <math.h>
 #include <stdint.h>
 #include <stdio.h>
 #include <stdlib.h>
 #include <string.h>
 #include <time.h>
 
-enum { NUMBERS = 1 << 14, ROUNDS = 101 };
+#include "walkprint.h"
 
-double walkprint_square_root(double x);
+enum { NUMBERS = 1 << 14, ROUNDS = 101 };
 
 /* Not inlined, as the proved one is not: both are timed with the cost of a call. */
 __attribute__((noinline)) static double hardware_square_root(double x) {

@@ -4,7 +4,6 @@
 
 mod clock;
 mod proved;
-mod stairs;
 
 use std::hint::black_box;
 use std::process::ExitCode;
@@ -23,7 +22,7 @@ const STAIRS: [(u64, usize); 3] = [(64, 100), (512, 100), (4096, 20)];
 /// A world by name: the oracle's three, or `stairs-` and a budget.
 fn world(name: &str) -> Option<Scene> {
     match name.strip_prefix("stairs-") {
-        Some(budget) => Some(stairs::stairs(budget.parse().ok()?)),
+        Some(budget) => Some(scene::stairs(budget.parse().ok()?)),
         None => scene::large(name),
     }
 }
@@ -177,7 +176,7 @@ fn all() -> bool {
         right &= world(name).is_some_and(|scene| compare(name, scene, ROUNDS));
     }
     for (budget, rounds) in STAIRS {
-        right &= compare(&format!("stairs-{budget}"), stairs::stairs(budget), rounds);
+        right &= compare(&format!("stairs-{budget}"), scene::stairs(budget), rounds);
     }
     right
 }

@@ -1,52 +1,15 @@
 //! The proved search as a server links it (include/walkprint.h): a scene in the
 //! bytes that it reads, its rooms, and what it left in them.
 
-use scene::{Answer, Scene};
-
-unsafe extern "C" {
-    /// A slice is a pointer and a length.
-    fn walkprint_find_walk_path(
-        window: *const u8,
-        window_length: usize,
-        cells: *const u8,
-        cells_length: usize,
-        permissions: *const u8,
-        permissions_length: usize,
-        shapes: *const u8,
-        shapes_length: usize,
-        boxes: *const u8,
-        boxes_length: usize,
-        request: *const u8,
-        request_length: usize,
-        body: *const u8,
-        body_length: usize,
-        nodes: *mut u8,
-        nodes_length: usize,
-        front: *mut u8,
-        front_length: usize,
-        out: *mut u8,
-        out_length: usize,
-        answer: *mut u8,
-        answer_length: usize,
-    ) -> u64;
-}
-
-fn floats(numbers: &[f64]) -> Vec<u8> {
-    numbers.iter().flat_map(|n| n.to_le_bytes()).collect()
-}
-
-fn entries(pairs: &[(u32, u32)]) -> Vec<u8> {
-    let numbers = pairs.iter().flat_map(|&(a, b)| [a, b]);
-    numbers.flat_map(u32::to_le_bytes).collect()
-}
+use scene::{Answer, RawTables, Scene};
+use walkprint::raw::{self, Asked, Lent};
 
 /// A scene in bytes, and rooms of exactly the size that its budget asks.
 pub struct Proved {
-    window: Vec<u8>,
-    /// Cells, permissions, shapes, boxes.
-    tables: [Vec<u8>; 4],
-    request: Vec<u8>,
-    body: Vec<u8>,
+    window: [u8; 24],
+    tables: RawTables,
+    request: [u8; 88],
+    body: [u8; 24],
     /// Nodes, frontier, output.
     rooms: [Vec<u8>; 3],
     answer: [u8; 32],
@@ -54,69 +17,36 @@ pub struct Proved {
 
 impl Proved {
     pub fn new(scene: &Scene) -> Self {
-        let (request, body, tables) = (&scene.request, &scene.body, &scene.tables);
-        let mut window: Vec<u8> = Vec::new();
-        window.extend(tables.window.origin.iter().flat_map(|n| n.to_le_bytes()));
-        window.extend(tables.window.sizes.iter().flat_map(|n| n.to_le_bytes()));
-        let mut asked = floats(&[request.start, request.goal].concat());
-        asked.extend(floats(&[
-            request.max_range,
-            request.step_height,
-            request.jump_height,
-            request.max_drop,
-        ]));
-        asked.extend(request.node_budget.to_le_bytes());
-        let budget = request.node_budget as usize;
+        let budget = scene.request.node_budget as usize;
         Self {
-            window,
-            tables: [
-                entries(&tables.cells),
-                tables.permissions.clone(),
-                entries(&tables.shapes),
-                floats(&tables.boxes.concat()),
-            ],
-            request: asked,
-            body: floats(&[body.width, body.height, body.step_height]),
-            rooms: [
-                vec![0; 56 * budget],
-                vec![0; 24 * budget],
-                vec![0; 40 * (budget + 1)],
-            ],
+            window: scene.tables.window.bytes(),
+            tables: scene.tables.raw(),
+            request: scene.request.bytes(),
+            body: scene.body.bytes(),
+            rooms: [56 * budget, 24 * budget, 40 * (budget + 1)].map(|size| vec![0; size]),
             answer: [0; 32],
         }
     }
 
     /// One search, and nothing else; its number.
     pub fn run(&mut self) -> u64 {
-        let [cells, permissions, shapes, boxes] = &self.tables;
+        let asked = Asked {
+            window: &self.window,
+            tables: self.tables.all(),
+            request: &self.request,
+            body: &self.body,
+        };
         let [nodes, front, out] = &mut self.rooms;
-        // Each pointer stands with the length of its vector, and no two overlap.
-        unsafe {
-            walkprint_find_walk_path(
-                self.window.as_ptr(),
-                self.window.len(),
-                cells.as_ptr(),
-                cells.len(),
-                permissions.as_ptr(),
-                permissions.len(),
-                shapes.as_ptr(),
-                shapes.len(),
-                boxes.as_ptr(),
-                boxes.len(),
-                self.request.as_ptr(),
-                self.request.len(),
-                self.body.as_ptr(),
-                self.body.len(),
-                nodes.as_mut_ptr(),
-                nodes.len(),
-                front.as_mut_ptr(),
-                front.len(),
-                out.as_mut_ptr(),
-                out.len(),
-                self.answer.as_mut_ptr(),
-                self.answer.len(),
-            )
-        }
+        let answer = &mut self.answer;
+        raw::find_walk_path(
+            &asked,
+            Lent {
+                nodes,
+                front,
+                out,
+                answer,
+            },
+        )
     }
 
     /// All three rooms zeroed, whole.

@@ -1,9 +1,9 @@
 //! walkprint's proved functions for Rust programs: safe functions on slices
 //! over the C interface of include/walkprint.h, which says what each lent byte
-//! holds after each answer.
+//! holds after each answer. The calls on bytes are in `raw`.
 
+pub mod raw;
 mod records;
-mod sys;
 
 pub use records::{Body, Movement, Point, Policy, Request, Waypoint, Window};
 
@@ -94,23 +94,27 @@ pub struct Scene {
     pub in_use: [usize; 4],
 }
 
-/// Calls a function of `sys` on slices: each is a pointer and a length, and the
-/// borrow checker sees that no lent one shares a byte with another.
-macro_rules! call {
-    ($name:ident($($shared:expr),*; $($lent:expr),*; $($number:expr),*)) => {
-        unsafe { sys::$name($($shared.as_ptr(), $shared.len(),)* $($lent.as_mut_ptr(), $lent.len(),)* $($number,)*) }
-    };
+/// Calls `ask` with a world, a request (or two ends) and a body in bytes.
+fn in_bytes<T>(t: &Tables, request: &[u8], body: &Body, ask: impl FnOnce(&raw::Asked) -> T) -> T {
+    ask(&raw::Asked {
+        window: &t.window.bytes(),
+        tables: [t.cells, t.permissions, t.shapes, t.boxes],
+        request,
+        body: &body.bytes(),
+    })
+}
+
+/// Lends a search its rooms, and reads its answer.
+fn searched(rooms: &mut Rooms, search: impl FnOnce(raw::Lent) -> u64) -> Result<Answer, Error> {
+    let mut answer = [0; 32];
+    let Rooms { nodes, front, out } = rooms;
+    let number = search(raw::Lent { nodes, front, out, answer: &mut answer });
+    answered(number, &answer)
 }
 
 /// A way from the request's start to its goal; the list goes to `rooms.out`.
 pub fn find_walk_path(t: &Tables, request: &Request, body: &Body, rooms: &mut Rooms) -> Result<Answer, Error> {
-    let (window, request, body) = (t.window.bytes(), request.bytes(), body.bytes());
-    let mut answer = [0; 32];
-    let number = call!(walkprint_find_walk_path(
-        window, t.cells, t.permissions, t.shapes, t.boxes, request, body;
-        rooms.nodes, rooms.front, rooms.out, answer;
-    ));
-    answered(number, &answer)
+    in_bytes(t, &request.bytes(), body, |asked| searched(rooms, |lent| raw::find_walk_path(asked, lent)))
 }
 
 /// A mob's search: the flags of the states and the policy fill `permissions`,
@@ -123,64 +127,28 @@ pub fn find_path(
     flags: &[u8],
     t: &Tables,
     permissions: &mut [u8],
-    [start, goal]: [Point; 2],
+    ends: [Point; 2],
     body: &Body,
     rooms: &mut Rooms,
 ) -> Result<Answer, Error> {
-    let (window, body, ends) = (t.window.bytes(), body.bytes(), records::floats(&[start, goal].concat()));
-    let mut answer = [0; 32];
-    // Each pointer stands with the length of its slice, and no lent slice shares a byte with another.
-    let number = unsafe {
-        sys::walkprint_find_path(
-            policy.bits(in_water),
-            policy.jump_height,
-            flags.as_ptr(),
-            flags.len(),
-            window.as_ptr(),
-            window.len(),
-            t.cells.as_ptr(),
-            t.cells.len(),
-            permissions.as_mut_ptr(),
-            permissions.len(),
-            t.shapes.as_ptr(),
-            t.shapes.len(),
-            t.boxes.as_ptr(),
-            t.boxes.len(),
-            ends.as_ptr(),
-            ends.len(),
-            body.as_ptr(),
-            body.len(),
-            rooms.nodes.as_mut_ptr(),
-            rooms.nodes.len(),
-            rooms.front.as_mut_ptr(),
-            rooms.front.len(),
-            rooms.out.as_mut_ptr(),
-            rooms.out.len(),
-            answer.as_mut_ptr(),
-            answer.len(),
-        )
-    };
-    answered(number, &answer)
+    let bits = policy.bits(in_water);
+    in_bytes(t, &records::floats(&ends.concat()), body, |asked| {
+        searched(rooms, |lent| raw::find_path(bits, policy.jump_height, flags, asked, permissions, lent))
+    })
 }
 
 /// Whether a list of waypoint records is a route.
 pub fn walk_back(t: &Tables, request: &Request, body: &Body, list: &[u8]) -> Result<bool, Error> {
-    let (window, request, body) = (t.window.bytes(), request.bytes(), body.bytes());
-    let number = call!(walkprint_walk_back(window, t.cells, t.permissions, t.shapes, t.boxes, request, body, list;;));
-    match number {
+    match in_bytes(t, &request.bytes(), body, |asked| raw::walk_back(asked, list)) {
         10 => Ok(true),
         11 => Ok(false),
-        _ => Err(refusal(number, 0)),
+        number => Err(refusal(number, 0)),
     }
 }
 
 /// How the edge from one point to another moves, where there is one.
 pub fn edge(t: &Tables, request: &Request, body: &Body, from: Point, to: Point) -> Option<Movement> {
-    let (window, request, body) = (t.window.bytes(), request.bytes(), body.bytes());
-    Movement::numbered(call!(walkprint_edge(
-        window, t.cells, t.permissions, t.shapes, t.boxes, request, body;;
-        from[0], from[1], from[2], to[0], to[1], to[2]
-    )))
+    Movement::numbered(in_bytes(t, &request.bytes(), body, |asked| raw::edge(asked, from, to)))
 }
 
 /// Reads a whole scene into four tables, each of at least its size in
@@ -193,7 +161,7 @@ pub fn read_scene(
     boxes: &mut [u8],
 ) -> Result<Scene, Error> {
     let mut made = [0; 168];
-    let number = call!(walkprint_read_scene(bytes; cells, permissions, shapes, boxes, made;));
+    let number = raw::read_scene(bytes, [cells, permissions, shapes, boxes], &mut made);
     if number != 0 {
         return Err(refusal(number, records::word(&made, 0)));
     }
@@ -207,24 +175,26 @@ pub fn read_scene(
 
 /// How many blocks a jump gains that starts with the velocity `power`.
 pub fn jump_apex(power: f32, gravity: f64) -> Result<f64, Error> {
-    let mut height = [0; 8];
-    // Each pointer stands with the length of its array.
-    let number = unsafe { sys::walkprint_jump_apex(power, gravity, height.as_mut_ptr(), height.len()) };
-    if number == 0 { Ok(f64::from_le_bytes(height)) } else { Err(refusal(number, 0)) }
+    float(|height| raw::jump_apex(power, gravity, height))
 }
 
 /// The nearest f64 to the exact square root.
 pub fn root(x: f64) -> Result<f64, Error> {
-    let mut root = [0; 8];
-    // Each pointer stands with the length of its array.
-    let number = unsafe { sys::walkprint_root(x, root.as_mut_ptr(), root.len()) };
-    if number == 0 { Ok(f64::from_le_bytes(root)) } else { Err(refusal(number, 0)) }
+    float(|root| raw::root(x, root))
 }
 
 /// The square root of IEEE 754, which answers every number.
 pub fn square_root(x: f64) -> f64 {
-    // It takes a number and gives one back.
-    unsafe { sys::walkprint_square_root(x) }
+    raw::square_root(x)
+}
+
+/// The number that a call writes into eight bytes, or its refusal.
+fn float(call: impl FnOnce(&mut [u8]) -> u64) -> Result<f64, Error> {
+    let mut bytes = [0; 8];
+    match call(&mut bytes) {
+        0 => Ok(f64::from_le_bytes(bytes)),
+        number => Err(refusal(number, 0)),
+    }
 }
 
 /// What a search's number and its record say.

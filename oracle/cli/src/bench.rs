@@ -28,7 +28,7 @@ pub fn line(name: &str, scene: &Scene, runs: u64) -> String {
 /// empty cache of blocks.
 pub fn edges_line(name: &str, scene: &Scene, runs: u64) -> String {
     let mut checks = Checks::new(scene);
-    let pairs = neighbours(scene, &mut checks);
+    let pairs = checks.neighbours(scene);
     let mut good = 0;
     let [median, least] = times(runs, || {
         good = 0;
@@ -41,21 +41,6 @@ pub fn edges_line(name: &str, scene: &Scene, runs: u64) -> String {
         "{name}: {} pairs, {good} edges; median {median} ns, least {least} ns of {runs} runs\n",
         pairs.len()
     )
-}
-
-/// Each retained node with each height of the nine columns around it.
-fn neighbours(scene: &Scene, checks: &mut Checks) -> Vec<([f64; 3], [f64; 3])> {
-    let mut out = Vec::new();
-    for node in original::find_walk_path(scene).nodes {
-        let from = node.point.feet;
-        for column in 0..9 {
-            let x = from[0].floor() + f64::from(column % 3 - 1) + 0.5;
-            let z = from[2].floor() + f64::from(column / 3 - 1) + 0.5;
-            let heights = checks.candidate_heights(x, z, from[1]);
-            out.extend(heights.iter().map(|&y| (from, [x, y, z])));
-        }
-    }
-    out
 }
 
 /// The median and the least time of `runs` calls, in nanoseconds.

@@ -18,7 +18,7 @@ impl Rooms {
     fn line(&mut self, bytes: &[u8]) -> String {
         let (partial, bad) = scene::read_partial(bytes);
         let raw = partial.tables.raw();
-        let made = [&raw.cells, &raw.permissions, &raw.shapes, &raw.boxes];
+        let made = raw.all();
         for (room, made) in self.0.iter_mut().zip(made) {
             room[..made.len()].copy_from_slice(made);
         }
@@ -165,12 +165,7 @@ fn head_records() -> Vec<Record> {
             budget: 64,
         },
         Record::Body {
-            step: 0.5,
-            jump: 1.25,
-            drop: 3.0,
-            width: 0.625,
-            height: 1.75,
-            body_step: 0.5625,
+            numbers: [0.5, 1.25, 3.0, 0.625, 1.75, 0.5625],
         },
         Record::Window {
             origin: [-2, 0, -3],

@@ -1,6 +1,6 @@
 //! Lists for a walk-back: found ones, and each of them damaged.
 
-use scene::{Answer, Outcome, Scene};
+use scene::{Answer, Outcome, Scene, u64_at};
 
 use crate::replay::Case;
 
@@ -43,7 +43,7 @@ pub fn lists(scene: &Scene, answer: &Answer) -> Vec<Vec<u8>> {
         out.push([&list[..begin], &list[end..]].concat());
         out.push([&list[..end], &list[begin..]].concat());
         for at in (begin..end).step_by(8) {
-            let word = u64::from_le_bytes(list[at..at + 8].try_into().expect("8 bytes"));
+            let word = u64_at(&list, at);
             for changed in changes(word, at + 8 == end) {
                 let mut copy = list.clone();
                 copy[at..at + 8].copy_from_slice(&changed.to_le_bytes());

@@ -1,10 +1,12 @@
 //! One call of the proved search against what must come of it: the answer, and
 //! every byte of every lent room and around it.
 
-use crate::call::{Call, u64_at};
-use crate::chance::Chance;
+use mutants::chance::Chance;
+use scene::f64_at;
+use walkprint::raw::{self, Lent};
+
+use crate::call::Call;
 use crate::expected::{Expected, Judged, expected};
-use crate::proved::{self, Lent};
 use crate::room::Room;
 
 /// Bytes of an answer: outcome, count, retained, closed. It is not written on
@@ -21,7 +23,7 @@ pub fn differ(
 ) -> Result<Expected, String> {
     let must = expected(judged, call.request.node_budget, sizes);
     compare(&must, sizes, seed, |lent| {
-        proved::find_walk_path(call, lent)
+        call.ask(|asked| raw::find_walk_path(asked, lent))
     })?;
     Ok(must)
 }
@@ -78,7 +80,7 @@ pub fn compare(
 
 /// The list's length by the proved root and by the processor's.
 fn same_length(list: &[u8]) -> Result<(), String> {
-    let feet = |record: &[u8]| [0, 8, 16].map(|at| f64::from_bits(u64_at(record, at)));
+    let feet = |record: &[u8]| [0, 8, 16].map(|at| f64_at(record, at));
     let points: Vec<[f64; 3]> = list.chunks(40).map(feet).collect();
     let sum = |root: fn(f64) -> f64| {
         points.windows(2).fold(0.0, |sum, pair| {
@@ -86,7 +88,7 @@ fn same_length(list: &[u8]) -> Result<(), String> {
             sum + root(x * x + y * y + z * z)
         })
     };
-    let (ours, theirs): (f64, f64) = (sum(proved::square_root), sum(f64::sqrt));
+    let (ours, theirs): (f64, f64) = (sum(raw::square_root), sum(f64::sqrt));
     if ours.to_bits() == theirs.to_bits() {
         return Ok(());
     }

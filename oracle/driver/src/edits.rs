@@ -1,7 +1,9 @@
 //! What is changed in a call so that no scene could have made it.
 
-use crate::call::{Call, u32_at};
-use crate::chance::Chance;
+use mutants::chance::Chance;
+use scene::{f64_at, u32_at};
+
+use crate::call::Call;
 use crate::room::any_bytes;
 
 pub struct Edit {
@@ -436,7 +438,7 @@ fn box_off(call: &mut Call, chance: &mut Chance) {
     let at = 48 * chance.below(boxes(call));
     let field = chance.below(6);
     let other = at + 8 * ((field + 3) % 6);
-    let opposite = f64::from_bits(crate::call::u64_at(&call.tables.boxes, other));
+    let opposite = f64_at(&call.tables.boxes, other);
     let numbers = [
         f64::NAN,
         f64::INFINITY,

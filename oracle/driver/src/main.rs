@@ -2,16 +2,6 @@
 //! as a server would, against the original. oracle/README.md says what each
 //! command does.
 
-#[allow(dead_code)]
-#[path = "../../mutants/src/chance.rs"]
-mod chance;
-#[path = "../../mutants/src/draft.rs"]
-mod draft;
-#[path = "../../mutants/src/recipes.rs"]
-mod recipes;
-#[path = "../../mutants/src/shrink.rs"]
-mod shrink;
-
 mod call;
 mod counts;
 mod differ;
@@ -20,7 +10,6 @@ mod expected;
 mod large;
 mod numbers;
 mod policy;
-mod proved;
 mod reader;
 mod room;
 mod runner;

@@ -1,11 +1,11 @@
 //! The proved jump against the original's, and the proved root against the
 //! processor's: one of each a number.
 
+use mutants::chance::Chance;
 use original::{Apex, jump_apex};
+use walkprint::raw;
 
-use crate::chance::Chance;
 use crate::counts::Counts;
-use crate::proved;
 use crate::room::Room;
 use crate::runner::{Makers, Mismatch};
 
@@ -71,7 +71,7 @@ fn jump(chance: &mut Chance, counts: &mut Counts) -> Result<(), String> {
         Apex::Height(height) => Some(height),
         Apex::Endless => None,
     };
-    let call = |room: &mut [u8]| proved::jump_apex(power, gravity, room);
+    let call = |room: &mut [u8]| raw::jump_apex(power, gravity, room);
     check(must, 6, chance, call)
         .map_err(|parts| format!("jump of {power:e} under {gravity:e}: {parts}"))?;
     counts.add(
@@ -104,7 +104,7 @@ fn root(chance: &mut Chance, counts: &mut Counts) -> Result<(), String> {
     };
     let refused = !number.is_finite() || number < 0.0;
     let must = (!refused).then(|| number.sqrt());
-    let call = |room: &mut [u8]| proved::root(number, room);
+    let call = |room: &mut [u8]| raw::root(number, room);
     check(must, 9, chance, call).map_err(|parts| format!("root of {number:e}: {parts}"))?;
     counts.add(if refused { "roots refused" } else { "roots" }, 1);
     Ok(())

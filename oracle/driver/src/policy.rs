@@ -1,16 +1,16 @@
 //! `find_path` under every policy against the original's: the permission bytes
 //! of all flag bytes, and searches on scenes with any flags.
 
+use mutants::chance::Chance;
+use mutants::draft::scene_of;
 use original::Policy;
-use scene::{Body, Request, Scene, Tables, Window};
+use scene::{Body, Request, Scene, Tables};
+use walkprint::raw::{self, Asked};
 
 use crate::call::Call;
-use crate::chance::Chance;
 use crate::counts::Counts;
 use crate::differ::compare;
-use crate::draft::scene_of;
 use crate::expected::{Expected, Judged, expected, judge, needed};
-use crate::proved::{self, PathCall};
 use crate::room::Room;
 use crate::runner::{Makers, Mismatch, smallest};
 
@@ -20,9 +20,7 @@ const COMBINATIONS: u64 = 256;
 /// Scene n under combination n / 22 mod 256, so that 5,632 scenes in a row have
 /// every kind under every combination.
 pub fn one_scene(makers: &Makers, number: u64, counts: &mut Counts) -> Result<(), Mismatch> {
-    let records = makers.records(number);
-    let Some(scene) = scene_of(&records) else {
-        counts.add("no scenes", 1);
+    let Some((records, scene)) = makers.scene(number, counts) else {
         return Ok(());
     };
     match parts(&scene, number, counts) {
@@ -56,7 +54,7 @@ fn parts(scene: &Scene, number: u64, counts: &mut Counts) -> Option<String> {
         start: scene.request.start,
         goal: scene.request.goal,
     };
-    one_call(&call, number, counts).err()
+    one_call(combination, &call, number, counts).err()
 }
 
 /// A door, water, anything.
@@ -73,14 +71,8 @@ fn any_flags(chance: &mut Chance) -> u8 {
 pub fn all_flags() -> bool {
     let flags: Vec<u8> = (0..=255).collect();
     let tables = Tables {
-        window: Window {
-            origin: [0; 3],
-            sizes: [0; 3],
-        },
-        cells: Vec::new(),
         permissions: vec![0; 256],
-        shapes: Vec::new(),
-        boxes: Vec::new(),
+        ..Tables::default()
     };
     let body = Body {
         width: 1.0,
@@ -97,7 +89,7 @@ pub fn all_flags() -> bool {
             start: [0.5; 3],
             goal: [0.5; 3],
         };
-        let parts = one_call(&call, combination, &mut Counts::default()).err()?;
+        let parts = one_call(combination, &call, combination, &mut Counts::default()).err()?;
         Some(format!("policy {combination}: {parts}"))
     });
     match &parted {
@@ -110,8 +102,13 @@ pub fn all_flags() -> bool {
 }
 
 /// "It judges 8, fills the permission table, which stays filled, then searches
-/// in the order above."
-fn one_call(call: &original::Call, seed: u64, counts: &mut Counts) -> Result<(), String> {
+/// in the order above." The combination is the policy's number.
+fn one_call(
+    combination: u64,
+    call: &original::Call,
+    seed: u64,
+    counts: &mut Counts,
+) -> Result<(), String> {
     let mut chance = Chance::new(seed);
     let sizes = needed(2048).map(|size| match chance.below(24) {
         0 => size - 1,
@@ -120,14 +117,15 @@ fn one_call(call: &original::Call, seed: u64, counts: &mut Counts) -> Result<(),
     let mut permissions = Room::new(call.tables.permissions.len(), &mut chance);
     let (must, filled) = must(call, sizes)?;
     let after = permissions.after(&filled);
-    let path = PathCall {
-        call: asked(call, Vec::new()),
-        flags: call.flags,
-        policy: call.policy,
-        in_water: call.in_water,
-    };
     compare(&must, sizes, seed, |lent| {
-        proved::find_path(&path, permissions.lent(), lent)
+        asked(call, Vec::new()).ask(|asked| {
+            let ends = Asked {
+                request: &asked.request[..48],
+                ..*asked
+            };
+            let (jump, room) = (call.policy.jump_height, permissions.lent());
+            raw::find_path(combination, jump, call.flags, &ends, room, lent)
+        })
     })?;
     if let Some(parts) = permissions.parts(&after) {
         return Err(format!("permissions: {parts}"));
@@ -151,12 +149,7 @@ fn must(call: &original::Call, sizes: [usize; 3]) -> Result<(Expected, Vec<u8>),
         Judged::Answered(answer) => answer.outcome as u64,
     };
     let theirs = original::find_path(call);
-    let mut same = Call {
-        request: theirs.request,
-        ..asked.clone()
-    }
-    .request()
-        == asked.request();
+    let mut same = theirs.request.bytes() == asked.request.bytes();
     same &= theirs.permissions == filled && theirs.found == (number == 0);
     if let Judged::Answered(answer) = &judged {
         same &= answer.same_bits(&theirs.answer);

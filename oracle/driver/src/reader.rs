@@ -1,11 +1,11 @@
 //! The proved scene reader against the oracle's, on good and damaged scenes.
 
-use scene::{RECORD, read_partial, to_text, write_bytes};
+use mutants::chance::Chance;
+use scene::{RECORD, f64_at, read_partial, to_text, write_bytes};
+use walkprint::raw;
 
-use crate::call::{Call, u64_at};
-use crate::chance::Chance;
+use crate::call::Call;
 use crate::counts::Counts;
-use crate::proved;
 use crate::room::Room;
 use crate::runner::{Makers, Mismatch};
 
@@ -73,7 +73,7 @@ fn must(bytes: &[u8], sizes: [usize; 4]) -> Must {
         };
     }
     let (partial, bad) = read_partial(bytes);
-    let raw = partial.tables.raw();
+    let tables = partial.tables.raw();
     let (number, made) = match (bad, scene::read(bytes)) {
         (None, Ok(scene)) => (0, made(&Call::of(&scene))),
         (bad, _) => (
@@ -85,7 +85,7 @@ fn must(bytes: &[u8], sizes: [usize; 4]) -> Must {
     };
     Must {
         number,
-        tables: [raw.cells, raw.permissions, raw.shapes, raw.boxes],
+        tables: tables.all().map(<[u8]>::to_vec),
         made,
     }
 }
@@ -94,27 +94,15 @@ fn must(bytes: &[u8], sizes: [usize; 4]) -> Must {
 /// pattern.
 fn made(call: &Call) -> Vec<u8> {
     let plain = |bytes: &[u8]| -> Vec<u8> {
-        let words = bytes.chunks(8).map(|word| u64_at(word, 0));
-        let one = |word: u64| {
-            if f64::from_bits(word).is_nan() {
-                f64::NAN.to_bits()
-            } else {
-                word
-            }
-        };
-        words.flat_map(|word| one(word).to_le_bytes()).collect()
+        let numbers = bytes.chunks(8).map(|word| f64_at(word, 0));
+        let one = |n: f64| if n.is_nan() { f64::NAN } else { n };
+        numbers.flat_map(|n| one(n).to_le_bytes()).collect()
     };
-    let mut out = plain(&call.request()[..80]);
+    let mut out = plain(&call.request.bytes()[..80]);
     out.extend(call.request.node_budget.to_le_bytes());
-    out.extend(plain(&call.body()));
-    out.extend(call.window());
-    let tables = &call.tables;
-    for table in [
-        &tables.cells,
-        &tables.permissions,
-        &tables.shapes,
-        &tables.boxes,
-    ] {
+    out.extend(plain(&call.body.bytes()));
+    out.extend(call.tables.window.bytes());
+    for table in call.tables.all() {
         out.extend((table.len() as u64).to_le_bytes());
     }
     out
@@ -138,7 +126,7 @@ fn read(bytes: &[u8], seed: u64, counts: &mut Counts) -> Result<(), String> {
     let fits = must.made.len() <= length;
     let mut after: Vec<Vec<u8>> = (0..4).map(|k| rooms[k].after(&must.tables[k])).collect();
     after.push(record.after(if fits { &must.made } else { &[] }));
-    let number = proved::read_scene(bytes, rooms.each_mut().map(Room::lent), record.lent());
+    let number = raw::read_scene(bytes, rooms.each_mut().map(Room::lent), record.lent());
     if number != must.number {
         return Err(format!("answered {number}, must be {}", must.number));
     }

@@ -1,6 +1,6 @@
 //! A lent room between two strips of bytes that nobody may touch.
 
-use crate::chance::Chance;
+use mutants::chance::Chance;
 
 const STRIP: usize = 64;
 

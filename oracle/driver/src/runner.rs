@@ -2,11 +2,12 @@
 
 use std::sync::atomic::{AtomicBool, Ordering};
 
-use scene::{KINDS, Record, to_text, write_bytes};
+use mutants::draft::scene_of;
+use mutants::recipes::{RECIPES, Recipe, recipe};
+use mutants::shrink::shrink;
+use scene::{KINDS, Record, Scene, to_text, write_bytes};
 
 use crate::counts::Counts;
-use crate::recipes::{RECIPES, Recipe, recipe};
-use crate::shrink::shrink;
 
 /// What parts, and the smallest scene found for it, in text form.
 pub struct Mismatch {
@@ -36,6 +37,16 @@ impl Makers {
 
     pub fn records(&self, number: u64) -> Vec<Record> {
         self.maker(number).1(number)
+    }
+
+    /// The records and the scene that they make, if they make one.
+    pub fn scene(&self, number: u64, counts: &mut Counts) -> Option<(Vec<Record>, Scene)> {
+        let records = self.records(number);
+        let scene = scene_of(&records);
+        if scene.is_none() {
+            counts.add("no scenes", 1);
+        }
+        Some((records, scene?))
     }
 
     fn maker(&self, number: u64) -> &(&'static str, Recipe) {

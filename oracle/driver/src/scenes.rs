@@ -2,21 +2,19 @@
 
 use std::path::Path;
 
+use mutants::chance::Chance;
+use mutants::draft::scene_of;
 use scene::{RECORD, Record};
 
 use crate::call::Call;
-use crate::chance::Chance;
 use crate::counts::Counts;
 use crate::differ::differ;
-use crate::draft::scene_of;
 use crate::expected::{Judged, judge, needed};
 use crate::runner::{Makers, Mismatch, smallest};
 
 /// A scene once, with rooms that are just as long as they must be, or longer.
 pub fn one_scene(makers: &Makers, number: u64, counts: &mut Counts) -> Result<(), Mismatch> {
-    let records = makers.records(number);
-    let Some(scene) = scene_of(&records) else {
-        counts.add("no scenes", 1);
+    let Some((records, scene)) = makers.scene(number, counts) else {
         return Ok(());
     };
     let call = Call::of(&scene);

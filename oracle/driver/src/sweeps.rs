@@ -1,23 +1,20 @@
 //! Every budget from 0 to two more than the points that graph steps reach, with
 //! what demand 3 claims checked on the proved answers.
 
+use mutants::draft::scene_of;
 use scene::Scene;
 
 use crate::call::Call;
 use crate::counts::Counts;
 use crate::differ::differ;
-use crate::draft::scene_of;
 use crate::expected::{Expected, judge, needed};
-use crate::proved;
 use crate::runner::{Makers, Mismatch, smallest};
 
 /// Scenes that reach more points are passed over.
 const MOST: usize = 100;
 
 pub fn one_scene(makers: &Makers, number: u64, counts: &mut Counts) -> Result<(), Mismatch> {
-    let records = makers.records(number);
-    let Some(scene) = scene_of(&records) else {
-        counts.add("no scenes", 1);
+    let Some((records, scene)) = makers.scene(number, counts) else {
         return Ok(());
     };
     match sweep(scene, number, counts) {
@@ -73,7 +70,7 @@ fn one_budget(
     call.request.node_budget = budget;
     let answer = differ(&call, &judge(&call), needed(budget), seed + budget)?;
     counts.search(&answer);
-    if answer.number == 0 && proved::walk_back(&call, &answer.list) != 10 {
+    if answer.number == 0 && call.walk_back(&answer.list) != 10 {
         return Err("a found list is no route".to_string());
     }
     if let Some(broken) = broken(&answer, budget, reach, before) {

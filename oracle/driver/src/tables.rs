@@ -1,22 +1,20 @@
 //! Tables that no scene can hold: a made scene with one to four edits of its
 //! tables, its budget and its limits.
 
+use mutants::chance::Chance;
+use mutants::draft::scene_of;
+use mutants::shrink::shrink;
 use scene::{Record, Scene, to_text, write_bytes};
 
 use crate::call::Call;
-use crate::chance::Chance;
 use crate::counts::Counts;
 use crate::differ::differ;
-use crate::draft::scene_of;
 use crate::edits::{EDITS, Edit};
 use crate::expected::{judge, needed};
 use crate::runner::{Makers, Mismatch};
-use crate::shrink::shrink;
 
 pub fn one_call(makers: &Makers, number: u64, counts: &mut Counts) -> Result<(), Mismatch> {
-    let records = makers.records(number);
-    let Some(scene) = scene_of(&records) else {
-        counts.add("no scenes", 1);
+    let Some((records, scene)) = makers.scene(number, counts) else {
         return Ok(());
     };
     let edits = edits(number);

@@ -1,15 +1,14 @@
 //! The proved walk-back against the oracle's own check of a route: on found
 //! lists, on each of them damaged, on other routes and on random lists.
 
-use scene::{Answer, Outcome, Scene, Waypoint};
+use mutants::chance::Chance;
+use mutants::draft::scene_of;
+use scene::{Answer, Outcome, Scene, Waypoint, u64_at};
 
-use crate::call::{Call, u64_at};
-use crate::chance::Chance;
+use crate::call::Call;
 use crate::counts::Counts;
-use crate::draft::scene_of;
 use crate::edits::EDITS;
 use crate::expected::judge;
-use crate::proved;
 use crate::room::any_bytes;
 use crate::runner::{Makers, Mismatch, smallest};
 use crate::scenes::answered;
@@ -20,9 +19,7 @@ const YES: u64 = 10;
 const NO: u64 = 11;
 
 pub fn one_scene(makers: &Makers, number: u64, counts: &mut Counts) -> Result<(), Mismatch> {
-    let records = makers.records(number);
-    let Some(scene) = scene_of(&records) else {
-        counts.add("no scenes", 1);
+    let Some((records, scene)) = makers.scene(number, counts) else {
         return Ok(());
     };
     counts.add("scenes", 1);
@@ -51,7 +48,7 @@ fn must(call: &Call, list: &[u8]) -> u64 {
 
 /// Asks both about a list.
 fn ask(call: &Call, list: &[u8], what: &str, counts: &mut Counts) -> Result<u64, String> {
-    let (said, must) = (proved::walk_back(call, list), must(call, list));
+    let (said, must) = (call.walk_back(list), must(call, list));
     if said != must {
         return Err(format!(
             "{what}: answered {said}, must be {must}: {}",

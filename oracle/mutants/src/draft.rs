@@ -211,12 +211,14 @@ impl Draft {
             .pick(&[0.625, 0.625, 0.6, 0.25, 1.0, 0.5, 1.5, 1e-20]);
         let height = self.chance.pick(&[1.75, 1.0, 1.8, 0.5, 0.9, 2.5, 1e-20]);
         let body = Record::Body {
-            step: self.climb(),
-            jump: self.climb(),
-            drop: self.climb(),
-            width: self.nudge(width),
-            height: self.nudge(height),
-            body_step: self.climb(),
+            numbers: [
+                self.climb(),
+                self.climb(),
+                self.climb(),
+                self.nudge(width),
+                self.nudge(height),
+                self.climb(),
+            ],
         };
         let request = |start: [f64; 3], goal: [f64; 3], max_range: f64| Record::Request {
             start,

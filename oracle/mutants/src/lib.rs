@@ -1,14 +1,15 @@
 //! Single-edit variants of the reading, run over scenes. README.md says what
-//! each command does.
+//! each command does. The driver makes its scenes by the same recipes and
+//! shrinks them by the same means.
 
 mod agree;
-mod chance;
+pub mod chance;
 mod claims;
 mod compare;
-mod draft;
+pub mod draft;
 mod hunt;
-mod recipes;
-mod shrink;
+pub mod recipes;
+pub mod shrink;
 mod table;
 
 use std::path::PathBuf;

@@ -62,21 +62,13 @@ fn opening(
     (origin, sizes): ([i32; 3], [u32; 3]),
 ) -> Vec<Record> {
     let [start, goal] = ends;
-    let [step, jump, drop, width, height, body_step] = body;
     let request = Record::Request {
         start,
         goal,
         max_range,
         budget,
     };
-    let body = Record::Body {
-        step,
-        jump,
-        drop,
-        width,
-        height,
-        body_step,
-    };
+    let body = Record::Body { numbers: body };
     vec![request, body, Record::Window { origin, sizes }]
 }
 

@@ -119,11 +119,8 @@ fn renumber_shapes(records: &[Record]) -> Vec<Record> {
 /// One step height for the request and the body.
 fn same_steps(records: &[Record]) -> Vec<Record> {
     let mut changed = records.to_vec();
-    if let Some(Record::Body {
-        step, body_step, ..
-    }) = changed.get_mut(1)
-    {
-        *body_step = *step;
+    if let Some(Record::Body { numbers }) = changed.get_mut(1) {
+        numbers[5] = numbers[0];
     }
     changed
 }
@@ -258,17 +255,7 @@ fn floats(record: &mut Record) -> Vec<&mut f64> {
             all.push(max_range);
             all
         }
-        Record::Body {
-            step,
-            jump,
-            drop,
-            width,
-            height,
-            body_step,
-        } => {
-            vec![step, jump, drop, width, height, body_step]
-        }
-        Record::Shape { numbers, .. } => numbers.iter_mut().collect(),
+        Record::Body { numbers } | Record::Shape { numbers, .. } => numbers.iter_mut().collect(),
         _ => Vec::new(),
     }
 }

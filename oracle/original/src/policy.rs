@@ -137,23 +137,13 @@ fn asked(request: WalkPathRequest) -> Request {
 
 /// The permission bytes that the original works out for a table of flags.
 pub fn permission_bytes(policy: &Policy, in_water: bool, flags: &[u8]) -> Vec<u8> {
-    let nowhere = Tables {
-        window: scene::Window {
-            origin: [0; 3],
-            sizes: [0; 3],
-        },
-        cells: Vec::new(),
-        permissions: Vec::new(),
-        shapes: Vec::new(),
-        boxes: Vec::new(),
-    };
     let body = Body {
         width: 1.0,
         height: 1.0,
         step_height: 0.0,
     };
     let call = Call {
-        tables: &nowhere,
+        tables: &Tables::default(),
         flags,
         body,
         policy: *policy,

@@ -1,6 +1,6 @@
 //! 01's Route, over the original's checks, and the walk-back's answer.
 
-use scene::{Refusal, Scene, Waypoint};
+use scene::{Refusal, Scene, Waypoint, f64_at, u64_at};
 
 use crate::search::{Checks, valid_request};
 
@@ -31,11 +31,10 @@ pub fn walk_back(scene: &Scene, list: &[u8]) -> Result<bool, Refusal> {
 }
 
 fn waypoint(record: &[u8]) -> Waypoint {
-    let word = |at: usize| u64::from_le_bytes(record[at..at + 8].try_into().expect("8 bytes"));
     Waypoint {
-        feet: [0, 8, 16].map(|at| f64::from_bits(word(at))),
-        lift: f64::from_bits(word(24)),
-        movement: word(32),
+        feet: [0, 8, 16].map(|at| f64_at(record, at)),
+        lift: f64_at(record, 24),
+        movement: u64_at(record, 32),
     }
 }
 

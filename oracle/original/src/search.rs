@@ -257,6 +257,22 @@ impl Checks {
         ask!(self, checks => checks.candidate_heights(x, z, from_y))
     }
 
+    /// Each retained node of the scene's search with each height of the nine
+    /// columns around it, to measure edges on.
+    pub fn neighbours(&mut self, scene: &Scene) -> Vec<([f64; 3], [f64; 3])> {
+        let mut out = Vec::new();
+        for node in find_walk_path(scene).nodes {
+            let from = node.point.feet;
+            for column in 0..9 {
+                let x = from[0].floor() + f64::from(column % 3 - 1) + 0.5;
+                let z = from[2].floor() + f64::from(column / 3 - 1) + 0.5;
+                let heights = self.candidate_heights(x, z, from[1]);
+                out.extend(heights.iter().map(|&y| (from, [x, y, z])));
+            }
+        }
+        out
+    }
+
     pub fn edge(&mut self, from: [f64; 3], to: [f64; 3]) -> Option<Waypoint> {
         ask!(self, checks => checks.edge(vector(from), vector(to)))
     }

@@ -140,6 +140,35 @@ fn tower() -> Scene {
     scene
 }
 
+/// A hill of half steps: 80 columns deep, and 80 long, each half a block higher
+/// than the one before. The start is in its middle; the goal is the top of a
+/// pillar that no step reaches, so that every budget is used up.
+pub fn stairs(budget: u64) -> Scene {
+    const LONG: usize = 80;
+    const PILLAR: usize = 48;
+    let last = LONG as f64 - 0.5;
+    let mut scene = empty(
+        [0, 0, 0],
+        [LONG as u32, 52, LONG as u32],
+        [40.5, 20.5, 40.5],
+        [last, PILLAR as f64, last],
+    );
+    scene.request.node_budget = budget;
+    for z in 0..LONG {
+        for x in 0..LONG {
+            for y in 0..x / 2 {
+                scene.tables.put([x, y, z], STONE);
+            }
+            let top = if x % 2 == 0 { SLAB } else { STONE };
+            scene.tables.put([x, x / 2, z], top);
+        }
+    }
+    for y in 0..PILLAR {
+        scene.tables.put([LONG - 1, y, LONG - 1], STONE);
+    }
+    scene
+}
+
 /// The sixteen columns around a three by three core.
 fn ring() -> Vec<(usize, usize)> {
     let mut out = Vec::new();

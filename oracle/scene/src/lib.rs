@@ -3,6 +3,7 @@
 //!
 //! Written from document 01 alone; nothing here knows the original.
 
+mod bytes;
 mod large;
 mod make;
 mod print;
@@ -12,7 +13,8 @@ mod record;
 mod text;
 mod world;
 
-pub use large::{LARGE, large};
+pub use bytes::{f64_at, u32_at, u64_at};
+pub use large::{LARGE, large, stairs};
 pub use make::{KINDS, make};
 pub use print::{name, print, print_refusal, print_verdict};
 pub use random::Random;
@@ -42,7 +44,7 @@ pub struct Body {
 }
 
 /// The cells that a table of cells speaks about.
-#[derive(Debug, Clone, Copy, PartialEq, Eq)]
+#[derive(Debug, Default, Clone, Copy, PartialEq, Eq)]
 pub struct Window {
     pub origin: [i32; 3],
     pub sizes: [u32; 3],
@@ -52,7 +54,7 @@ pub struct Window {
 pub const UNFILLED: (u32, u32) = (u32::MAX, 0);
 
 /// 01's "Tables", as numbers.
-#[derive(Debug, Clone, PartialEq)]
+#[derive(Debug, Default, Clone, PartialEq)]
 pub struct Tables {
     pub window: Window,
     /// State and shape of each cell: x runs fastest, then z, then y.
@@ -122,33 +124,6 @@ pub struct Refusal {
 
 /// What walkprint answers to a scene.
 pub type Verdict = Result<Answer, Refusal>;
-
-impl Waypoint {
-    /// 01's waypoint record.
-    pub fn bytes(&self) -> [u8; 40] {
-        let mut out = [0; 40];
-        for (place, number) in [self.feet[0], self.feet[1], self.feet[2], self.lift]
-            .into_iter()
-            .enumerate()
-        {
-            out[8 * place..][..8].copy_from_slice(&number.to_bits().to_le_bytes());
-        }
-        out[32..].copy_from_slice(&self.movement.to_le_bytes());
-        out
-    }
-}
-
-impl NodeRecord {
-    /// 01's node record.
-    pub fn bytes(&self) -> [u8; 56] {
-        let mut out = [0; 56];
-        out[..40].copy_from_slice(&self.point.bytes());
-        out[40..48].copy_from_slice(&self.cost.to_bits().to_le_bytes());
-        out[48..52].copy_from_slice(&self.parent.to_le_bytes());
-        out[52..].copy_from_slice(&self.closed.to_le_bytes());
-        out
-    }
-}
 
 impl Answer {
     /// An answer whose search never began.

@@ -1,5 +1,6 @@
 //! The scene reader, by 01's "Scenes and walkprint".
 
+use crate::bytes::{f64_at, u32_at};
 use crate::world::good_box;
 use crate::{Body, Request, Scene, Tables, UNFILLED, Window};
 
@@ -75,16 +76,7 @@ pub fn read_partial(bytes: &[u8]) -> (Partial, Option<BadScene>) {
         ends: None,
         steps: None,
         window: None,
-        tables: Tables {
-            window: Window {
-                origin: [0; 3],
-                sizes: [0; 3],
-            },
-            cells: Vec::new(),
-            permissions: Vec::new(),
-            shapes: Vec::new(),
-            boxes: Vec::new(),
-        },
+        tables: Tables::default(),
         kind: 0,
     };
     for record in bytes.chunks(RECORD) {
@@ -105,7 +97,7 @@ pub(crate) struct Fields<'a>(pub(crate) &'a [u8]);
 
 impl Fields<'_> {
     pub(crate) fn u32(self, at: usize) -> u32 {
-        u32::from_le_bytes(self.0[at..at + 4].try_into().unwrap())
+        u32_at(self.0, at)
     }
 
     pub(crate) fn i32(self, at: usize) -> i32 {
@@ -113,7 +105,7 @@ impl Fields<'_> {
     }
 
     pub(crate) fn f64(self, at: usize) -> f64 {
-        f64::from_bits(u64::from_le_bytes(self.0[at..at + 8].try_into().unwrap()))
+        f64_at(self.0, at)
     }
 
     pub(crate) fn f64s<const N: usize>(self, at: usize) -> [f64; N] {

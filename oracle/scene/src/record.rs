@@ -11,13 +11,9 @@ pub enum Record {
         max_range: f64,
         budget: u32,
     },
+    /// Step, jump, drop, width, height, body step.
     Body {
-        step: f64,
-        jump: f64,
-        drop: f64,
-        width: f64,
-        height: f64,
-        body_step: f64,
+        numbers: [f64; 6],
     },
     Window {
         origin: [i32; 3],
@@ -73,19 +69,11 @@ impl Record {
                 floats(out, goal);
                 floats(out, &[*max_range]);
             }
-            Record::Body {
-                step,
-                jump,
-                drop,
-                width,
-                height,
-                body_step,
-            } => floats(out, &[*step, *jump, *drop, *width, *height, *body_step]),
             Record::Window { origin, sizes } => {
                 whole(out, &origin.map(i32::cast_unsigned));
                 whole(out, sizes);
             }
-            Record::Shape { numbers, .. } => floats(out, numbers),
+            Record::Body { numbers } | Record::Shape { numbers, .. } => floats(out, numbers),
             Record::State { permission, .. } => out.push(*permission),
             Record::Fill {
                 min,
@@ -124,17 +112,9 @@ impl Record {
                 max_range: fields.f64(56),
                 budget: fields.n(),
             },
-            2 => {
-                let [step, jump, drop, width, height, body_step] = fields.f64s(8);
-                Record::Body {
-                    step,
-                    jump,
-                    drop,
-                    width,
-                    height,
-                    body_step,
-                }
-            }
+            2 => Record::Body {
+                numbers: fields.f64s(8),
+            },
             3 => Record::Window {
                 origin: corner(8),
                 sizes: [20, 24, 28].map(|at| fields.u32(at)),

@@ -6,6 +6,9 @@ use std::collections::HashMap;
 use crate::read::RECORD;
 use crate::record::Record;
 
+/// The words before the numbers of a body.
+const BODY: [&str; 6] = ["step", "jump", "drop", "width", "height", "bodystep"];
+
 /// A record's line in the text form.
 fn line(record: &Record) -> String {
     match record {
@@ -20,23 +23,11 @@ fn line(record: &Record) -> String {
             floats_text(goal),
             float_text(*max_range)
         ),
-        Record::Body {
-            step,
-            jump,
-            drop,
-            width,
-            height,
-            body_step,
-        } => [
-            ("body step", step),
-            (" jump", jump),
-            (" drop", drop),
-            (" width", width),
-            (" height", height),
-            (" bodystep", body_step),
-        ]
-        .map(|(name, number)| format!("{name} {}", float_text(*number)))
-        .concat(),
+        Record::Body { numbers } => {
+            let named = BODY.iter().zip(numbers);
+            let word = |(name, number): (&&str, &f64)| format!(" {name} {}", float_text(*number));
+            format!("body{}", named.map(word).collect::<String>())
+        }
         other => line_of_world(other),
     }
 }
@@ -246,14 +237,11 @@ impl<'a> Words<'a> {
     }
 
     fn body(&mut self) -> Result<Record, String> {
-        Ok(Record::Body {
-            step: self.after("step")?.float()?,
-            jump: self.after("jump")?.float()?,
-            drop: self.after("drop")?.float()?,
-            width: self.after("width")?.float()?,
-            height: self.after("height")?.float()?,
-            body_step: self.after("bodystep")?.float()?,
-        })
+        let mut numbers = [0.0; 6];
+        for (name, number) in BODY.iter().zip(&mut numbers) {
+            *number = self.after(name)?.float()?;
+        }
+        Ok(Record::Body { numbers })
     }
 
     fn shape(&mut self) -> Result<Record, String> {

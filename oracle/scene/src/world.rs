@@ -1,5 +1,6 @@
 //! The tables as the bytes that a caller lends, and number 3, BadWorld.
 
+use crate::bytes::{f64_at, u32_at};
 use crate::{Tables, Window};
 
 /// 01's "Tables, little-endian records", as lent.
@@ -36,6 +37,35 @@ impl Tables {
     }
 }
 
+impl RawTables {
+    /// Cells, permissions, shapes and boxes.
+    pub fn all(&self) -> [&[u8]; 4] {
+        [&self.cells, &self.permissions, &self.shapes, &self.boxes]
+    }
+
+    /// The same tables as numbers, for tables of whole records.
+    pub fn numbers(&self) -> Tables {
+        Tables {
+            window: self.window,
+            cells: pairs(&self.cells).collect(),
+            permissions: self.permissions.clone(),
+            shapes: pairs(&self.shapes).collect(),
+            boxes: boxes(&self.boxes).collect(),
+        }
+    }
+}
+
+/// The cells or the shapes of a table.
+fn pairs(table: &[u8]) -> impl Iterator<Item = (u32, u32)> {
+    let records = table.chunks(8);
+    records.map(|record| (u32_at(record, 0), u32_at(record, 4)))
+}
+
+fn boxes(table: &[u8]) -> impl Iterator<Item = [f64; 6]> {
+    let records = table.chunks(48);
+    records.map(|record| std::array::from_fn(|place| f64_at(record, 8 * place)))
+}
+
 /// 01's rule for a box: finite, min ≤ max, each from -16 to 16.
 pub fn good_box(numbers: &[f64; 6]) -> bool {
     (0..3).all(|axis| numbers[axis] <= numbers[axis + 3])
@@ -61,17 +91,7 @@ pub fn bad_world(tables: &RawTables) -> bool {
         return true;
     }
     let box_count = (boxes.len() / 48) as u64;
-    let bad_shape = shapes.chunks(8).any(|record| {
-        let first = u64::from(u32::from_le_bytes(record[..4].try_into().unwrap()));
-        let count = u64::from(u32::from_le_bytes(record[4..].try_into().unwrap()));
-        count > 16 || first + count > box_count
-    });
-    let bad_box = boxes.chunks(48).any(|record| {
-        let mut numbers = [0.0; 6];
-        for (number, bytes) in numbers.iter_mut().zip(record.chunks(8)) {
-            *number = f64::from_bits(u64::from_le_bytes(bytes.try_into().unwrap()));
-        }
-        !good_box(&numbers)
-    });
-    bad_shape || bad_box
+    let bad_shape = pairs(shapes)
+        .any(|(first, count)| count > 16 || u64::from(first) + u64::from(count) > box_count);
+    bad_shape || self::boxes(boxes).any(|numbers| !good_box(&numbers))
 }

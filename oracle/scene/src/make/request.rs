@@ -95,15 +95,7 @@ impl Draft {
             random.one_of(&steps),
         ];
         self.unsettle(&mut numbers);
-        let [step, jump, drop, width, height, body_step] = numbers;
-        Record::Body {
-            step,
-            jump,
-            drop,
-            width,
-            height,
-            body_step,
-        }
+        Record::Body { numbers }
     }
 
     /// What a kind changes in step, jump, drop, width, height, body step.

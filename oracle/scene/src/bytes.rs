@@ -1,0 +1,81 @@
+//! 01's records as the bytes that a caller lends and is given, little-endian.
+
+use crate::{Body, NodeRecord, Request, Waypoint, Window};
+
+impl Window {
+    /// Origin, then sizes.
+    pub fn bytes(&self) -> [u8; 24] {
+        let numbers = self.origin.map(i32::cast_unsigned);
+        let mut out = [0; 24];
+        for (place, number) in numbers.into_iter().chain(self.sizes).enumerate() {
+            out[4 * place..][..4].copy_from_slice(&number.to_le_bytes());
+        }
+        out
+    }
+}
+
+impl Request {
+    /// Start, goal, range, step, jump and drop, then the budget.
+    pub fn bytes(&self) -> [u8; 88] {
+        let rest = [
+            self.max_range,
+            self.step_height,
+            self.jump_height,
+            self.max_drop,
+        ];
+        let mut out = [0; 88];
+        put_floats(&mut out, &[&self.start[..], &self.goal, &rest].concat());
+        out[80..].copy_from_slice(&self.node_budget.to_le_bytes());
+        out
+    }
+}
+
+impl Body {
+    /// Width, height, step height.
+    pub fn bytes(&self) -> [u8; 24] {
+        let mut out = [0; 24];
+        put_floats(&mut out, &[self.width, self.height, self.step_height]);
+        out
+    }
+}
+
+impl Waypoint {
+    /// Feet, lift, movement.
+    pub fn bytes(&self) -> [u8; 40] {
+        let [x, y, z] = self.feet;
+        let mut out = [0; 40];
+        put_floats(&mut out, &[x, y, z, self.lift]);
+        out[32..].copy_from_slice(&self.movement.to_le_bytes());
+        out
+    }
+}
+
+impl NodeRecord {
+    /// The waypoint, cost, parent, closed.
+    pub fn bytes(&self) -> [u8; 56] {
+        let mut out = [0; 56];
+        out[..40].copy_from_slice(&self.point.bytes());
+        put_floats(&mut out[40..], &[self.cost]);
+        out[48..52].copy_from_slice(&self.parent.to_le_bytes());
+        out[52..].copy_from_slice(&self.closed.to_le_bytes());
+        out
+    }
+}
+
+fn put_floats(out: &mut [u8], numbers: &[f64]) {
+    for (place, number) in numbers.iter().enumerate() {
+        out[8 * place..][..8].copy_from_slice(&number.to_bits().to_le_bytes());
+    }
+}
+
+pub fn u32_at(bytes: &[u8], at: usize) -> u32 {
+    u32::from_le_bytes(bytes[at..at + 4].try_into().expect("4 bytes"))
+}
+
+pub fn u64_at(bytes: &[u8], at: usize) -> u64 {
+    u64::from_le_bytes(bytes[at..at + 8].try_into().expect("8 bytes"))
+}
+
+pub fn f64_at(bytes: &[u8], at: usize) -> f64 {
+    f64::from_bits(u64_at(bytes, at))
+}
