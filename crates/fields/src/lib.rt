@@ -5,18 +5,7 @@ ghost use Prim.Native.Nat.{_+_, _*_, _≤_};
 ghost use lib.ListN.{length};
 ghost use mir.Syntax.{w32};
 ghost use mir.Val.{toZ};
-ghost use Rattle.fields.specs.Little.{fitsAt, field, signedField, floatField};
-
-// Whether n bytes stand at an offset.
-pub fn fits_at(s: &[u8], at: usize, n: usize) -> bool
-    ensures { λ r. ⌜ r ≡ fitsAt n (now (s .entry)) at ⌝ }
-{
-    let len = s.len();
-    if len < n {
-        return false;
-    }
-    at <= len - n
-}
+ghost use Rattle.fields.specs.Little.{field, signedField, floatField};
 
 // The number that four bytes stand for, lowest first.
 fn join(a: u8, b: u8, c: u8, d: u8) -> u32
@@ -71,7 +60,7 @@ pub fn f64_at(s: &[u8], at: usize) -> f64
 }
 
 // The signed number of 32 bits, in two's complement.
-pub fn signed_of(n: u32) -> i32
+fn signed_of(n: u32) -> i32
     ensures { λ r. ⌜ r ≡ toZ w32 n ⌝ }
 {
     if n < 2147483648 {

@@ -1,11 +1,11 @@
--- The order of floats that are no NaN: total and transitive. `lt` and `le` are lib.Ieee's.
+-- The order of floats that are no NaN: total and transitive, with = where each is at most the other. `lt`, `le` and `eq` are lib.Ieee's.
 use Prim.Native.Nat.{ℕ, zero, suc, _+_, _*_, _≤_, _<_}
 use native.Mathlib.Omega.{arith}
 use native.Mathlib.Nat.{mul-pos, zero-mul}
 use mathlib.Core.Path.{_≡_, refl, sym, ap, _∙_, subst}
 use mathlib.Core.Bool.{Bool, true, false, not, _&&_, _||_}
 use mathlib.Core.Logic.{_⊎_, inl, inr}
-use borrow.Author.Tests.{lt-ltb, le-ltb, le-leb, lt-leb, ltb-true, ltb-false, leb-true, leb-false, eq-eqb, ne-eqb}
+use borrow.Author.Tests.{lt-ltb, le-ltb, le-leb, lt-leb, ltb-true, ltb-false, leb-true, leb-false, eq-eqb, ne-eqb, eqb-true, eqb-false}
 use lib.Dec.{T, ltb, leb, eqb}
 use lib.IntN.{ℤ}
 use lib.Ieee.{Float, nan, inf, fin, up, down, lt, le, eq, isNan, below, level}
@@ -102,6 +102,50 @@ lt-turned (fin s m e) nan h k = false-true (sym k)
 lt-turned (fin s m e) (inf true) h k = refl
 lt-turned (fin s m e) (inf false) h k = refl
 lt-turned (fin s m e) (fin t n d) h k = turned s (m * up e * down d) t (n * up d * down e) ∙ ap not (sym (most-is t (n * up d * down e) s (m * up e * down d)))
+
+-- ---- = is the same both ways
+
+level-turned : (s : Bool) (a : ℕ) (t : Bool) (b : ℕ) → level s a t b ≡ level t b s a
+level-turned s a t b = go (eqb a b) refl
+  where
+    signs : (s t : Bool) → level s b t b ≡ level t b s b
+    signs true true = refl
+    signs true false = refl
+    signs false true = refl
+    signs false false = refl
+    go : (c : Bool) → eqb a b ≡ c → level s a t b ≡ level t b s a
+    go true p = let e : a ≡ b = eqb-true a b p in rw e (signs s t)
+    go false p = rw (p, ne-eqb b a (λ e. eqb-false a b p (sym e)))
+
+pub eq-turned : (x y : Float) → eq x y ≡ eq y x
+unfolding eq
+eq-turned nan nan = refl
+eq-turned nan (inf t) = refl
+eq-turned nan (fin t n d) = refl
+eq-turned (inf s) nan = refl
+eq-turned (inf true) (inf true) = refl
+eq-turned (inf true) (inf false) = refl
+eq-turned (inf false) (inf true) = refl
+eq-turned (inf false) (inf false) = refl
+eq-turned (inf s) (fin t n d) = refl
+eq-turned (fin s m e) nan = refl
+eq-turned (fin s m e) (inf t) = refl
+eq-turned (fin s m e) (fin t n d) = level-turned s (m * up e * down d) t (n * up d * down e)
+
+both : (a b c : Bool) → a ≡ not (b || c) → c ≡ ((a || c) && (b || c))
+both true true c h = false-true (sym h)
+both true false true h = false-true (sym h)
+both true false false h = refl
+both false true true h = refl
+both false false true h = refl
+both false b false h = refl
+
+-- x = y exactly where each is at most the other
+pub eq-both : (x y : Float) → isNan x ≡ false → isNan y ≡ false → eq x y ≡ (le x y && le y x)
+unfolding le
+eq-both x y h k =
+    let below : lt x y ≡ not (lt y x || eq y x) = lt-turned x y h k in
+    rw (eq-turned y x) (both (lt x y) (lt y x) (eq x y) (rw (eq-turned y x) at below))
 
 -- ---- what a comparison that holds tells
 
