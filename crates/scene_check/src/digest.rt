@@ -1,4 +1,4 @@
-// The oracle's digest (oracle/README.md): d = (257 d + v + 1) mod 2147483647 for each number v, of which a byte is one.
+// The oracle's digest (oracle/README.md): d = (257 d + v + 1) mod 2147483647 for each number v.
 use scene::InUse;
 use scene::Scene;
 use world::Body;
@@ -10,12 +10,12 @@ fn number(d: u64, v: u64) -> u64 {
     (257 * (d % 2147483647) + v % 2147483647 + 1) % 2147483647
 }
 
-// Every byte of a table.
+// Every byte of a table, 8 to a number.
 pub(crate) fn table(d: u64, s: &[u8]) -> u64 {
     let mut sum = d;
     let mut i: usize = 0;
-    while i < s.len() {
-        sum = number(sum, s[i] as u64);
+    while i < s.len() / 8 {
+        sum = number(sum, fields::u64_at(s, 8 * i));
         i += 1;
     }
     sum

@@ -4,6 +4,7 @@
 mod digest;
 mod input;
 
+use input::Case;
 use libc::STDOUT_FILENO;
 use read_scene::SceneAnswer;
 
@@ -44,6 +45,28 @@ fn print(l: Line) {
     io::write_all(STDOUT_FILENO, b"\n");
 }
 
+// One case, from what the case before it left.
+fn one(
+    last: Case,
+    scene: &mut [u8],
+    cells: &mut [u8],
+    perms: &mut [u8],
+    shapes: &mut [u8],
+    boxes: &mut [u8],
+) -> Case {
+    let case = input::next(last, scene);
+    let bytes = input::front(scene, case.length);
+    let l = answered(read_scene::read_scene(bytes, cells, perms, shapes, boxes));
+    let a = digest::table(digest::table(l.digest, cells), perms);
+    let b = digest::table(digest::table(a, shapes), boxes);
+    print(Line {
+        number: l.number,
+        record: l.record,
+        digest: b,
+    });
+    case
+}
+
 fn main() {
     let mut scene = [0u8; 32768];
     let mut cells = [0u8; 32768];
@@ -53,16 +76,6 @@ fn main() {
     let mut case = input::no_case();
     let count = input::word();
     for _ in 0..count {
-        case = input::next(case, &mut scene);
-        let bytes = input::front(&scene, case.length);
-        let answer = read_scene::read_scene(bytes, &mut cells, &mut perms, &mut shapes, &mut boxes);
-        let l = answered(answer);
-        let a = digest::table(digest::table(l.digest, &cells), &perms);
-        let b = digest::table(digest::table(a, &shapes), &boxes);
-        print(Line {
-            number: l.number,
-            record: l.record,
-            digest: b,
-        });
+        case = one(case, &mut scene, &mut cells, &mut perms, &mut shapes, &mut boxes);
     }
 }

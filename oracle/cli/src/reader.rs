@@ -29,8 +29,8 @@ impl Rooms {
                 digest.number(table.len() as u64);
             }
         }
-        for room in &self.0 {
-            digest.take(room);
+        for word in self.0.iter().flat_map(|room| room.as_chunks().0) {
+            digest.number(u64::from_le_bytes(*word));
         }
         let (number, record) = bad.map_or((0, 0), |bad| (7, bad.record));
         format!("{number} {record} {}\n", digest.0)
