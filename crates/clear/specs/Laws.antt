@@ -2,7 +2,7 @@
 use Prim.Native.Nat.{ℕ, zero, suc, _+_, _-_, _*_, _≤_, _<_}
 use native.Mathlib.Omega.{arith}
 use native.Mathlib.Numerals.{add-one}
-use mathlib.Core.Path.{_≡_, refl}
+use mathlib.Core.Path.{_≡_, refl, sym}
 use mathlib.Core.Bool.{Bool, true, false, not, _&&_, _||_}
 use mathlib.Core.List.{List, map}
 use lib.IntN.{ℤ, pos, _+ℤ_}
@@ -55,33 +55,38 @@ past area by s n left h = rw (run-past s n left h)
 
 -- ---- a cell, by the tests on it
 
-module _ (area : Aabb) (p : Point) (boxes : List ℕ) where
-  pub unknown-met : meets (voxel p) area ≡ true → free area p (blockOf boxes Unknown p) ≡ false
-  unfolding free blockOf hits
-  unknown-met e = rw e
+neither : (a b : Bool) → (not a && not (b || false)) ≡ not (a || b)
+neither true b = refl
+neither false true = refl
+neither false false = refl
 
-  pub unknown-apart : meets (voxel p) area ≡ false → free area p (blockOf boxes Unknown p) ≡ not (meets (moved cube p) area)
+barred : (may met rest : Bool) → (met && not may) ≡ true → ((may || not met) && rest) ≡ false
+barred false true rest e = refl
+barred false false rest e = cc
+barred true true rest e = cc
+barred true false rest e = cc
+
+passed : (may met rest : Bool) → (met && not may) ≡ false → ((may || not met) && rest) ≡ rest
+passed true met rest e = refl
+passed false false rest e = refl
+passed false true rest e = cc
+
+module _ (area : Aabb) (p : Point) (boxes : List ℕ) {met : Bool} (e : meets (voxel p) area ≡ met) where
+  pub unknown : {hit : Bool} → meets (moved cube p) area ≡ hit → not (met || hit) ≡ free area p (blockOf boxes Unknown p)
   unfolding free blockOf hits
-  unknown-apart e = rw e (single (meets (moved cube p) area))
-    where
-      single : (b : Bool) → not (b || false) ≡ not b
-      single true = refl
-      single false = refl
+  unknown {hit} f = rw (e, f) (sym (neither met hit))
 
   module _ (may support : Bool) (first many : ℕ) where
-    -- where a body may be in the cell, or the voxel lies apart from the area, its boxes decide
-    pub may-be : may ≡ true → free area p (blockOf boxes (Known may support first many) p) ≡ not (runHits area p (drop (48 * first) boxes) many 0)
-    unfolding free blockOf hits
-    may-be e = rw e
+    -- where the voxel meets the area and a body may not be in the cell
+    pub may-not : (met && not may) ≡ true → free area p (blockOf boxes (Known may support first many) p) ≡ false
+    unfolding free blockOf
+    may-not t = rw e (barred may met _ t)
 
-    pub may-not : may ≡ false → meets (voxel p) area ≡ true → free area p (blockOf boxes (Known may support first many) p) ≡ false
-    unfolding free blockOf hits
-    may-not e m = rw (e, m)
-
-    pub apart : may ≡ false → meets (voxel p) area ≡ false →
+    -- else its boxes decide
+    pub may-be : (met && not may) ≡ false →
         free area p (blockOf boxes (Known may support first many) p) ≡ not (runHits area p (drop (48 * first) boxes) many 0)
-    unfolding free blockOf hits
-    apart e m = rw (e, m)
+    unfolding free blockOf
+    may-be t = rw e (passed may met _ t)
 
 -- ---- a loop over cells
 

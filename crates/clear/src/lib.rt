@@ -67,22 +67,14 @@ fn cell_free(
     let p = points::corner_of(x, y, z);
     let meets = boxes::intersects(boxes::voxel_at(p), area);
     match world::cell_at(w, cells, perms, shapes, x, y, z) {
-        Cell::Unknown => {
-            if meets {
-                return false;
-            }
-            !boxes::intersects(boxes::offset(boxes::unit(), p), area)
-        }
+        Cell::Unknown => !(meets | boxes::intersects(boxes::offset(boxes::unit(), p), area)),
         Cell::Known {
             occupied,
             support: _,
             first,
             count,
         } => {
-            if occupied {
-                return !table_hits(boxes, first, count, p, area);
-            }
-            if meets {
+            if meets & !occupied {
                 return false;
             }
             !table_hits(boxes, first, count, p, area)

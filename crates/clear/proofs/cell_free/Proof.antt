@@ -7,7 +7,7 @@ use mir.Val.{SFits}
 use mir.Facts.{toZ-ofZ}
 use Rattle.world.specs.Boxes.{corner, meets, moved, cube, voxel}
 use Rattle.world.specs.Space.{cellAt, space}
-use Rattle.clear.specs.Laws.{unknown-met, unknown-apart, may-be, may-not, apart}
+use Rattle.clear.specs.Laws.{unknown, may-not, may-be}
 use borrow.Author.Needs.{needs}
 use Rattle.clear.proofs.cell_free.Statement.{statement}
 use Rattle.clear.proofs.cell_free.Tie as tie
@@ -46,10 +46,6 @@ cell-at-requires c κs = tt
 enum-told : tie.Need-enum-told
 enum-told c = search needs
 
-returns : tie.Need-returns
-unfolding space
-returns c = rw (cell (c .before .before .before) ∙ c .before .enum-told .given .1) (sym (unknown-met _ _ _ (met (c .before .before .before .before) ∙ c .if1 .taken)))
-
 unit-requires : tie.Need-unit-requires
 unit-requires c κs = tt
 
@@ -62,28 +58,22 @@ intersects-requires-2 c κs = tt
 enum-known-occupied : tie.Need-enum-known-occupied
 enum-known-occupied c = search needs
 
+returns : tie.Need-returns
+unfolding space
+returns c = rw (cell (c .before .before .before .before) ∙ c .before .before .occupied .given .1) (sym (may-not _ _ _ (met (c .before .before .before .before .before)) _ _ _ _ (c .if1 .taken)))
+
 table-hits-requires : tie.Need-table-hits-requires
 table-hits-requires c κs = tt
 
 returns-2 : tie.Need-returns-2
 unfolding space
-returns-2 c = rw (cell (c .before .before .before .before .before) ∙ c .before .before .before .occupied .given .1) (ap not (rw (point (c .before .before .before .before .before .before .before .before)) at (c .table-hits .ensures)) ∙ sym (may-be _ _ _ _ _ _ _ (c .before .if2 .taken)))
+returns-2 c = rw (cell (c .before .before .before .before .before) ∙ c .before .before .before .enum-told .given .1)
+    (unknown _ _ _ (met (c .before .before .before .before .before .before)) (sym (rw (c .before .offset .ensures, c .before .before .unit .ensures, point (c .before .before .before .before .before .before .before .before)) at (c .intersects2 .ensures))))
 
 returns-3 : tie.Need-returns-3
 unfolding space
-returns-3 c = rw (cell (c .before .before .before .before .before) ∙ c .before .before .before .occupied .given .1) (sym (may-not _ _ _ _ _ _ _ (c .before .if2 .left) (met (c .before .before .before .before .before .before) ∙ c .if3 .taken)))
-
-table-hits-requires-2 : tie.Need-table-hits-requires-2
-table-hits-requires-2 c κs = tt
-
-returns-4 : tie.Need-returns-4
-unfolding space
-returns-4 c = rw (cell (c .before .before .before .before .before .before) ∙ c .before .before .before .before .enum-told .given .1)
-    (ap not (rw (c .before .offset .ensures, c .before .before .unit .ensures, point (c .before .before .before .before .before .before .before .before .before)) at (c .intersects2 .ensures)) ∙ sym (unknown-apart _ _ _ (met (c .before .before .before .before .before .before .before) ∙ c .before .before .before .if1 .left)))
-
-returns-5 : tie.Need-returns-5
-unfolding space
-returns-5 c = rw (cell (c .before .before .before .before .before .before) ∙ c .before .before .before .before .occupied .given .1) (ap not (rw (point (c .before .before .before .before .before .before .before .before .before)) at (c .table-hits2 .ensures)) ∙ sym (apart _ _ _ _ _ _ _ (c .before .before .if2 .left) (met (c .before .before .before .before .before .before .before) ∙ c .before .if3 .left)))
+returns-3 c = rw (cell (c .before .before .before .before .before) ∙ c .before .before .before .occupied .given .1)
+    (ap not (rw (point (c .before .before .before .before .before .before .before .before)) at (c .table-hits .ensures)) ∙ sym (may-be _ _ _ (met (c .before .before .before .before .before .before)) _ _ _ _ (c .before .if1 .left)))
 
 pub cell-free-spec : {M : Type 1} → statement M
 cell-free-spec =
@@ -94,14 +84,11 @@ cell-free-spec =
     intersects-requires
     cell-at-requires
     enum-told
-    returns
     unit-requires
     offset-requires
     intersects-requires-2
     enum-known-occupied
+    returns
     table-hits-requires
     returns-2
-    returns-3
-    table-hits-requires-2
-    returns-4
-    returns-5)
+    returns-3)
