@@ -97,16 +97,16 @@ fn walked_number(a: Walked) -> u64 {
     }
 }
 
-fn walked(
-    s: Scene,
-    cells: &[u8],
-    perms: &[u8],
-    shapes: &[u8],
-    boxes: &[u8],
-    list: &[u8],
-) -> u64 {
+fn walked(s: Scene, cells: &[u8], perms: &[u8], shapes: &[u8], boxes: &[u8], list: &[u8]) -> u64 {
     walked_number(walk_back::walk_back(
-        s.window, cells, perms, shapes, boxes, s.request, s.body, list,
+        s.window,
+        cells,
+        perms,
+        shapes,
+        boxes,
+        s.request,
+        s.body,
+        list,
     ))
 }
 
@@ -166,8 +166,7 @@ fn asked(records: &[u8], pool: &[u8], q: Question, d: u64) -> u64 {
     let mut perms = [0u8; 256];
     let mut shapes = [0u8; 2048];
     let mut boxes = [0u8; 12288];
-    let answer =
-        read_scene::read_scene(records, &mut cells, &mut perms, &mut shapes, &mut boxes);
+    let answer = read_scene::read_scene(records, &mut cells, &mut perms, &mut shapes, &mut boxes);
     over(answer, &cells, &perms, &shapes, &boxes, pool, q, d)
 }
 
