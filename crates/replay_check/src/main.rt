@@ -22,7 +22,7 @@ fn questions(records: &[u8], pool: &mut [u8], count: u32) -> u64 {
     d
 }
 
-// The next scene: its records, the bytes that its questions name, and its questions. It has a line.
+// The next scene, and its line: its records, the bytes that its questions name by their place, its questions.
 fn case() {
     let mut scene = [0u8; 4096];
     let mut pool = [0u8; 8192];
