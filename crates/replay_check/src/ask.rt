@@ -97,20 +97,21 @@ fn walked_number(a: Walked) -> u64 {
     }
 }
 
-fn walked(
-    s: Scene,
-    cells: &[u8],
-    perms: &[u8],
-    shapes: &[u8],
-    boxes: &[u8],
-    list: &[u8],
-) -> u64 {
+// The walk-back of a list.
+fn walked(s: Scene, cells: &[u8], perms: &[u8], shapes: &[u8], boxes: &[u8], list: &[u8]) -> u64 {
     walked_number(walk_back::walk_back(
-        s.window, cells, perms, shapes, boxes, s.request, s.body, list,
+        s.window,
+        cells,
+        perms,
+        shapes,
+        boxes,
+        s.request,
+        s.body,
+        list,
     ))
 }
 
-// A question's answer over the tables that a scene made, added to a digest.
+// A question's answer, added to a digest.
 fn answered(
     s: Scene,
     cells: &[u8],
@@ -133,7 +134,7 @@ fn answered(
     about(s, cells, perms, shapes, boxes, q.kind, a, b, d)
 }
 
-// The same over the whole tables. A scene that could not be read answers nothing.
+// The same over the part of each table that the scene made. A scene that could not be read answers nothing.
 fn over(
     answer: SceneAnswer,
     cells: &[u8],
@@ -160,14 +161,13 @@ fn over(
     )
 }
 
-// The same of the scene in these records.
+// The same of the scene in these records, which is read anew for each question.
 fn asked(records: &[u8], pool: &[u8], q: Question, d: u64) -> u64 {
     let mut cells = [0u8; 32768];
     let mut perms = [0u8; 256];
     let mut shapes = [0u8; 2048];
     let mut boxes = [0u8; 12288];
-    let answer =
-        read_scene::read_scene(records, &mut cells, &mut perms, &mut shapes, &mut boxes);
+    let answer = read_scene::read_scene(records, &mut cells, &mut perms, &mut shapes, &mut boxes);
     over(answer, &cells, &perms, &shapes, &boxes, pool, q, d)
 }
 

@@ -28,7 +28,17 @@ fn next_height(
 ) -> Height {
     let band = steps::band_of(s.request, s.body, from);
     let at = steps::column_centre(from, n);
-    heights::next_height(s.window, cells, perms, shapes, boxes, band, at.x, at.z, last)
+    heights::next_height(
+        s.window,
+        cells,
+        perms,
+        shapes,
+        boxes,
+        band,
+        at.x,
+        at.z,
+        last,
+    )
 }
 
 // The edge to a height of column n.
@@ -48,7 +58,17 @@ fn edge_to(
         y,
         z: at.z,
     };
-    edges::edge(s.window, cells, perms, shapes, boxes, s.request, s.body, from, to)
+    edges::edge(
+        s.window,
+        cells,
+        perms,
+        shapes,
+        boxes,
+        s.request,
+        s.body,
+        from,
+        to,
+    )
 }
 
 // One more height, and the answer of the edge to it.

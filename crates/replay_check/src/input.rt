@@ -23,6 +23,7 @@ fn record(at: usize, into: &mut [u8]) {
     }
 }
 
+// The next records of a scene, 64 bytes each.
 pub(crate) fn records(count: u32, into: &mut [u8]) {
     for k in 0..count {
         record(64 * (k as usize), into);

@@ -5,6 +5,13 @@ use crate::input;
 use scene::Scene;
 use outcomes::Answer;
 
+// The sizes of a search's rooms.
+struct Rooms {
+    nodes: usize,
+    front: usize,
+    out: usize,
+}
+
 // The byte that place i of a room has before a call.
 fn mark(i: usize) -> u8 {
     (i % 251) as u8
@@ -15,6 +22,17 @@ fn fill(room: &mut [u8]) {
     while i < room.len() {
         room[i] = mark(i);
         i += 1;
+    }
+}
+
+// The bytes that a budget asks for in each room, and so many more.
+fn rooms_of(budget: u64, more: u32) -> Rooms {
+    let n = (budget % 4097) as usize;
+    let extra = more as usize;
+    Rooms {
+        nodes: 56 * n + extra,
+        front: 24 * n + extra,
+        out: 40 * (n + 1) + extra,
     }
 }
 
@@ -52,7 +70,16 @@ fn searched(
     d: u64,
 ) -> u64 {
     let a = search::find_walk_path(
-        s.window, cells, perms, shapes, boxes, s.request, s.body, nodes, front, out,
+        s.window,
+        cells,
+        perms,
+        shapes,
+        boxes,
+        s.request,
+        s.body,
+        nodes,
+        front,
+        out,
     );
     left(d, a, nodes, front, out)
 }
@@ -74,11 +101,10 @@ pub(crate) fn tried(
     fill(&mut nodes);
     fill(&mut front);
     fill(&mut out);
-    let budget = (s.request.node_budget % 4097) as usize;
-    let extra = more as usize;
-    let n = size(56 * budget + extra, short == 1, 28800);
-    let f = size(24 * budget + extra, short == 2, 12400);
-    let o = size(40 * (budget + 1) + extra, short == 3, 20600);
+    let r = rooms_of(s.request.node_budget, more);
+    let n = size(r.nodes, short == 1, 28800);
+    let f = size(r.front, short == 2, 12400);
+    let o = size(r.out, short == 3, 20600);
     let c = size(cells.len(), short == 4, cells.len());
     searched(
         s,

@@ -36,7 +36,10 @@ fn found(kind: &str) -> Option<(u64, Vec<u8>, Answer)> {
 /// The found list; then lists that differ from it in one thing.
 pub fn lists(scene: &Scene, answer: &Answer) -> Vec<Vec<u8>> {
     let list: Vec<u8> = answer.list.iter().flat_map(|p| p.bytes()).collect();
-    let mut out = vec![list.clone(), Vec::new(), list[..list.len() - 1].to_vec()];
+    // Empty, a byte too short, a word too long.
+    let less = list[..list.len() - 1].to_vec();
+    let more = [&list[..], &[0; 8]].concat();
+    let mut out = vec![list.clone(), Vec::new(), less, more];
     for begin in (0..list.len()).step_by(40) {
         let end = begin + 40;
         // Without this record, and with it twice.

@@ -24,32 +24,14 @@ slice-aggregate-fill-3 c = search needs
 fill-requires-3 : tie.Need-fill-requires-3
 fill-requires-3 c κs = search needs
 
-mul-size : tie.Need-mul-size
-mul-size c = search needs
-
-add-size : tie.Need-add-size
-add-size c = search needs
+rooms-of-requires : tie.Need-rooms-of-requires
+rooms-of-requires c κs = search needs
 
 size-requires : tie.Need-size-requires
 size-requires c κs = search needs
 
-mul-size-2 : tie.Need-mul-size-2
-mul-size-2 c = search needs
-
-add-size-2 : tie.Need-add-size-2
-add-size-2 c = search needs
-
 size-requires-2 : tie.Need-size-requires-2
 size-requires-2 c κs = search needs
-
-add-size-3 : tie.Need-add-size-3
-add-size-3 c = search needs
-
-mul-size-3 : tie.Need-mul-size-3
-mul-size-3 c = search needs
-
-add-size-4 : tie.Need-add-size-4
-add-size-4 c = search needs
 
 size-requires-3 : tie.Need-size-requires-3
 size-requires-3 c κs = search needs
@@ -94,15 +76,9 @@ tried-spec =
     fill-requires-2
     slice-aggregate-fill-3
     fill-requires-3
-    mul-size
-    add-size
+    rooms-of-requires
     size-requires
-    mul-size-2
-    add-size-2
     size-requires-2
-    add-size-3
-    mul-size-3
-    add-size-4
     size-requires-3
     size-requires-4
     part-requires
