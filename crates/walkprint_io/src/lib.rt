@@ -90,26 +90,30 @@ fn write_lines(told: Told, list: &[u8], n: usize) {
     }
 }
 
-// Reads a scene of at most so many bytes and prints it. The rooms are those of the largest scene: 4,096 cells, 256 states, shapes and boxes, and a
-// budget of 512.
-pub fn print_scene(bytes: usize) {
-    let mut cells = [0u8; 32768];
-    let mut perms = [0u8; 256];
-    let mut shapes = [0u8; 2048];
-    let mut boxes = [0u8; 12288];
+// Searches the scene that was read, or not, and prints what there is to tell. The rooms are those of a budget of 512.
+fn print_told(progress: Progress, cells: &[u8], perms: &[u8], shapes: &[u8], boxes: &[u8]) {
     let mut nodes = [0u8; 28672];
     let mut front = [0u8; 12288];
     let mut out = [0u8; 20520];
-    let progress = read_scene(bytes, &mut cells, &mut perms, &mut shapes, &mut boxes);
     let told = print::tell(
         progress,
-        &cells,
-        &perms,
-        &shapes,
-        &boxes,
+        cells,
+        perms,
+        shapes,
+        boxes,
         &mut nodes,
         &mut front,
         &mut out,
     );
     write_lines(told, &out, told.waypoints);
+}
+
+// Reads a scene of at most so many bytes and prints it. The tables are those of the largest scene: 4,096 cells, 256 states, shapes and boxes.
+pub fn print_scene(bytes: usize) {
+    let mut cells = [0u8; 32768];
+    let mut perms = [0u8; 256];
+    let mut shapes = [0u8; 2048];
+    let mut boxes = [0u8; 12288];
+    let progress = read_scene(bytes, &mut cells, &mut perms, &mut shapes, &mut boxes);
+    print_told(progress, &cells, &perms, &shapes, &boxes);
 }
