@@ -2,8 +2,8 @@
 // byte slices, and include/walkprint.h says how C sees them. A slice is a pointer and a length.
 //
 // Each file has one call, `roots` two. `c_records` reads what a caller hands over; `c_answers` and `c_scene` write what it gets back.
+pub mod apex;
 pub mod edge;
-pub mod jump;
 pub mod mob;
 pub mod path;
 pub mod roots;

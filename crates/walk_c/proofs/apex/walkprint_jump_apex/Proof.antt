@@ -1,4 +1,4 @@
--- `walk_c::jump::walkprint_jump_apex` meets its contract. Assumes nothing.
+-- `walk_c::apex::walkprint_jump_apex` meets its contract. Assumes nothing.
 use mathlib.Core.Path.{_≡_, sym, ap, _∙_}
 use mathlib.Core.List.{List}
 use Prim.Native.Nat.{ℕ}
@@ -7,8 +7,8 @@ use denote.Ref.{now}
 use Rattle.jump.specs.Answers.{apexAnswer}
 use Rattle.walk_c.specs.Answers.{firstWritten}
 use borrow.Author.Needs.{needs}
-use Rattle.walk_c.proofs.jump.walkprint_jump_apex.Statement.{statement}
-use Rattle.walk_c.proofs.jump.walkprint_jump_apex.Tie as tie
+use Rattle.walk_c.proofs.apex.walkprint_jump_apex.Statement.{statement}
+use Rattle.walk_c.proofs.apex.walkprint_jump_apex.Tie as tie
 
 jump-apex-requires : tie.Need-jump-apex-requires
 jump-apex-requires c κs = search needs
