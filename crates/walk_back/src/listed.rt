@@ -7,9 +7,9 @@ ghost use Rattle.rooms.specs.Waypoints.{samePoint, alike, standing};
 ghost use Rattle.words.specs.Words.{pointOf, feetOf, labelOf};
 ghost use Rattle.walk_back.specs.Listed.{listedAt, feet, label};
 ghost use Rattle.walk_back.specs.Laws.{leadsTo};
+use equal_points::same_word;
 use moves::Waypoint;
 use rooms::Feet;
-use equal_points::same_word;
 use world::Point;
 
 // A waypoint record as its words: the patterns of the feet and of the lift, and the movement's number.

@@ -5,37 +5,22 @@ use rooms::Feet;
 use rooms::Label;
 use rooms::NodeRecord;
 ghost use mathlib.Core.Path.{_≡_};
-ghost use Prim.Native.Nat.{_^_, _≤_, _<_};
+ghost use Prim.Native.Nat.{_≤_};
 ghost use lib.ListN.{length, replicate};
-ghost use Rattle.fields.specs.Little.{withField};
 ghost use Rattle.fields.specs.Records.{withRecord, Fill};
 ghost use Rattle.rooms.specs.Records.{waypointLayout, waypointWords, withWaypoint};
 ghost use Rattle.rooms.specs.Laws.Writes.{PutNode, PutEntry};
 
-// A word written, and that it is one.
-fn put_word(room: &mut [u8], at: usize, v: u64)
-    ensures { λ _. ⌜ (now (room .exit) ≡ withField 8 (now (room .entry)) at v) × (v < 256 ^ 8) ⌝ }
-{
-    stores::put_u64(room, at, v);
-}
-
-// Half a word written, and that it is one.
-fn put_half(room: &mut [u8], at: usize, v: u32)
-    ensures { λ _. ⌜ (now (room .exit) ≡ withField 4 (now (room .entry)) at v) × (v < 256 ^ 4) ⌝ }
-{
-    stores::put_u32(room, at, v);
-}
-
-// A waypoint record written at an offset.
+// A waypoint record written at an offset, and that its words are words.
 fn put_point(room: &mut [u8], at: usize, feet: Feet, label: Label)
     requires { ⌜ at ≤ length (now room) ⌝ }
     ensures { λ _. ⌜ (now (room .exit) ≡ withRecord waypointLayout (now (room .entry)) at (waypointWords feet label)) × Fill waypointLayout (waypointWords feet label) ⌝ }
 {
-    put_word(room, at, feet.x);
-    put_word(room, at + 8, feet.y);
-    put_word(room, at + 16, feet.z);
-    put_word(room, at + 24, label.lift);
-    put_word(room, at + 32, label.movement);
+    stores::put_u64(room, at, feet.x);
+    stores::put_u64(room, at + 8, feet.y);
+    stores::put_u64(room, at + 16, feet.z);
+    stores::put_u64(room, at + 24, label.lift);
+    stores::put_u64(room, at + 32, label.movement);
 }
 
 // Waypoint k of a list written.
@@ -57,9 +42,9 @@ pub fn put_node(nodes: &mut [u8], k: usize, r: NodeRecord)
     }
     let at = 56 * k;
     put_point(nodes, at, r.feet, r.label);
-    put_word(nodes, at + 40, r.cost);
-    put_half(nodes, at + 48, r.parent);
-    put_half(nodes, at + 52, r.closed);
+    stores::put_u64(nodes, at + 40, r.cost);
+    stores::put_u32(nodes, at + 48, r.parent);
+    stores::put_u32(nodes, at + 52, r.closed);
 }
 
 // The frontier record of node k written.
@@ -70,9 +55,9 @@ pub fn put_entry(front: &mut [u8], k: usize, e: Entry)
         return;
     }
     let at = 24 * k;
-    put_word(front, at, e.estimate);
-    put_word(front, at + 8, e.order);
-    put_word(front, at + 16, e.waiting);
+    stores::put_u64(front, at, e.estimate);
+    stores::put_u64(front, at + 8, e.order);
+    stores::put_u64(front, at + 16, e.waiting);
 }
 
 // A room all zero.

@@ -21,31 +21,33 @@ fits s j l = omega arith
 mul-at : tie.Need-mul-at
 mul-at c = omega arith
 
-put-word-requires : tie.Need-put-word-requires
-put-word-requires c κs = tt
+put-u64-requires : tie.Need-put-u64-requires
+put-u64-requires c κs = tt
 
-add-put-word : tie.Need-add-put-word
-add-put-word c = fits (c .before .before .before .before .before) 8 (lit≤ tt)
+add-put-u64 : tie.Need-add-put-u64
+add-put-u64 c = fits (c .before .before .before .before .before) 8 (lit≤ tt)
 
-put-word-requires-2 : tie.Need-put-word-requires-2
-put-word-requires-2 c κs = tt
+put-u64-requires-2 : tie.Need-put-u64-requires-2
+put-u64-requires-2 c κs = tt
 
-add-put-word-2 : tie.Need-add-put-word-2
-add-put-word-2 c = fits (c .before .before .before .before .before .before .before .before .before) 16 (lit≤ tt)
+add-put-u64-2 : tie.Need-add-put-u64-2
+add-put-u64-2 c = fits (c .before .before .before .before .before .before .before .before .before) 16 (lit≤ tt)
 
-put-word-requires-3 : tie.Need-put-word-requires-3
-put-word-requires-3 c κs = tt
+put-u64-requires-3 : tie.Need-put-u64-requires-3
+put-u64-requires-3 c κs = tt
 
 same-length : tie.Need-same-length
-same-length c = c .before .before .put-word3 .kept .0 ∙ c .before .before .before .before .before .before .put-word2 .kept .0 ∙ c .before .before .before .before .before .before .before .before .before .before .put-word .kept .0
+same-length c = c .before .before .put-u643 .kept .0 ∙ c .before .before .before .before .before .before .put-u642 .kept .0 ∙ c .before .before .before .before .before .before .before .before .before .before .put-u64 .kept .0
 
+-- `g`: each field of what is written is in its range
 returns-2 : tie.Need-returns-2
 returns-2 c =
     let a = c .before .before .before .before .before .before .before .before .before .before .before .before .before .before .args in
-    let e₁ = c .before .before .before .before .before .before .before .before .before .before .put-word .ensures in
-    let e₂ = c .before .before .before .before .before .before .put-word2 .ensures in
-    let e₃ = c .before .before .put-word3 .ensures in
-    put-entry (now (a .front)) (a .k) (a .e) (e₁ .1, (e₂ .1, (e₃ .1, tt))) (entry-put (now (a .front)) (a .k) (a .e) (e₁ .0) (e₂ .0) (e₃ .0))
+    let g = c .before .before .before .before .before .before .before .before .before .before .before .before .before .before .good .1 .1 .0 .1 .1 in
+    let e₁ = c .before .before .before .before .before .before .before .before .before .before .put-u64 .ensures in
+    let e₂ = c .before .before .before .before .before .before .put-u642 .ensures in
+    let e₃ = c .before .before .put-u643 .ensures in
+    put-entry (now (a .front)) (a .k) (a .e) (g .0 .1, (g .1 .0 .1, (g .1 .1 .0 .1, tt))) (entry-put (now (a .front)) (a .k) (a .e) e₁ e₂ e₃)
 
 pub put-entry-spec : {M : Type 1} → statement M
 put-entry-spec =
@@ -53,10 +55,10 @@ put-entry-spec =
     (tie.spec
     returns
     mul-at
-    put-word-requires
-    add-put-word
-    put-word-requires-2
-    add-put-word-2
-    put-word-requires-3
+    put-u64-requires
+    add-put-u64
+    put-u64-requires-2
+    add-put-u64-2
+    put-u64-requires-3
     same-length
     returns-2)

@@ -28,36 +28,38 @@ mul-at c = omega arith
 put-point-requires : tie.Need-put-point-requires
 put-point-requires c κs = inside (c .before)
 
-add-put-word : tie.Need-add-put-word
-add-put-word c = fits (c .before .before .before .before .before) 40 (lit≤ tt)
+add-put-u64 : tie.Need-add-put-u64
+add-put-u64 c = fits (c .before .before .before .before .before) 40 (lit≤ tt)
 
-put-word-requires : tie.Need-put-word-requires
-put-word-requires c κs = tt
+put-u64-requires : tie.Need-put-u64-requires
+put-u64-requires c κs = tt
 
-add-put-half : tie.Need-add-put-half
-add-put-half c = fits (c .before .before .before .before .before .before .before .before .before) 48 (lit≤ tt)
+add-put-u32 : tie.Need-add-put-u32
+add-put-u32 c = fits (c .before .before .before .before .before .before .before .before .before) 48 (lit≤ tt)
 
-put-half-requires : tie.Need-put-half-requires
-put-half-requires c κs = tt
+put-u32-requires : tie.Need-put-u32-requires
+put-u32-requires c κs = tt
 
-add-put-half-2 : tie.Need-add-put-half-2
-add-put-half-2 c = fits (c .before .before .before .before .before .before .before .before .before .before .before .before .before) 52 (lit≤ tt)
+add-put-u32-2 : tie.Need-add-put-u32-2
+add-put-u32-2 c = fits (c .before .before .before .before .before .before .before .before .before .before .before .before .before) 52 (lit≤ tt)
 
-put-half-requires-2 : tie.Need-put-half-requires-2
-put-half-requires-2 c κs = tt
+put-u32-requires-2 : tie.Need-put-u32-requires-2
+put-u32-requires-2 c κs = tt
 
 same-length : tie.Need-same-length
-same-length c = c .before .before .put-half2 .kept .0 ∙ c .before .before .before .before .before .before .put-half .kept .0 ∙ c .before .before .before .before .before .before .before .before .before .before .put-word .kept .0 ∙ c .before .before .before .before .before .before .before .before .before .before .before .before .before .before .put-point .kept .0
+same-length c = c .before .before .put-u322 .kept .0 ∙ c .before .before .before .before .before .before .put-u32 .kept .0 ∙ c .before .before .before .before .before .before .before .before .before .before .put-u64 .kept .0 ∙ c .before .before .before .before .before .before .before .before .before .before .before .before .before .before .put-point .kept .0
 
+-- `g`: each field of what is written is in its range
 returns-2 : tie.Need-returns-2
 returns-2 c =
     let a = c .before .before .before .before .before .before .before .before .before .before .before .before .before .before .before .before .before .before .args in
     let e₁ = c .before .before .before .before .before .before .before .before .before .before .before .before .before .before .put-point .ensures in
-    let e₂ = c .before .before .before .before .before .before .before .before .before .before .put-word .ensures in
-    let e₃ = c .before .before .before .before .before .before .put-half .ensures in
-    let e₄ = c .before .before .put-half2 .ensures in
+    let e₂ = c .before .before .before .before .before .before .before .before .before .before .put-u64 .ensures in
+    let e₃ = c .before .before .before .before .before .before .put-u32 .ensures in
+    let e₄ = c .before .before .put-u322 .ensures in
     let w = e₁ .1 in
-    put-node (now (a .nodes)) (a .k) (a .r) (w .0, (w .1 .0, (w .1 .1 .0, (w .1 .1 .1 .0, (w .1 .1 .1 .1 .0, (e₂ .1, (e₃ .1, (e₄ .1, tt)))))))) (node-put (now (a .nodes)) (a .k) (a .r) (e₁ .0) (e₂ .0) (e₃ .0) (e₄ .0))
+    let g = c .before .before .before .before .before .before .before .before .before .before .before .before .before .before .before .before .before .before .good .1 .1 .0 .1 .1 .1 .1 in
+    put-node (now (a .nodes)) (a .k) (a .r) (w .0, (w .1 .0, (w .1 .1 .0, (w .1 .1 .1 .0, (w .1 .1 .1 .1 .0, (g .0 .1, (g .1 .0 .1, (g .1 .1 .0 .1, tt)))))))) (node-put (now (a .nodes)) (a .k) (a .r) (e₁ .0) e₂ e₃ e₄)
 
 pub put-node-spec : {M : Type 1} → statement M
 put-node-spec =
@@ -66,11 +68,11 @@ put-node-spec =
     returns
     mul-at
     put-point-requires
-    add-put-word
-    put-word-requires
-    add-put-half
-    put-half-requires
-    add-put-half-2
-    put-half-requires-2
+    add-put-u64
+    put-u64-requires
+    add-put-u32
+    put-u32-requires
+    add-put-u32-2
+    put-u32-requires-2
     same-length
     returns-2)
