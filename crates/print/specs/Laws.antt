@@ -1,21 +1,4 @@
 -- What each path of the code comes to, in the words of the definitions.
-use Prim.Native.Nat.{ℕ, zero, suc, _-_, _<_, _≤_}
-use native.Mathlib.Omega.{arith}
-use mathlib.Core.Path.{_≡_, refl, sym, ap, _∙_}
-use mathlib.Core.Bool.{Bool, true, false, cond}
-use mathlib.Core.List.{List, [], _++_}
-use lib.Dec.{ltb}
-use lib.ListN.{length, drop, length-append}
-use borrow.Author.Tests.{lt-ltb, le-ltb}
-use Rattle.scene_state.specs.declared.state.Reading.{Reading}
-use Rattle.scene_state.specs.declared.state.Ended.{Ended}
-use Rattle.scene_state.specs.declared.state.Scene.{Scene}
-use Rattle.scene_state.specs.Answers.{Answer, refused, endedAnswer, ended}
-use Rattle.report.specs.Lines.{waypointLine, inBuffer, countIn}
-use Rattle.print.specs.declared.types.Progress.{Progress}
-use Rattle.print.specs.declared.types.Progress.the-variants.{Going, Refused}
-use Rattle.print.specs.declared.types.Told.{Told}
-use Rattle.print.specs.Print.{sceneOf, lineOf}
 use Prim.Native.Nat.{ℕ}
 use mathlib.Core.Path.{_≡_, sym, _∙_}
 use Rattle.scene_state.specs.declared.state.Reading.{Reading}
