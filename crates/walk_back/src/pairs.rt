@@ -76,17 +76,7 @@ fn look_column(
     let mut noted = false;
     let mut after = Height::None;
     loop {
-        let Height::At(y) = heights::next_height(
-            w,
-            cells,
-            perms,
-            shapes,
-            boxes,
-            band,
-            centre.x,
-            centre.z,
-            after,
-        ) else {
+        let Height::At(y) = heights::next_height(w, cells, perms, shapes, boxes, band, centre.x, centre.z, after) else {
             return Looked::Passed(noted);
         };
         let to = Point {
@@ -94,19 +84,7 @@ fn look_column(
             y,
             z: centre.z,
         };
-        let Looked::Passed(level) = look(
-            w,
-            cells,
-            perms,
-            shapes,
-            boxes,
-            r,
-            body,
-            from,
-            to,
-            v,
-            noted,
-        ) else {
+        let Looked::Passed(level) = look(w, cells, perms, shapes, boxes, r, body, from, to, v, noted) else {
             return Looked::Met;
         };
         noted = level;
