@@ -3,10 +3,10 @@
 pub(crate) mod made;
 
 ghost use mathlib.Core.Path.{_≡_};
-ghost use Rattle.read_scene.specs.Whole.{sceneAnswer};
+ghost use Rattle.scene_state.specs.Answers.{sceneAnswer};
 ghost use Rattle.c_scene.specs.Scenes.{sceneNumber, sceneWritten};
 use crate::made::put_scene;
-use read_scene::SceneAnswer;
+use scene_state::SceneAnswer;
 
 // 0, and the scene's record, where it fits; 7 BadScene, and the bad record's number in the first 8 bytes; or 5 NoRoom, and nothing is written.
 pub fn put_answer(a: SceneAnswer, made: &mut [u8]) -> u64

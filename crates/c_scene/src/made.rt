@@ -2,8 +2,8 @@
 ghost use mathlib.Core.Path.{_≡_};
 ghost use Prim.Native.Nat.{_^_, _<_};
 ghost use Rattle.c_scene.specs.Scenes.{withPoint, withRequest, withBody, withWindow, withInUse, withScene};
-use scene::InUse;
-use scene::Scene;
+use scene_state::InUse;
+use scene_state::Scene;
 use world::Body;
 use world::Point;
 use world::Request;

@@ -2,11 +2,7 @@
 use Prim.Native.Nat.{ℕ, zero, suc, _+_, _*_, _/_}
 use mathlib.Core.List.{List, [], _∷_}
 use lib.ListN.{length, take, drop}
-use Rattle.scene_state.specs.declared.state.Scene.{Scene}
-use Rattle.scene_state.specs.Answers.{Answer, given, refused}
 use Rattle.scene.specs.Scene.{Read, readAll}
-use Rattle.read_scene.specs.declared.answer.SceneAnswer.{SceneAnswer}
-use Rattle.read_scene.specs.declared.answer.SceneAnswer.the-variants.{Whole, BadScene, NoRoom}
 
 -- "Scene records are 64 bytes, no header": how many so many bytes are, a last partial one counted
 abbrev pub recordCount : ℕ → ℕ
@@ -23,12 +19,6 @@ recordsFrom s k (suc n) = recordAt s k ∷ recordsFrom s (k + 1) n
 
 unfoldable pub records : List ℕ → List (List ℕ)
 records s = recordsFrom s 0 (recordCount (length s))
-
--- 01's number and record for each case: 0 and the scene, 7 BadScene, 5 NoRoom
-abbrev pub sceneAnswer : SceneAnswer → Answer Scene
-sceneAnswer (Whole x) = given x
-sceneAnswer (BadScene k) = refused 7 k
-sceneAnswer NoRoom = refused 5 0
 
 -- what reading these bytes into these tables answers, and what it leaves in them: "after 7 the scene's tables hold what the records before it made, else old
 -- bytes"

@@ -1,19 +1,18 @@
 // A whole scene in one slice (01, "Scenes and walkprint"): its 64-byte records are handed to the reader of `scene` one after another. A last partial one is
 // handed on as it is, and is bad at its own number.
-pub mod answer;
 
 ghost use mathlib.Core.Path.{_≡_};
 ghost use Prim.Native.Nat.{_<_};
 ghost use lib.ListN.{length};
-ghost use Rattle.scene_state.specs.Answers.{endedAnswer};
+ghost use Rattle.scene_state.specs.Answers.{endedAnswer, sceneAnswer};
 ghost use Rattle.scene.specs.Scene.{readFrom};
-ghost use Rattle.read_scene.specs.Whole.{recordCount, recordAt, records, sceneAnswer, read};
+ghost use Rattle.read_scene.specs.Whole.{recordCount, recordAt, records, read};
 ghost use Rattle.read_scene.specs.Laws.{tablesOf};
-pub use answer::SceneAnswer;
 use scene::Begun;
 use scene::Ended;
 use scene::Reading;
 use scene::Step;
+use scene_state::SceneAnswer;
 
 // How many records so many bytes are, a last partial one counted.
 fn record_count(len: usize) -> usize

@@ -6,7 +6,7 @@ mod input;
 
 use input::Case;
 use libc::STDOUT_FILENO;
-use read_scene::SceneAnswer;
+use scene_state::SceneAnswer;
 
 // 01's number and record, and the digest so far.
 struct Line {
@@ -76,6 +76,13 @@ fn main() {
     let mut case = input::no_case();
     let count = input::word();
     for _ in 0..count {
-        case = one(case, &mut scene, &mut cells, &mut perms, &mut shapes, &mut boxes);
+        case = one(
+            case,
+            &mut scene,
+            &mut cells,
+            &mut perms,
+            &mut shapes,
+            &mut boxes,
+        );
     }
 }

@@ -12,6 +12,8 @@ use Rattle.scene_state.specs.declared.state.Step.{Step}
 use Rattle.scene_state.specs.declared.state.Step.the-variants as steps
 use Rattle.scene_state.specs.declared.state.Ended.{Ended}
 use Rattle.scene_state.specs.declared.state.Ended.the-variants as ends
+use Rattle.scene_state.specs.declared.state.SceneAnswer.{SceneAnswer}
+use Rattle.scene_state.specs.declared.state.SceneAnswer.the-variants as scenes
 use Rattle.scene_state.specs.State.{empty, inUse}
 
 -- no refusal and its value, or a refusal's number and record: 0 unless 7
@@ -46,3 +48,10 @@ unfoldable pub ended : Reading → Answer Scene
 ended r =
     cond (ltb (r .kind) 3) (refused 7 (r .number))
     (given (record { request = r .request; body = r .body; window = r .window; «in_use» = inUse (r .counts) }))
+
+-- ---- of a whole scene: 0 and the scene, 7 BadScene, 5 NoRoom
+
+abbrev pub sceneAnswer : SceneAnswer → Answer Scene
+sceneAnswer (scenes.Whole x) = given x
+sceneAnswer (scenes.BadScene k) = refused 7 k
+sceneAnswer scenes.NoRoom = refused 5 0

@@ -11,4 +11,5 @@ pub use state::Ended;
 pub use state::InUse;
 pub use state::Reading;
 pub use state::Scene;
+pub use state::SceneAnswer;
 pub use state::Step;

@@ -48,3 +48,10 @@ pub enum Ended {
     Whole(Scene),
     Bad(u64),
 }
+
+// What reading a whole scene answers: the scene; 7 BadScene with the number of the first bad record; or 5 NoRoom.
+pub enum SceneAnswer {
+    Whole(Scene),
+    BadScene(u64),
+    NoRoom,
+}

@@ -1,8 +1,8 @@
 -- `c_scene::put_answer` meets its contract. Assumes nothing.
 use mathlib.Core.Path.{_≡_, sym, ap, _∙_}
 use denote.Ref.{now}
-use Rattle.read_scene.specs.declared.answer.SceneAnswer.{SceneAnswer}
-use Rattle.read_scene.specs.Whole.{sceneAnswer}
+use Rattle.scene_state.specs.declared.state.SceneAnswer.{SceneAnswer}
+use Rattle.scene_state.specs.Answers.{sceneAnswer}
 use Rattle.c_scene.specs.Scenes.{sceneNumber, sceneWritten}
 use borrow.Author.Needs.{needs}
 use Rattle.c_scene.proofs.put_answer.Statement.{statement}
