@@ -1,10 +1,13 @@
--- The bytes that a search's answer leaves in the slice that a caller lends for it.
+-- The bytes that a search's answer leaves in the slice that a caller lends for it, and the number of an edge.
 use Prim.Native.Nat.{ℕ}
 use mathlib.Core.Bool.{cond}
 use mathlib.Core.List.{List}
 use lib.Dec.{leb}
 use lib.ListN.{length}
 use Rattle.fields.specs.Little.{withField}
+use Rattle.moves.specs.declared.answer.EdgeAnswer.{EdgeAnswer}
+use Rattle.moves.specs.declared.answer.EdgeAnswer.the-variants.{To, Nowhere}
+use Rattle.moves.specs.Moves.{movementNumber}
 use Rattle.outcomes.specs.declared.Answer.{Answer}
 use Rattle.outcomes.specs.Outcomes.{outcomeNumber}
 use Rattle.outcomes.specs.declared.Path.{Path}
@@ -21,3 +24,8 @@ answerWritten a old =
 abbrev pub pathWritten : Path → List ℕ → List ℕ
 pathWritten (Searched a) old = answerWritten a old
 pathWritten BadTable old = old
+
+-- an edge: its movement's number, or 4 where there is none
+abbrev pub edgeNumber : EdgeAnswer → ℕ
+edgeNumber (To w) = movementNumber (w .movement)
+edgeNumber Nowhere = 4

@@ -1,11 +1,12 @@
-// What a search answers, for a call from another language: its number (01, "Numbers given back"), and a record of 32 bytes in a slice that the caller lends.
-// `walk_c` has the calls.
+// What a search answers, for a call from another language: its number (01, "Numbers given back"), and a record of 32 bytes in a slice that the caller lends;
+// and the number of an edge. `walk_c` has the calls.
 ghost use mathlib.Core.Path.{_≡_};
 ghost use Rattle.outcomes.specs.Outcomes.{outcomeNumber};
 ghost use Rattle.outcomes.specs.Outcomes.{pathNumber};
-ghost use Rattle.c_answers.specs.Answers.{answerWritten, pathWritten};
-use outcomes::Path;
+ghost use Rattle.c_answers.specs.Answers.{answerWritten, pathWritten, edgeNumber};
+use moves::EdgeAnswer;
 use outcomes::Answer;
+use outcomes::Path;
 
 // The outcome's number; and outcome, count, retained and closed in the first 32 bytes of `answer`, where they fit.
 pub fn put_answer(a: Answer, answer: &mut [u8]) -> u64
@@ -32,5 +33,18 @@ pub fn put_path(p: Path, answer: &mut [u8]) -> u64
     match p {
         Path::Searched(a) => put_answer(a, answer),
         Path::BadTable => 8,
+    }
+}
+
+// The number of an edge's movement, 0 to 3, or 4 where there is no edge.
+pub fn edge_number(a: EdgeAnswer) -> u64
+    ensures { λ r. ⌜ r ≡ edgeNumber a ⌝ }
+{
+    match a {
+        EdgeAnswer::To(w) => {
+            let movement = w.movement;
+            moves::movement_number(movement)
+        }
+        EdgeAnswer::Nowhere => 4,
     }
 }

@@ -22,23 +22,25 @@ pub(crate) fn window_in(window: &[u8]) -> Window
 pub(crate) fn request_in(request: &[u8]) -> Request
     ensures { λ r. ⌜ r ≡ requestIn (now (request .entry)) ⌝ }
 {
+    let heights = point_at(request, 56);
     Request {
         start: point_at(request, 0),
         goal: point_at(request, 24),
         max_range: fields::f64_at(request, 48),
         node_budget: fields::u64_at(request, 80),
-        step_height: fields::f64_at(request, 56),
-        jump_height: fields::f64_at(request, 64),
-        max_drop: fields::f64_at(request, 72),
+        step_height: heights.x,
+        jump_height: heights.y,
+        max_drop: heights.z,
     }
 }
 
 pub(crate) fn body_in(body: &[u8]) -> Body
     ensures { λ r. ⌜ r ≡ bodyIn (now (body .entry)) ⌝ }
 {
+    let three = point_at(body, 0);
     Body {
-        width: fields::f64_at(body, 0),
-        height: fields::f64_at(body, 8),
-        step_height: fields::f64_at(body, 16),
+        width: three.x,
+        height: three.y,
+        step_height: three.z,
     }
 }

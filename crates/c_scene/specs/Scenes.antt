@@ -4,6 +4,7 @@ use Prim.Native.Nat.{ℕ, _+_}
 use mathlib.Core.Bool.{cond}
 use mathlib.Core.List.{List}
 use lib.Dec.{eqb, leb}
+use lib.Ieee.{Float}
 use lib.ListN.{length}
 use Rattle.fields.specs.Little.{withField, withSigned, withFloat}
 use Rattle.world.specs.declared.Point.{Point}
@@ -15,8 +16,11 @@ use Rattle.scene_state.specs.declared.state.Scene.{Scene}
 use Rattle.scene_state.specs.Answers.{Answer, given, refused}
 
 -- three f64 at an offset
-unfoldable pub withPoint : Point → ℕ → List ℕ → List ℕ
-withPoint p at s = withFloat (withFloat (withFloat s at (p .x)) (at + 8) (p .y)) (at + 16) (p .z)
+unfoldable pub withThree : Float → Float → Float → ℕ → List ℕ → List ℕ
+withThree x y z at s = withFloat (withFloat (withFloat s at x) (at + 8) y) (at + 16) z
+
+abbrev pub withPoint : Point → ℕ → List ℕ → List ℕ
+withPoint p at s = withThree (p .x) (p .y) (p .z) at s
 
 -- bytes 0 to 87
 unfoldable pub withRequest : Request → List ℕ → List ℕ

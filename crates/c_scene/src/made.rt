@@ -1,41 +1,32 @@
 // What reading a scene gives back: a record of 168 bytes with the request, the body, the window and the sizes in use.
 ghost use mathlib.Core.Path.{_≡_};
 ghost use Prim.Native.Nat.{_^_, _<_};
-ghost use Rattle.c_scene.specs.Scenes.{withPoint, withRequest, withBody, withWindow, withInUse, withScene};
+ghost use Rattle.c_scene.specs.Scenes.{withThree, withRequest, withWindow, withInUse, withScene};
 use scene_state::InUse;
 use scene_state::Scene;
-use world::Body;
-use world::Point;
 use world::Request;
 use world::Window;
 
-fn put_point(p: Point, at: usize, made: &mut [u8])
+// Three f64 from an offset on.
+fn put_three(x: f64, y: f64, z: f64, at: usize, made: &mut [u8])
     requires { ⌜ at < 2 ^ 32 ⌝ }
-    ensures { λ _. ⌜ now (made .exit) ≡ withPoint p at (now (made .entry)) ⌝ }
+    ensures { λ _. ⌜ now (made .exit) ≡ withThree x y z at (now (made .entry)) ⌝ }
 {
-    stores::put_f64(made, at, p.x);
-    stores::put_f64(made, at + 8, p.y);
-    stores::put_f64(made, at + 16, p.z);
+    stores::put_f64(made, at, x);
+    stores::put_f64(made, at + 8, y);
+    stores::put_f64(made, at + 16, z);
 }
 
 fn put_request(r: Request, made: &mut [u8])
     ensures { λ _. ⌜ now (made .exit) ≡ withRequest r (now (made .entry)) ⌝ }
 {
-    put_point(r.start, 0, made);
-    put_point(r.goal, 24, made);
-    stores::put_f64(made, 48, r.max_range);
-    stores::put_f64(made, 56, r.step_height);
-    stores::put_f64(made, 64, r.jump_height);
+    let start = r.start;
+    let goal = r.goal;
+    put_three(start.x, start.y, start.z, 0, made);
+    put_three(goal.x, goal.y, goal.z, 24, made);
+    put_three(r.max_range, r.step_height, r.jump_height, 48, made);
     stores::put_f64(made, 72, r.max_drop);
     stores::put_u64(made, 80, r.node_budget);
-}
-
-fn put_body(b: Body, made: &mut [u8])
-    ensures { λ _. ⌜ now (made .exit) ≡ withBody b (now (made .entry)) ⌝ }
-{
-    stores::put_f64(made, 88, b.width);
-    stores::put_f64(made, 96, b.height);
-    stores::put_f64(made, 104, b.step_height);
 }
 
 fn put_window(w: Window, made: &mut [u8])
@@ -65,8 +56,9 @@ pub(crate) fn put_scene(x: Scene, made: &mut [u8])
     if made.len() < 168 {
         return;
     }
+    let body = x.body;
     put_request(x.request, made);
-    put_body(x.body, made);
+    put_three(body.width, body.height, body.step_height, 88, made);
     put_window(x.window, made);
     put_in_use(x.in_use, made);
 }

@@ -4,28 +4,11 @@ use policy::Filled;
 use policy::WalkPolicy;
 use world::Body;
 use world::Point;
-use world::Request;
 use world::Window;
 ghost use mathlib.Core.Path.{_≡_};
 ghost use lib.ListN.{length};
 ghost use Rattle.policy.specs.Permission.{permissionTable};
-ghost use Rattle.find_path.specs.FindPath.{requestOf, path, nodesAfterPath, frontAfterPath, outAfterPath};
-
-// What is asked of the search.
-fn request_of(policy: WalkPolicy, start: Point, goal: Point, body: Body) -> Request
-    ensures { λ r. ⌜ r ≡ requestOf policy start goal body ⌝ }
-{
-    let asked = policy.request(body.step_height);
-    Request {
-        start,
-        goal,
-        max_range: asked.max_range,
-        node_budget: asked.node_budget,
-        step_height: asked.step_height,
-        jump_height: asked.jump_height,
-        max_drop: asked.max_drop,
-    }
-}
+ghost use Rattle.find_path.specs.FindPath.{path, nodesAfterPath, frontAfterPath, outAfterPath};
 
 // A way for a mob from a start to a goal. `perms` is filled by the flags of the states, unless the two differ in length, and stays filled whatever the
 // search answers; the list is written to `out`, `nodes` and `front` are the search's rooms.
@@ -54,7 +37,7 @@ pub fn find_path(
     match policy.fill_permissions(in_water, flags, perms) {
         Filled::BadTable => Path::BadTable,
         Filled::Whole => {
-            let r = request_of(policy, start, goal, body);
+            let r = mob_request::request_of(policy, start, goal, body);
             let answer = search::find_walk_path(
                 w,
                 cells,

@@ -6,12 +6,12 @@ ghost use Rattle.outcomes.specs.Outcomes.{outcomeNumber};
 ghost use Rattle.scene_state.specs.Answers.{given};
 ghost use Rattle.print_records.specs.Progress.{sceneOf};
 ghost use Rattle.print.specs.Print.{refusal, toldOf, answered, nodesOf, frontOf, outOf, told};
+use outcomes::Answer;
+use outcomes::Outcome;
 use print_lines::Told;
 use print_records::Progress;
 use scene::Ended;
 use scene::Scene;
-use outcomes::Answer;
-use outcomes::Outcome;
 
 fn refusal(number: u64, bad: u64) -> Told
     ensures { λ t. ⌜ t ≡ refusal number bad ⌝ }

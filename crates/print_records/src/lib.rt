@@ -37,18 +37,11 @@ pub fn take_record(
     ensures shapes { λ _. ⌜ now (shapes .exit) ≡ shapesFurther progress (now (bytes .entry)) (now (shapes .entry)) ⌝ }
     ensures boxes { λ _. ⌜ now (boxes .exit) ≡ boxesFurther progress (now (bytes .entry)) (now (boxes .entry)) ⌝ }
 {
-    match progress {
-        Progress::Refused(n, k) => Progress::Refused(n, k),
-        Progress::Going(state) => match scene::read_record(
-            state,
-            bytes,
-            cells,
-            perms,
-            shapes,
-            boxes,
-        ) {
-            Step::On(next) => Progress::Going(next),
-            Step::Bad(k) => Progress::Refused(7, k),
-        },
-    }
+    let Progress::Going(state) = progress else {
+        return progress;
+    };
+    let Step::On(next) = scene::read_record(state, bytes, cells, perms, shapes, boxes) else {
+        return Progress::Refused(7, state.number);
+    };
+    Progress::Going(next)
 }

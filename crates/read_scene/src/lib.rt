@@ -5,12 +5,9 @@ ghost use mathlib.Core.Path.{_≡_};
 ghost use Prim.Native.Nat.{_<_};
 ghost use lib.ListN.{length};
 ghost use Rattle.scene_state.specs.Answers.{endedAnswer, sceneAnswer};
-ghost use Rattle.scene.specs.Scene.{readFrom};
-ghost use Rattle.read_scene.specs.Whole.{recordCount, recordAt, records, read};
-ghost use Rattle.read_scene.specs.Laws.{tablesOf};
+ghost use Rattle.read_scene.specs.Whole.{recordCount, recordAt, read};
 use scene::Begun;
 use scene::Ended;
-use scene::Reading;
 use scene::Step;
 use scene_state::SceneAnswer;
 
@@ -47,32 +44,6 @@ fn ended_answer(e: Ended) -> SceneAnswer
     }
 }
 
-// All records, taken in from a state before the first.
-fn read_from(
-    first: Reading,
-    bytes: &[u8],
-    cells: &mut [u8],
-    perms: &mut [u8],
-    shapes: &mut [u8],
-    boxes: &mut [u8],
-) -> SceneAnswer
-    ensures { λ a. ⌜ sceneAnswer a ≡ readFrom first (tablesOf (now (cells .entry)) (now (perms .entry)) (now (shapes .entry)) (now (boxes .entry))) (records (now (bytes .entry))) .answer ⌝ }
-    ensures { λ _. ⌜ tablesOf (now (cells .exit)) (now (perms .exit)) (now (shapes .exit)) (now (boxes .exit)) ≡ readFrom first (tablesOf (now (cells .entry)) (now (perms .entry)) (now (shapes .entry)) (now (boxes .entry))) (records (now (bytes .entry))) .tables ⌝ }
-{
-    let n = record_count(bytes.len());
-    let mut state = first;
-    let mut k: usize = 0;
-    while k < n {
-        let bytes_of = record_at(bytes, k);
-        let Step::On(next) = scene::read_record(state, bytes_of, cells, perms, shapes, boxes) else {
-            return SceneAnswer::BadScene(state.number);
-        };
-        state = next;
-        k += 1;
-    }
-    ended_answer(scene::end(state))
-}
-
 // A scene and the part of each lent table that it made; the first bad record, and the tables hold what those before it made; or no room, and nothing is
 // written.
 pub fn read_scene(
@@ -91,5 +62,16 @@ pub fn read_scene(
     let Begun::Ready(first) = scene::begin(cells, perms, shapes, boxes) else {
         return SceneAnswer::NoRoom;
     };
-    read_from(first, bytes, cells, perms, shapes, boxes)
+    let n = record_count(bytes.len());
+    let mut state = first;
+    let mut k: usize = 0;
+    while k < n {
+        let piece = record_at(bytes, k);
+        let Step::On(next) = scene::read_record(state, piece, cells, perms, shapes, boxes) else {
+            return SceneAnswer::BadScene(state.number);
+        };
+        state = next;
+        k += 1;
+    }
+    ended_answer(scene::end(state))
 }

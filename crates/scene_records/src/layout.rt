@@ -1,8 +1,8 @@
 // The fields of a scene record.
 ghost use mathlib.Core.Path.{_≡_};
 ghost use lib.ListN.{getD};
-ghost use Rattle.tables.specs.BadWorld.{Sizes, sizeAbove};
-ghost use Rattle.scene_records.specs.Layout.{numberOf, pointAt, bodyOf, windowOf, cellCount, volume};
+ghost use Rattle.tables.specs.BadWorld.{sizeAbove};
+ghost use Rattle.scene_records.specs.Layout.{numberOf, pointAt, bodyOf, windowOf, cellCount};
 use world::Body;
 use world::Point;
 use world::Window;
@@ -40,10 +40,11 @@ pub fn point_at(bytes: &[u8], at: u32) -> Point
 pub fn body_of(bytes: &[u8]) -> Body
     ensures { λ r. ⌜ r ≡ bodyOf (now (bytes .entry)) ⌝ }
 {
+    let three = point_at(bytes, 32);
     Body {
-        width: fields::f64_at(bytes, 32),
-        height: fields::f64_at(bytes, 40),
-        step_height: fields::f64_at(bytes, 48),
+        width: three.x,
+        height: three.y,
+        step_height: three.z,
     }
 }
 
@@ -68,14 +69,6 @@ pub fn size_above(w: Window) -> bool
     (256 < w.sx) | (256 < w.sy) | (256 < w.sz)
 }
 
-// How many cells a window has whose sizes are no larger.
-fn product(w: Window) -> u32
-    requires { ⌜ Sizes w ⌝ }
-    ensures { λ r. ⌜ r ≡ volume w ⌝ }
-{
-    w.sx * w.sy * w.sz
-}
-
 // How many cells a window has; one with a size above 256 has none.
 pub fn cell_count(w: Window) -> u32
     ensures { λ r. ⌜ r ≡ cellCount w ⌝ }
@@ -83,5 +76,5 @@ pub fn cell_count(w: Window) -> u32
     if size_above(w) {
         return 0;
     }
-    product(w)
+    w.sx * w.sy * w.sz
 }

@@ -1,31 +1,19 @@
-// "Three zeros" and "unused bytes zero".
+// "Unused bytes zero".
 ghost use mathlib.Core.Path.{_≡_};
 ghost use lib.ListN.{drop};
-ghost use Rattle.scene_records.specs.Layout.{zeros, threeZeros, unusedFrom};
-use scene_records::byte_at;
+ghost use Rattle.scene_records.specs.Layout.{zeros, unusedFrom};
 
-// Whether the three bytes behind the kind are zero.
-pub(crate) fn three_zeros(bytes: &[u8]) -> bool
-    ensures { λ r. ⌜ r ≡ threeZeros (now (bytes .entry)) ⌝ }
-{
-    let a = byte_at(bytes, 1);
-    let b = byte_at(bytes, 2);
-    let c = byte_at(bytes, 3);
-    (a == 0) & (b == 0) & (c == 0)
-}
-
-// Whether every byte from an offset on is zero.
+// Whether every byte from an offset on is zero. Each is looked at: in a good record they all are zero.
 pub(crate) fn zeros_from(bytes: &[u8], from: usize) -> bool
     ensures { λ r. ⌜ r ≡ zeros (drop from (now (bytes .entry))) ⌝ }
 {
+    let mut all = true;
     let mut i = from;
     while i < bytes.len() {
-        if bytes[i] != 0 {
-            return false;
-        }
+        all = all & (bytes[i] == 0);
         i += 1;
     }
-    true
+    all
 }
 
 // Where the bytes begin that a kind does not use.

@@ -61,19 +61,11 @@ fn empty() -> Reading
 pub fn begin(cells: &[u8], perms: &[u8], shapes: &[u8], boxes: &[u8]) -> Begun
     ensures { λ r. ⌜ begunAnswer r ≡ begun (now (cells .entry)) (now (perms .entry)) (now (shapes .entry)) (now (boxes .entry)) ⌝ }
 {
-    if cells.len() < 32768 {
-        return Begun::NoRoom;
+    let room = (32768 <= cells.len()) & (256 <= perms.len());
+    if room & (2048 <= shapes.len()) & (12288 <= boxes.len()) {
+        return Begun::Ready(empty());
     }
-    if perms.len() < 256 {
-        return Begun::NoRoom;
-    }
-    if shapes.len() < 2048 {
-        return Begun::NoRoom;
-    }
-    if boxes.len() < 12288 {
-        return Begun::NoRoom;
-    }
-    Begun::Ready(empty())
+    Begun::NoRoom
 }
 
 // How many bytes of each table are in use.

@@ -115,6 +115,11 @@ module _ (r : Reading) (s : List ℕ) where
   left n m e true g = absurd (let z : _≡_ {A = ℕ} 0 1 = cc (rw g at e) in omega arith)
   left n m e false g = g
 
+-- behind kind 3 the cells are the window's
+pub cells-counted : (k : ℕ) (r : Reading) (s : List ℕ) → k ≡ 3 → next k r s .counts .cells ≡ cellCount (windowOf s)
+unfolding next countsAfter
+cells-counted k r s e = rw e
+
 -- behind kind 4 the last shape has the boxes that are counted for it
 pub last-counted : (k : ℕ) (r : Reading) (s : List ℕ) → k ≡ 4 → next k r s .counts .last ≡ countAfter (r .counts) (numberOf s)
 unfolding next countsAfter withBoxCounted

@@ -1,6 +1,6 @@
 // What a good record of a kind makes of each part of the state.
 ghost use mathlib.Core.Path.{_≡_};
-ghost use Rattle.scene_step.specs.Next.{Allowed, ShapeFits, requestAfter, bodyAfter, windowAfter, countAfter, withBoxCounted, countsAfter, nextNumber, next};
+ghost use Rattle.scene_step.specs.Next.{Allowed, ShapeFits, requestAfter, bodyAfter, windowAfter, countAfter, withBoxCounted, countsAfter, next};
 use scene_records::body_of;
 use scene_records::cell_count;
 use scene_records::number_of;
@@ -15,8 +15,8 @@ use world::Window;
 fn request_after(r: Request, bytes: &[u8], kind: u8) -> Request
     ensures { λ q. ⌜ q ≡ requestAfter kind r (now (bytes .entry)) ⌝ }
 {
-    if kind == 1 {
-        return Request {
+    match kind {
+        1 => Request {
             start: point_at(bytes, 8),
             goal: point_at(bytes, 32),
             max_range: fields::f64_at(bytes, 56),
@@ -24,22 +24,23 @@ fn request_after(r: Request, bytes: &[u8], kind: u8) -> Request
             step_height: r.step_height,
             jump_height: r.jump_height,
             max_drop: r.max_drop,
-        };
+        },
+        2 => {
+            let start = r.start;
+            let goal = r.goal;
+            let three = point_at(bytes, 8);
+            Request {
+                start,
+                goal,
+                max_range: r.max_range,
+                node_budget: r.node_budget,
+                step_height: three.x,
+                jump_height: three.y,
+                max_drop: three.z,
+            }
+        }
+        _ => r,
     }
-    if kind == 2 {
-        let start = r.start;
-        let goal = r.goal;
-        return Request {
-            start,
-            goal,
-            max_range: r.max_range,
-            node_budget: r.node_budget,
-            step_height: fields::f64_at(bytes, 8),
-            jump_height: fields::f64_at(bytes, 16),
-            max_drop: fields::f64_at(bytes, 24),
-        };
-    }
-    r
 }
 
 fn body_after(b: Body, bytes: &[u8], kind: u8) -> Body
@@ -86,37 +87,27 @@ fn counts_after(c: Counts, bytes: &[u8], kind: u8) -> Counts
     requires { ⌜ Allowed kind c (now bytes) ⌝ }
     ensures { λ r. ⌜ r ≡ countsAfter kind c (now (bytes .entry)) ⌝ }
 {
-    if kind == 3 {
-        return Counts {
+    match kind {
+        3 => Counts {
             cells: cell_count(window_of(bytes)),
             states: c.states,
             shapes: c.shapes,
             boxes: c.boxes,
             last: c.last,
-        };
-    }
-    if kind == 4 {
-        return with_box_counted(c, number_of(bytes));
-    }
-    if kind == 5 {
-        return Counts {
+        },
+        4 => with_box_counted(c, number_of(bytes)),
+        5 => Counts {
             cells: c.cells,
             states: number_of(bytes) + 1,
             shapes: c.shapes,
             boxes: c.boxes,
             last: c.last,
-        };
+        },
+        _ => c,
     }
-    c
 }
 
-// The number of the record behind this one; past the last u64 it begins again.
-fn next_number(number: u64) -> u64
-    ensures { λ r. ⌜ r ≡ nextNumber number ⌝ }
-{
-    std::num::wrapping_add_u64(number, 1)
-}
-
+// The number of the record behind this one begins again past the last u64.
 pub(crate) fn next(state: Reading, bytes: &[u8], kind: u8) -> Reading
     requires { ⌜ Allowed kind (state .counts) (now bytes) ⌝ }
     ensures { λ r. ⌜ r ≡ next kind state (now (bytes .entry)) ⌝ }
@@ -126,7 +117,7 @@ pub(crate) fn next(state: Reading, bytes: &[u8], kind: u8) -> Reading
     let window = window_after(state.window, bytes, kind);
     let counts = counts_after(state.counts, bytes, kind);
     Reading {
-        number: next_number(state.number),
+        number: std::num::wrapping_add_u64(state.number, 1),
         kind,
         request,
         body,

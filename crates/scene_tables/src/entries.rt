@@ -12,27 +12,23 @@ pub fn put_entry(table: &mut [u8], i: u32, a: u32, b: u32)
     stores::put_u32(table, at + 4, b);
 }
 
-// The first n cells, unfilled.
-pub fn clear_cells(cells: &mut [u8], n: u32)
-    ensures { λ _. ⌜ now (cells .exit) ≡ unfilled n (now (cells .entry)) ⌝ }
+// The records from one to that before the end, each set to a number and 0. The end is a usize: behind the last u32 there is one more.
+fn put_firsts(table: &mut [u8], from: u32, end: usize, first: u32)
+    requires { ⌜ end ≤ 2 ^ 32 ⌝ }
+    ensures { λ _. ⌜ now (table .exit) ≡ emptyShapes from end first (now (table .entry)) ⌝ }
 {
-    let mut i: u32 = 0;
-    while i < n {
-        put_entry(cells, i, 4294967295, 0);
+    let mut i = from as usize;
+    while i < end {
+        put_entry(table, i as u32, first, 0);
         i += 1;
     }
 }
 
-// The empty shapes from one to n, each with a first box. The end is a usize: behind the last u32 there is one more.
-fn empty_shapes(shapes: &mut [u8], from: u32, end: usize, first: u32)
-    requires { ⌜ end ≤ 2 ^ 32 ⌝ }
-    ensures { λ _. ⌜ now (shapes .exit) ≡ emptyShapes from end first (now (shapes .entry)) ⌝ }
+// The first n cells, unfilled.
+pub fn clear_cells(cells: &mut [u8], n: u32)
+    ensures { λ _. ⌜ now (cells .exit) ≡ unfilled n (now (cells .entry)) ⌝ }
 {
-    let mut i = from as usize;
-    while i < end {
-        put_entry(shapes, i as u32, first, 0);
-        i += 1;
-    }
+    put_firsts(cells, 0, n as usize, 4294967295);
 }
 
 // The shapes from one to n, empty, and then the count of shape n.
@@ -40,6 +36,6 @@ pub fn put_shape(shapes: &mut [u8], from: u32, n: u32, first: u32, count: u32)
     ensures { λ _. ⌜ now (shapes .exit) ≡ withShape from n first count (now (shapes .entry)) ⌝ }
 {
     let at = n as usize;
-    empty_shapes(shapes, from, at + 1, first);
+    put_firsts(shapes, from, at + 1, first);
     stores::put_u32(shapes, 8 * at + 4, count);
 }

@@ -3,22 +3,10 @@ ghost use mathlib.Core.Path.{_≡_};
 ghost use Rattle.world.specs.Space.{space};
 ghost use Rattle.edges.specs.Edges.{edge};
 ghost use Rattle.c_records.specs.Records.{windowIn, requestIn, bodyIn};
-ghost use Rattle.walk_c.specs.Answers.{edgeNumber};
+ghost use Rattle.c_answers.specs.Answers.{edgeNumber};
+use c_answers::edge_number;
 use c_records::question_in;
-use moves::EdgeAnswer;
 use world::Point;
-
-fn edge_number(a: EdgeAnswer) -> u64
-    ensures { λ r. ⌜ r ≡ edgeNumber a ⌝ }
-{
-    match a {
-        EdgeAnswer::To(w) => {
-            let movement = w.movement;
-            moves::movement_number(movement)
-        }
-        EdgeAnswer::Nowhere => 4,
-    }
-}
 
 // The movement's number of the edge from one point to another, 0 to 3, or 4 where there is none.
 #[no_mangle]

@@ -1,56 +1,71 @@
 -- `scene_rules::rules::rule_kept` meets its contract. Assumes nothing.
+use lib.Dec.{eqb, leb}
+use mathlib.Core.Bool.{not, _&&_}
+use mathlib.Core.Path.{ap, sym, _∙_}
+use Rattle.tables.specs.BadWorld.{sizeAbove}
+use Rattle.scene_records.specs.Layout.{cellCount}
 use Rattle.scene_rules.specs.Laws.{kind-1, kind-3, kind-4, kind-5, kind-rest}
-use Rattle.scene_rules.specs.Rules.{rule}
-use mathlib.Core.Path.{sym, _∙_}
+use Rattle.scene_rules.specs.Rules.{windowRule, stateRule, rule}
 use Rattle.scene_rules.proofs.rules.rule_kept.Statement.{statement}
 use Rattle.scene_rules.proofs.rules.rule_kept.Tie as tie
 
 number-of-requires : tie.Need-number-of-requires
 number-of-requires c κs = tt
 
-returns : tie.Need-returns
-unfolding rule
-returns c = rw (c .number-of .ensures) (sym (kind-1 _ _ _ _ _ _ _ (c .before .if1 .taken)))
+window-of-requires : tie.Need-window-of-requires
+window-of-requires c κs = tt
 
-window-good-requires : tie.Need-window-good-requires
-window-good-requires c κs = tt
+size-above-requires : tie.Need-size-above-requires
+size-above-requires c κs = tt
 
-returns-2 : tie.Need-returns-2
-unfolding rule
-returns-2 c = c .window-good .ensures ∙ sym (kind-3 _ _ _ _ _ _ _ (c .before .if2 .taken))
+cell-count-requires : tie.Need-cell-count-requires
+cell-count-requires c κs = tt
 
 shape-good-requires : tie.Need-shape-good-requires
-shape-good-requires c κs = tt
+shape-good-requires c κs = c .before .number-of .ensures
+
+byte-at-requires : tie.Need-byte-at-requires
+byte-at-requires c κs = tt
+
+returns : tie.Need-returns
+unfolding rule
+returns c = rw (c .before .number-of .ensures) (sym (kind-1 _ _ _ _ _ _ _ (c .match .keys1)))
+
+returns-2 : tie.Need-returns-2
+unfolding rule windowRule
+returns-2 c =
+    let above = c .before .size-above .ensures ∙ ap sizeAbove (c .before .before .window-of .ensures) in
+    let cells = c .cell-count .ensures ∙ ap cellCount (c .before .before .window-of .ensures) in
+    (λ i. eqb (c .before .before .before .before .number-of .ensures i) 0 && not (above i) && leb (cells i) 4096) ∙ sym (kind-3 _ _ _ _ _ _ _ (c .before .before .before .match .keys2))
 
 returns-3 : tie.Need-returns-3
 unfolding rule
-returns-3 c = c .shape-good .ensures ∙ sym (kind-4 _ _ _ _ _ _ _ (c .before .if3 .taken))
-
-state-good-requires : tie.Need-state-good-requires
-state-good-requires c κs = tt
+returns-3 c = c .shape-good .ensures ∙ sym (kind-4 _ _ _ _ _ _ _ (c .before .match .keys3))
 
 returns-4 : tie.Need-returns-4
-unfolding rule
-returns-4 c = c .state-good .ensures ∙ sym (kind-5 _ _ _ _ _ _ _ (c .before .if4 .taken))
-
-number-of-requires-2 : tie.Need-number-of-requires-2
-number-of-requires-2 c κs = tt
+unfolding rule stateRule
+returns-4 c =
+    let n = c .before .before .before .number-of .ensures in
+    (λ i. eqb (n i) (c .before .before .before .before .before .args .counts .states) && leb (n i) 255 && leb (c .before .byte-at .ensures i) 7) ∙ sym (kind-5 _ _ _ _ _ _ _ (c .before .before .match .keys4))
 
 returns-5 : tie.Need-returns-5
 unfolding rule
-returns-5 c = rw (c .number-of2 .ensures) (sym (kind-rest _ _ _ _ _ _ (c .before .before .before .before .if1 .left) (c .before .before .before .if2 .left) (c .before .before .if3 .left) (c .before .if4 .left)))
+returns-5 c =
+    let r = c .match .rest in
+    rw (c .before .number-of .ensures) (sym (kind-rest _ _ _ _ _ _ (r .0 .0 .0 .1) (r .0 .0 .1) (r .0 .1) (r .1)))
 
 pub rule-kept-spec : {M : Type 1} → statement M
 rule-kept-spec =
     tie.close
     (tie.spec
     number-of-requires
-    returns
-    window-good-requires
-    returns-2
+    window-of-requires
+    size-above-requires
+    cell-count-requires
     shape-good-requires
+    byte-at-requires
+    returns
+    returns-2
     returns-3
-    state-good-requires
     returns-4
-    number-of-requires-2
     returns-5)

@@ -16,13 +16,13 @@ window-after-requires c κs = tt
 counts-after-requires : tie.Need-counts-after-requires
 counts-after-requires c κs = search needs
 
-next-number-requires : tie.Need-next-number-requires
-next-number-requires c κs = tt
+wrapping-add-u64-requires : tie.Need-wrapping-add-u64-requires
+wrapping-add-u64-requires c κs = tt
 
 returns : tie.Need-returns
 unfolding next
 returns c = rw (
-  c .next-number .ensures,
+  c .wrapping-add-u64 .ensures,
   c .before .counts-after .ensures,
   c .before .before .window-after .ensures,
   c .before .before .before .body-after .ensures,
@@ -37,5 +37,5 @@ next-spec =
     body-after-requires
     window-after-requires
     counts-after-requires
-    next-number-requires
+    wrapping-add-u64-requires
     returns)

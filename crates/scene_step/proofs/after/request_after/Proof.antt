@@ -1,6 +1,7 @@
 -- `scene_step::after::request_after` meets its contract. Assumes nothing.
+use Rattle.scene_records.specs.Layout.{pointAt}
 use Rattle.scene_step.specs.Next.{requestAfter}
-use borrow.Author.Tests.{eq-eqb, ne-eqb}
+use borrow.Author.Tests.{ne-eqb}
 use borrow.Author.Needs.{needs}
 use Rattle.scene_step.proofs.after.request_after.Statement.{statement}
 use Rattle.scene_step.proofs.after.request_after.Tie as tie
@@ -17,41 +18,29 @@ f64-at-requires c κs = tt
 number-of-requires : tie.Need-number-of-requires
 number-of-requires c κs = tt
 
-cast-t11 : tie.Need-cast-t11
-cast-t11 c = search needs
+cast-t12 : tie.Need-cast-t12
+cast-t12 c = search needs
 
 returns : tie.Need-returns
 unfolding requestAfter
 returns c = rw (
-  eq-eqb _ _ (c .before .before .before .before .if1 .taken),
+  c .before .before .before .before .match .keys1,
   c .before .before .before .point-at .ensures,
   c .before .before .point-at2 .ensures,
   c .before .f64-at .ensures,
   c .number-of .ensures,
 )
 
-f64-at-requires-2 : tie.Need-f64-at-requires-2
-f64-at-requires-2 c κs = tt
-
-f64-at-requires-3 : tie.Need-f64-at-requires-3
-f64-at-requires-3 c κs = tt
-
-f64-at-requires-4 : tie.Need-f64-at-requires-4
-f64-at-requires-4 c κs = tt
+point-at-requires-3 : tie.Need-point-at-requires-3
+point-at-requires-3 c κs = tt
 
 returns-2 : tie.Need-returns-2
-unfolding requestAfter
-returns-2 c = rw (
-  ne-eqb _ _ (c .before .before .before .before .before .before .if1 .left),
-  eq-eqb _ _ (c .before .before .before .before .before .if2 .taken),
-  c .before .before .f64-at2 .ensures,
-  c .before .f64-at3 .ensures,
-  c .f64-at4 .ensures,
-)
+unfolding requestAfter pointAt
+returns-2 c = rw (c .before .before .before .match .keys2, c .point-at3 .ensures)
 
 returns-3 : tie.Need-returns-3
 unfolding requestAfter
-returns-3 c = rw (ne-eqb _ _ (c .before .if1 .left), ne-eqb _ _ (c .if2 .left))
+returns-3 c = let r = c .match .rest in rw (ne-eqb _ _ (r .0 .1), ne-eqb _ _ (r .1))
 
 pub request-after-spec : {M : Type 1} → statement M
 request-after-spec =
@@ -61,10 +50,8 @@ request-after-spec =
     point-at-requires-2
     f64-at-requires
     number-of-requires
-    cast-t11
+    cast-t12
+    point-at-requires-3
     returns
-    f64-at-requires-2
-    f64-at-requires-3
-    f64-at-requires-4
     returns-2
     returns-3)

@@ -9,11 +9,11 @@ use borrow.Author.Needs.{needs}
 use Rattle.scene_tables.proofs.entries.put_shape.Statement.{statement}
 use Rattle.scene_tables.proofs.entries.put_shape.Tie as tie
 
-add-empty-shapes : tie.Need-add-empty-shapes
-add-empty-shapes c = search needs
+add-put-firsts : tie.Need-add-put-firsts
+add-put-firsts c = search needs
 
-empty-shapes-requires : tie.Need-empty-shapes-requires
-empty-shapes-requires c κs = search needs
+put-firsts-requires : tie.Need-put-firsts-requires
+put-firsts-requires c κs = search needs
 
 mul-put-u32 : tie.Need-mul-put-u32
 mul-put-u32 c = search needs
@@ -31,14 +31,14 @@ returns : tie.Need-returns
 unfolding withShape
 returns c =
     let a = c .before .before .before .before .before .before .before .before .before .args in
-    c .before .before .put-u32 .ensures ∙ ap (λ (l : List ℕ). withField 4 l (8 * a .n + 4) (a .count)) (c .before .before .before .before .before .before .empty-shapes .ensures)
+    c .before .before .put-u32 .ensures ∙ ap (λ (l : List ℕ). withField 4 l (8 * a .n + 4) (a .count)) (c .before .before .before .before .before .before .put-firsts .ensures)
 
 pub put-shape-spec : {M : Type 1} → statement M
 put-shape-spec =
     tie.close
     (tie.spec
-    add-empty-shapes
-    empty-shapes-requires
+    add-put-firsts
+    put-firsts-requires
     mul-put-u32
     add-put-u32
     put-u32-requires

@@ -2,7 +2,7 @@
 use mathlib.Core.Path.{_∙_, ap}
 use Rattle.c_records.specs.Asked.{questionIn}
 use borrow.Author.Needs.{needs}
-use Rattle.walk_c.specs.Answers.{edgeNumber}
+use Rattle.c_answers.specs.Answers.{edgeNumber}
 use Rattle.walk_c.proofs.edge.walkprint_edge.Statement.{statement}
 use Rattle.walk_c.proofs.edge.walkprint_edge.Tie as tie
 

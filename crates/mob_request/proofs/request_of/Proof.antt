@@ -1,8 +1,8 @@
--- `find_path::find::request_of` meets its contract. Assumes nothing.
-use Rattle.find_path.specs.FindPath.{requestOf}
+-- `mob_request::request_of` meets its contract. Assumes nothing.
+use Rattle.mob_request.specs.Asked.{requestOf}
 use borrow.Author.Needs.{needs}
-use Rattle.find_path.proofs.find.request_of.Statement.{statement}
-use Rattle.find_path.proofs.find.request_of.Tie as tie
+use Rattle.mob_request.proofs.request_of.Statement.{statement}
+use Rattle.mob_request.proofs.request_of.Tie as tie
 
 request-requires : tie.Need-request-requires
 request-requires c κs = search needs

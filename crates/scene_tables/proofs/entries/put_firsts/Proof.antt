@@ -1,4 +1,4 @@
--- `scene_tables::entries::empty_shapes` meets its contract. Assumes nothing.
+-- `scene_tables::entries::put_firsts` meets its contract. Assumes nothing.
 use Rattle.scene_tables.specs.Laws.{turn-done, turn-more}
 use Rattle.scene_tables.specs.Made.{inTurn, withEntry, emptyShapes}
 use lib.ListN.{length}
@@ -6,14 +6,14 @@ use mathlib.Core.List.{List}
 use Prim.Native.Nat.{ℕ, _-_, _+_}
 use mathlib.Core.Path.{_≡_, refl, sym, ap, _∙_}
 use native.Mathlib.Omega.{arith}
-use Rattle.scene_tables.proofs.entries.empty_shapes.Statement.{statement}
-use Rattle.scene_tables.proofs.entries.empty_shapes.Tie as tie
+use Rattle.scene_tables.proofs.entries.put_firsts.Statement.{statement}
+use Rattle.scene_tables.proofs.entries.put_firsts.Tie as tie
 
 abbrev Inv-loop : tie.InvT-loop
-Inv-loop shapes₀ from end first i₀ shapes i = (length shapes ≡ length shapes₀) × (inTurn (withEntry first 0) from (end - from) shapes₀ ≡ inTurn (withEntry first 0) i (end - i) shapes)
+Inv-loop table₀ from end first i₀ table i = (length table ≡ length table₀) × (inTurn (withEntry first 0) from (end - from) table₀ ≡ inTurn (withEntry first 0) i (end - i) table)
 
 abbrev μ-loop : tie.MeasureT-loop
-μ-loop shapes₀ from end first i₀ shapes i = end - i
+μ-loop table₀ from end first i₀ table i = end - i
 
 loop-holds : tie.Need-loop-holds Inv-loop μ-loop
 loop-holds c = (refl, refl)
@@ -34,7 +34,7 @@ loop-again : tie.Need-loop-again Inv-loop μ-loop
 loop-again c =
     let a = c .before .before .before .before .before .before .before .args in let l = c .before .before .before .before .before .loop in (
       omega (arith, c .before .before .put-entry .kept, l .inv .0),
-      l .inv .1 ∙ turn-more (withEntry (a .first) 0) (l .i) (a .end) (l .shapes) (omega arith)
+      l .inv .1 ∙ turn-more (withEntry (a .first) 0) (l .i) (a .end) (l .table) (omega arith)
           ∙ ap (λ (t : List ℕ). inTurn (withEntry (a .first) 0) (l .i + 1) (a .end - (l .i + 1)) t) (sym (c .before .before .put-entry .ensures)),
     )
 
@@ -44,10 +44,10 @@ same-length c = omega arith
 returns : tie.Need-returns Inv-loop μ-loop
 unfolding emptyShapes
 returns c =
-    let a = c .before .before .before .args in let l = c .before .loop in sym (l .inv .1 ∙ turn-done (withEntry (a .first) 0) (l .i) (a .end) (l .shapes) (omega arith))
+    let a = c .before .before .before .args in let l = c .before .loop in sym (l .inv .1 ∙ turn-done (withEntry (a .first) 0) (l .i) (a .end) (l .table) (omega arith))
 
-pub empty-shapes-spec : {M : Type 1} → statement M
-empty-shapes-spec =
+pub put-firsts-spec : {M : Type 1} → statement M
+put-firsts-spec =
     tie.close
     (tie.spec
     Inv-loop

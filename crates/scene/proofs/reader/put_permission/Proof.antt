@@ -1,10 +1,10 @@
--- `scene::writes::put_permission` meets its contract. Assumes nothing.
+-- `scene::reader::put_permission` meets its contract. Assumes nothing.
 use denote.Ref.{now}
 use lib.Seq.{set-out}
 use mathlib.Core.Path.{sym}
 use borrow.Author.Needs.{needs}
-use Rattle.scene.proofs.writes.put_permission.Statement.{statement}
-use Rattle.scene.proofs.writes.put_permission.Tie as tie
+use Rattle.scene.proofs.reader.put_permission.Statement.{statement}
+use Rattle.scene.proofs.reader.put_permission.Tie as tie
 
 slice-write-perms : tie.Need-slice-write-perms
 slice-write-perms c = search needs

@@ -1,12 +1,12 @@
--- `c_scene::made::put_point` meets its contract. Assumes nothing.
+-- `c_scene::made::put_three` meets its contract. Assumes nothing.
 use mathlib.Core.Path.{_≡_, sym, ap, _∙_}
 use Prim.Native.Nat.{ℕ, _+_}
 use mathlib.Core.List.{List}
 use Rattle.fields.specs.Little.{withField, withSigned, withFloat}
-use Rattle.c_scene.specs.Scenes.{withPoint}
+use Rattle.c_scene.specs.Scenes.{withThree}
 use borrow.Author.Needs.{needs}
-use Rattle.c_scene.proofs.made.put_point.Statement.{statement}
-use Rattle.c_scene.proofs.made.put_point.Tie as tie
+use Rattle.c_scene.proofs.made.put_three.Statement.{statement}
+use Rattle.c_scene.proofs.made.put_three.Tie as tie
 
 put-f64-requires : tie.Need-put-f64-requires
 put-f64-requires c κs = search needs
@@ -27,13 +27,13 @@ same-length : tie.Need-same-length
 same-length c = search needs
 
 returns : tie.Need-returns
-unfolding withPoint
+unfolding withThree
 returns c =
     let a = c .before .before .before .before .before .before .before .before .before .before .before .before .before .args in
-    (c .before .before .put-f643 .ensures ∙ ap (λ (t : List ℕ). withFloat t (a .at + 16) (a .p .z)) ((c .before .before .before .before .before .before .put-f642 .ensures ∙ ap (λ (t : List ℕ). withFloat t (a .at + 8) (a .p .y)) (c .before .before .before .before .before .before .before .before .before .before .put-f64 .ensures))))
+    (c .before .before .put-f643 .ensures ∙ ap (λ (t : List ℕ). withFloat t (a .at + 16) (a .z)) ((c .before .before .before .before .before .before .put-f642 .ensures ∙ ap (λ (t : List ℕ). withFloat t (a .at + 8) (a .y)) (c .before .before .before .before .before .before .before .before .before .before .put-f64 .ensures))))
 
-pub put-point-spec : {M : Type 1} → statement M
-put-point-spec =
+pub put-three-spec : {M : Type 1} → statement M
+put-three-spec =
     tie.close
     (tie.spec
     put-f64-requires
