@@ -16,8 +16,6 @@ use Rattle.cells.specs.Ranges.{range, across, along}
 use Rattle.world.specs.declared.Point.{Point}
 use Rattle.world.specs.declared.Aabb.{Aabb}
 use Rattle.world.specs.declared.Window.{Window}
-use Rattle.world.specs.declared.Place.{Place}
-use Rattle.world.specs.declared.Place.the-variants.{At, Out}
 use Rattle.world.specs.declared.Entry.{Entry}
 use Rattle.world.specs.declared.Entry.the-variants.{Of, Missing}
 use Rattle.world.specs.declared.Cell.{Cell}
@@ -25,7 +23,7 @@ use Rattle.world.specs.declared.Cell.the-variants.{Unknown, Known}
 use Rattle.world.specs.declared.Found.{Found}
 use Rattle.world.specs.declared.Found.the-variants.{Here, End}
 use Rattle.world.specs.Boxes.{moved, corner}
-use Rattle.world.specs.Space.{Space, place, onward, recordOf, entryAt, collides, ofParts, knownBy, known, cellIn, cellAt}
+use Rattle.world.specs.Space.{Space, Place, At, Out, place, onward, recordOf, entryAt, collides, ofParts, knownBy, known, cellIn, cellAt}
 use Rattle.world.specs.Space.{ahead, boxHere, run, blockOf, space}
 use Rattle.world.specs.Laws.{entry-is}
 use Rattle.tables.specs.Good.{GoodWorld}

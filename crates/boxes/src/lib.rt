@@ -1,7 +1,7 @@
 // What is done with boxes (01, "Boxes"): a box is two corners of three numbers each. One rounding per operation, in the source's order; what is done with
 // the corners is `points`. The types and the definitions are `world`'s, whose space is made of boxes.
 ghost use mathlib.Core.Path.{_≡_};
-ghost use Rattle.world.specs.Boxes.{meets, moved, cube, voxel, fromFeet, minZero, maxZero, expandTowards};
+ghost use Rattle.world.specs.Boxes.{meets, moved, cube, voxel, fromFeet, expandTowards};
 use world::Aabb;
 use world::Point;
 
@@ -73,32 +73,14 @@ pub fn from_feet(feet: Point, width: f64, height: f64) -> Aabb
             y: feet.y,
             z: feet.z - half,
         },
-        max: Point {
-            x: feet.x + half,
-            y: feet.y + height,
-            z: feet.z + half,
-        },
-    }
-}
-
-// Of each coordinate the smaller of it and 0, and below the larger.
-fn min_zero(p: Point) -> Point
-    ensures { λ r. ⌜ r ≡ minZero p ⌝ }
-{
-    Point {
-        x: floats::min(p.x, 0.0),
-        y: floats::min(p.y, 0.0),
-        z: floats::min(p.z, 0.0),
-    }
-}
-
-fn max_zero(p: Point) -> Point
-    ensures { λ r. ⌜ r ≡ maxZero p ⌝ }
-{
-    Point {
-        x: floats::max(p.x, 0.0),
-        y: floats::max(p.y, 0.0),
-        z: floats::max(p.z, 0.0),
+        max: points::sum(
+            feet,
+            Point {
+                x: half,
+                y: height,
+                z: half,
+            },
+        ),
     }
 }
 
@@ -106,8 +88,18 @@ fn max_zero(p: Point) -> Point
 pub fn expand_towards(b: Aabb, delta: Point) -> Aabb
     ensures { λ r. ⌜ r ≡ expandTowards b delta ⌝ }
 {
+    let back = Point {
+        x: floats::min(delta.x, 0.0),
+        y: floats::min(delta.y, 0.0),
+        z: floats::min(delta.z, 0.0),
+    };
+    let ahead = Point {
+        x: floats::max(delta.x, 0.0),
+        y: floats::max(delta.y, 0.0),
+        z: floats::max(delta.z, 0.0),
+    };
     Aabb {
-        min: points::sum(b.min, min_zero(delta)),
-        max: points::sum(b.max, max_zero(delta)),
+        min: points::sum(b.min, back),
+        max: points::sum(b.max, ahead),
     }
 }

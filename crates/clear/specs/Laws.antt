@@ -2,11 +2,13 @@
 use Prim.Native.Nat.{ℕ, zero, suc, _+_, _-_, _*_, _≤_, _<_}
 use native.Mathlib.Omega.{arith}
 use native.Mathlib.Numerals.{add-one}
-use mathlib.Core.Path.{_≡_, refl, sym}
+use mathlib.Core.Path.{_≡_, refl, sym, ap, _∙_}
 use mathlib.Core.Bool.{Bool, true, false, not, _&&_, _||_}
 use mathlib.Core.List.{List, map}
 use lib.IntN.{ℤ, pos, _+ℤ_}
+use lib.Dec.{ltb}
 use lib.ListN.{length, drop}
+use borrow.Author.Tests.{ltb-true, ltb-false}
 use Rattle.world.specs.Laws.{run-past}
 use Rattle.cells.specs.declared.ranges.Range.{Range}
 use Rattle.world.specs.declared.Point.{Point}
@@ -31,22 +33,34 @@ module _ (area : Aabb) (by : Point) (s : List ℕ) (at : ℕ) where
   run-end (suc n) h e = rw e
 
   -- a box is hit, or the rest says
-  pub run-hit : (left : ℕ) (b : Aabb) → 0 < left → boxHere s at ≡ Here b → meets (moved b by) area ≡ true → runHits area by s left at ≡ true
+  pub run-on : (left : ℕ) (b : Aabb) (hit : Bool) → 0 < left → boxHere s at ≡ Here b → meets (moved b by) area ≡ hit →
+      runHits area by s left at ≡ hit || runHits area by s (left - 1) (at + 48)
   unfolding run hits
-  run-hit zero b h e t = absurd (omega arith)
-  run-hit (suc n) b h e t = rw (e, t)
-
-  pub run-on : (left : ℕ) (b : Aabb) → 0 < left → boxHere s at ≡ Here b → meets (moved b by) area ≡ false →
-      runHits area by s left at ≡ runHits area by s (left - 1) (at + 48)
-  unfolding run hits
-  run-on zero b h e t = absurd (omega arith)
-  run-on (suc n) b h e t = let k : suc n - 1 ≡ n = omega arith in rw (e, t, k)
+  run-on zero b hit h e t = absurd (omega arith)
+  run-on (suc n) b hit h e t = let k : suc n - 1 ≡ n = omega arith in rw (e, t, k)
 
   -- no box is left
   pub none : (left : ℕ) → left ≤ 0 → runHits area by s left at ≡ false
   unfolding run hits
   none zero h = refl
   none (suc n) h = absurd (omega arith)
+
+  -- the loop: a turn with none hit so far, and the end
+  pub run-turn : (hit : Bool) (left : ℕ) → (ltb 0 left && not hit) ≡ true → (0 < left) × (hit ≡ false)
+  run-turn hit left t = go (ltb 0 left) refl hit t
+    where
+      go : (s : Bool) → ltb 0 left ≡ s → (b : Bool) → (s && not b) ≡ true → (0 < left) × (b ≡ false)
+      go true p false t = (ltb-true 0 left p, refl)
+      go true p true t = absurd (let z : _≡_ {A = ℕ} 0 1 = cc in omega arith)
+      go false p b t = absurd (let z : _≡_ {A = ℕ} 0 1 = cc in omega arith)
+
+  pub run-stops : (hit : Bool) (left : ℕ) → (ltb 0 left && not hit) ≡ false → hit || runHits area by s left at ≡ hit
+  run-stops hit left t = go (ltb 0 left) refl hit t
+    where
+      go : (u : Bool) → ltb 0 left ≡ u → (b : Bool) → (u && not b) ≡ false → b || runHits area by s left at ≡ b
+      go u p true t = refl
+      go false p false t = none left (ltb-false 0 left p)
+      go true p false t = cc
 
 -- past its end a table has no boxes
 pub past : (area : Aabb) (by : Point) (s : List ℕ) (n left : ℕ) → length s < n → runHits area by (drop n s) left 0 ≡ false
@@ -95,16 +109,34 @@ module _ (f : ℕ → Bool) (k n : ℕ) where
   unfolding holds
   step h = let e : n - k ≡ suc (n - (k + 1)) = omega arith in rw (e, add-one)
 
-  -- one that fails, one that holds, and the end
-  pub fails : k < n → f k ≡ false → holds f k (n - k) ≡ false
-  fails h e = rw (step h, e)
+  -- a turn with all free so far, and the end
+  pub goes-on : (free next : Bool) → (ltb k n && free) ≡ true → f k ≡ next → free && holds f k (n - k) ≡ next && holds f (k + 1) (n - (k + 1))
+  goes-on free next t e = go (ltb k n) refl free t
+    where
+      go : (s : Bool) → ltb k n ≡ s → (b : Bool) → (s && b) ≡ true → b && holds f k (n - k) ≡ next && holds f (k + 1) (n - (k + 1))
+      go true p true t = step (ltb-true k n p) ∙ ap (λ (b : Bool). b && holds f (k + 1) (n - (k + 1))) e
+      go true p false t = cc
+      go false p b t = cc
 
-  pub goes-on : k < n → f k ≡ true → holds f k (n - k) ≡ holds f (k + 1) (n - (k + 1))
-  goes-on h e = rw (step h, e)
-
-  pub ends : n ≤ k → holds f k (n - k) ≡ true
+  past-last : n ≤ k → holds f k (n - k) ≡ true
   unfolding holds
-  ends h = let e : n - k ≡ 0 = omega arith in rw e
+  past-last h = let e : n - k ≡ 0 = omega arith in rw e
+
+  pub ends : (free : Bool) → (ltb k n && free) ≡ false → free && holds f k (n - k) ≡ free
+  ends free t = go (ltb k n) refl free t
+    where
+      go : (s : Bool) → ltb k n ≡ s → (b : Bool) → (s && b) ≡ false → b && holds f k (n - k) ≡ b
+      go s p false t = refl
+      go true p true t = cc
+      go false p true t = past-last (ltb-false k n p)
+
+-- a turn is taken where a number is left
+pub turn : (k n : ℕ) (b : Bool) → (ltb k n && b) ≡ true → k < n
+turn k n b t = go (ltb k n) refl t
+  where
+    go : (s : Bool) → ltb k n ≡ s → (s && b) ≡ true → k < n
+    go true p t = ltb-true k n p
+    go false p t = absurd (let z : _≡_ {A = ℕ} 0 1 = cc in omega arith)
 
 -- a loop begins with all that is asked
 pub begins : (f : ℕ → Bool) (n : ℕ) → holds f 0 n ≡ holds f 0 (n - 0)

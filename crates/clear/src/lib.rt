@@ -19,23 +19,18 @@ use world::Window;
 fn run_hits(part: &[u8], boxes: u32, by: Point, area: Aabb) -> bool
     ensures { λ r. ⌜ r ≡ hits area (map (λ (b : Aabb). moved b by) (run boxes (now (part .entry)) 0)) ⌝ }
 {
+    let mut hit = false;
     let mut left = boxes;
     let mut at: usize = 0;
-    while left > 0 {
-        match world::box_at(part, at) {
-            Found::End => {
-                return false;
-            }
-            Found::Here(b) => {
-                if boxes::intersects(boxes::offset(b, by), area) {
-                    return true;
-                }
-            }
-        }
+    while (left > 0) & !hit {
+        let Found::Here(b) = world::box_at(part, at) else {
+            return false;
+        };
+        hit = boxes::intersects(boxes::offset(b, by), area);
         left -= 1;
         at += 48;
     }
-    false
+    hit
 }
 
 // The same of a run of the whole table: the part that starts at the first record is handed on.
@@ -97,15 +92,14 @@ fn row_free(
     requires { ⌜ Near zs ⌝ }
     ensures { λ r. ⌜ r ≡ rowFree (space w (now (cells .entry)) (now (perms .entry)) (now (shapes .entry)) (now (boxes .entry))) area x y zs ⌝ }
 {
+    let mut free = true;
     let mut k: usize = 0;
-    while k < zs.count {
+    while (k < zs.count) & free {
         let z = zs.first + (k as i64);
-        if !cell_free(w, cells, perms, shapes, boxes, area, x, y, z) {
-            return false;
-        }
+        free = cell_free(w, cells, perms, shapes, boxes, area, x, y, z);
         k += 1;
     }
-    true
+    free
 }
 
 // Whether the rows of a layer are free, along x.
@@ -123,15 +117,14 @@ fn layer_free(
     requires { ⌜ Near xs × Near zs ⌝ }
     ensures { λ r. ⌜ r ≡ layerFree (space w (now (cells .entry)) (now (perms .entry)) (now (shapes .entry)) (now (boxes .entry))) area y xs zs ⌝ }
 {
+    let mut free = true;
     let mut k: usize = 0;
-    while k < xs.count {
+    while (k < xs.count) & free {
         let x = xs.first + (k as i64);
-        if !row_free(w, cells, perms, shapes, boxes, area, x, y, zs) {
-            return false;
-        }
+        free = row_free(w, cells, perms, shapes, boxes, area, x, y, zs);
         k += 1;
     }
-    true
+    free
 }
 
 // Whether the layers are free, along y.
@@ -149,15 +142,14 @@ fn all_free(
     requires { ⌜ Near ys × Near xs × Near zs ⌝ }
     ensures { λ r. ⌜ r ≡ allFree (space w (now (cells .entry)) (now (perms .entry)) (now (shapes .entry)) (now (boxes .entry))) area ys xs zs ⌝ }
 {
+    let mut free = true;
     let mut k: usize = 0;
-    while k < ys.count {
+    while (k < ys.count) & free {
         let y = ys.first + (k as i64);
-        if !layer_free(w, cells, perms, shapes, boxes, area, y, xs, zs) {
-            return false;
-        }
+        free = layer_free(w, cells, perms, shapes, boxes, area, y, xs, zs);
         k += 1;
     }
-    true
+    free
 }
 
 // Whether an area is clear.

@@ -10,7 +10,6 @@ ghost use Rattle.world.specs.Space.{space};
 ghost use Rattle.cells.specs.RangeLaws.{Near};
 ghost use Rattle.support.specs.Support.{allShapes, carried, supported};
 use cells::Range;
-use support::Reach;
 use support::Way;
 use world::Point;
 use world::Window;
@@ -33,16 +32,11 @@ fn carries(
     let mut covered = 0.0;
     loop {
         let reach = pass::reach_all(w, cells, perms, shapes, boxes, way, ys, xs, zs, covered);
-        let Reach::To(next) = reach else {
-            return false;
-        };
-        if 1.0 - floats::E <= next {
-            return true;
+        let enough = 1.0 - floats::E <= reach.to;
+        if reach.refused | enough | !(covered < reach.to) {
+            return enough & !reach.refused;
         }
-        if !(covered < next) {
-            return false;
-        }
-        covered = next;
+        covered = reach.to;
     }
 }
 

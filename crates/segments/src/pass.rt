@@ -7,7 +7,7 @@ ghost use lib.ListN.{drop};
 ghost use Rattle.cells.specs.RangeLaws.{Near};
 ghost use Rattle.world.specs.Space.{space};
 ghost use Rattle.support.specs.Support.{shapesOf, rowShapes, layerShapes, allShapes};
-ghost use Rattle.support.specs.Pass.{pass, runShapes};
+ghost use Rattle.support.specs.Pass.{pass, reached, runShapes};
 use cells::Range;
 use support::Reach;
 use support::Way;
@@ -18,24 +18,23 @@ use world::Window;
 
 // The shapes of so many box records of a part of the table, each moved by a point.
 fn reach_run(part: &[u8], boxes: u32, by: Point, support: bool, way: Way, covered: f64) -> Reach
-    ensures { λ r. ⌜ r ≡ pass way (Reach.To covered) (runShapes support by (now (part .entry)) boxes 0) ⌝ }
+    ensures { λ r. ⌜ r ≡ pass way (reached covered) (runShapes support by (now (part .entry)) boxes 0) ⌝ }
 {
-    let mut reached = covered;
+    let mut reach = Reach {
+        to: covered,
+        refused: false,
+    };
     let mut left = boxes;
     let mut at: usize = 0;
-    while left > 0 {
+    while (left > 0) & !reach.refused {
         let Found::Here(b) = world::box_at(part, at) else {
-            return Reach::To(reached);
+            return reach;
         };
-        let Reach::To(next) = support::reach_shape(way, support, boxes::offset(b, by), reached)
-        else {
-            return Reach::Refused;
-        };
-        reached = next;
+        reach = support::reach_shape(way, support, boxes::offset(b, by), reach.to);
         left -= 1;
         at += 48;
     }
-    Reach::To(reached)
+    reach
 }
 
 // The same of a run of the whole table: the part that starts at the first record is handed on.
@@ -48,13 +47,16 @@ fn reach_table(
     way: Way,
     covered: f64,
 ) -> Reach
-    ensures { λ r. ⌜ r ≡ pass way (Reach.To covered) (runShapes support by (drop (48 * first) (now (table .entry))) boxes 0) ⌝ }
+    ensures { λ r. ⌜ r ≡ pass way (reached covered) (runShapes support by (drop (48 * first) (now (table .entry))) boxes 0) ⌝ }
 {
     let from = 48 * (first as usize);
     if from <= table.len() {
         reach_run(&table[from..], boxes, by, support, way, covered)
     } else {
-        Reach::To(covered)
+        Reach {
+            to: covered,
+            refused: false,
+        }
     }
 }
 
@@ -71,7 +73,7 @@ fn reach_cell(
     z: i64,
     covered: f64,
 ) -> Reach
-    ensures { λ r. ⌜ r ≡ pass way (Reach.To covered) (shapesOf (space w (now (cells .entry)) (now (perms .entry)) (now (shapes .entry)) (now (boxes .entry)) x y z)) ⌝ }
+    ensures { λ r. ⌜ r ≡ pass way (reached covered) (shapesOf (space w (now (cells .entry)) (now (perms .entry)) (now (shapes .entry)) (now (boxes .entry)) x y z)) ⌝ }
 {
     match world::cell_at(w, cells, perms, shapes, x, y, z) {
         Cell::Unknown => {
@@ -85,7 +87,10 @@ fn reach_cell(
             count,
         } => {
             if count == 0 {
-                return Reach::To(covered);
+                return Reach {
+                    to: covered,
+                    refused: false,
+                };
             }
             let by = points::corner_of(x, y, z);
             reach_table(boxes, first, count, by, support, way, covered)
@@ -107,20 +112,19 @@ fn reach_row(
     covered: f64,
 ) -> Reach
     requires { ⌜ Near zs ⌝ }
-    ensures { λ r. ⌜ r ≡ pass way (Reach.To covered) (rowShapes (space w (now (cells .entry)) (now (perms .entry)) (now (shapes .entry)) (now (boxes .entry))) x y zs) ⌝ }
+    ensures { λ r. ⌜ r ≡ pass way (reached covered) (rowShapes (space w (now (cells .entry)) (now (perms .entry)) (now (shapes .entry)) (now (boxes .entry))) x y zs) ⌝ }
 {
-    let mut reached = covered;
+    let mut reach = Reach {
+        to: covered,
+        refused: false,
+    };
     let mut k: usize = 0;
-    while k < zs.count {
+    while (k < zs.count) & !reach.refused {
         let z = zs.first + (k as i64);
-        let Reach::To(next) = reach_cell(w, cells, perms, shapes, boxes, way, x, y, z, reached)
-        else {
-            return Reach::Refused;
-        };
-        reached = next;
+        reach = reach_cell(w, cells, perms, shapes, boxes, way, x, y, z, reach.to);
         k += 1;
     }
-    Reach::To(reached)
+    reach
 }
 
 // The shapes of a layer's rows, along x.
@@ -137,20 +141,19 @@ fn reach_layer(
     covered: f64,
 ) -> Reach
     requires { ⌜ Near xs × Near zs ⌝ }
-    ensures { λ r. ⌜ r ≡ pass way (Reach.To covered) (layerShapes (space w (now (cells .entry)) (now (perms .entry)) (now (shapes .entry)) (now (boxes .entry))) y xs zs) ⌝ }
+    ensures { λ r. ⌜ r ≡ pass way (reached covered) (layerShapes (space w (now (cells .entry)) (now (perms .entry)) (now (shapes .entry)) (now (boxes .entry))) y xs zs) ⌝ }
 {
-    let mut reached = covered;
+    let mut reach = Reach {
+        to: covered,
+        refused: false,
+    };
     let mut k: usize = 0;
-    while k < xs.count {
+    while (k < xs.count) & !reach.refused {
         let x = xs.first + (k as i64);
-        let Reach::To(next) = reach_row(w, cells, perms, shapes, boxes, way, x, y, zs, reached)
-        else {
-            return Reach::Refused;
-        };
-        reached = next;
+        reach = reach_row(w, cells, perms, shapes, boxes, way, x, y, zs, reach.to);
         k += 1;
     }
-    Reach::To(reached)
+    reach
 }
 
 // The shapes of layers, along y.
@@ -167,18 +170,17 @@ pub(crate) fn reach_all(
     covered: f64,
 ) -> Reach
     requires { ⌜ Near ys × Near xs × Near zs ⌝ }
-    ensures { λ r. ⌜ r ≡ pass way (Reach.To covered) (allShapes (space w (now (cells .entry)) (now (perms .entry)) (now (shapes .entry)) (now (boxes .entry))) ys xs zs) ⌝ }
+    ensures { λ r. ⌜ r ≡ pass way (reached covered) (allShapes (space w (now (cells .entry)) (now (perms .entry)) (now (shapes .entry)) (now (boxes .entry))) ys xs zs) ⌝ }
 {
-    let mut reached = covered;
+    let mut reach = Reach {
+        to: covered,
+        refused: false,
+    };
     let mut k: usize = 0;
-    while k < ys.count {
+    while (k < ys.count) & !reach.refused {
         let y = ys.first + (k as i64);
-        let Reach::To(next) = reach_layer(w, cells, perms, shapes, boxes, way, y, xs, zs, reached)
-        else {
-            return Reach::Refused;
-        };
-        reached = next;
+        reach = reach_layer(w, cells, perms, shapes, boxes, way, y, xs, zs, reach.to);
         k += 1;
     }
-    Reach::To(reached)
+    reach
 }

@@ -1,6 +1,6 @@
 -- The code's way: a pass over all shapes carries how far the centre line is covered, and ends where a shape refuses. `PassLaws` proves that passes decide
 -- `supported`. Definitions only.
-use mathlib.Core.Bool.{Bool, cond}
+use mathlib.Core.Bool.{Bool, true, false, cond}
 use mathlib.Core.Option.{Option, none, some}
 use mathlib.Core.List.{List, foldl, map}
 use Prim.Native.Nat.{ℕ}
@@ -11,7 +11,6 @@ use Rattle.world.specs.Space.{run}
 use lib.Ieee.{Float}
 use Rattle.support.specs.declared.Interval.{Interval}
 use Rattle.support.specs.declared.Reach.{Reach}
-use Rattle.support.specs.declared.Reach.the-variants.{Refused, To}
 use Rattle.support.specs.declared.Way.{Way}
 use Rattle.support.specs.Cover.{reachOne}
 use Rattle.support.specs.Support.{Shape, counts, interval}
@@ -20,13 +19,17 @@ abbrev pub reachBy : Float → Option Interval → Float
 reachBy c none = c
 reachBy c (some i) = reachOne c i
 
--- what one more shape makes of a pass
+-- a pass that covers the line from 0 to c, and that nothing has refused
+abbrev pub reached : Float → Reach
+reached c = record { to = c; refused = false }
+
+-- what one more shape makes of a pass: one that is refused stays as it is
 unfoldable pub step : Way → Reach → Shape → Reach
-step w Refused s = Refused
-step w (To c) s =
-    cond (counts (w .under) (s .box))
-    (cond (s .support) (To (reachBy c (interval (s .box) (w .from) (w .to)))) Refused)
-    (To c)
+step w r s =
+    cond (r .refused) r
+    (cond (counts (w .under) (s .box))
+    (cond (s .support) (reached (reachBy (r .to) (interval (s .box) (w .from) (w .to)))) (record { to = r .to; refused = true }))
+    r)
 
 abbrev pub pass : Way → Reach → List Shape → Reach
 pass w r ss = foldl (step w) r ss

@@ -2,15 +2,17 @@
 use Prim.Native.Nat.{ℕ, _+_, _-_, _*_, _≤_, _<_}
 use native.Mathlib.Omega.{arith}
 use mathlib.Core.Path.{_≡_, refl, sym, ap, _∙_}
-use mathlib.Core.Bool.{Bool, true, false, _&&_, cond}
+use mathlib.Core.Bool.{Bool, true, false, not, _&&_, _||_, cond}
 use mathlib.Core.Option.{Option, none, some}
 use mathlib.Core.List.{List, [], _∷_}
 use lib.IntN.{ℤ, pos, _+ℤ_}
+use lib.Dec.{ltb}
 use lib.ListN.{length, drop}
-use lib.Ieee.{Float, lt}
-use Rattle.floats.specs.Floats.{nought}
+use lib.Ieee.{Float, binary64, lt, le, add}
+use Rattle.floats.specs.Floats.{E, nought, larger}
 use Rattle.cells.specs.Ranges.{gather, across}
-use Rattle.cells.specs.RangeLaws.{fold-stays, fold-goes-on}
+use borrow.Author.Tests.{ltb-true, ltb-false}
+use Rattle.cells.specs.RangeLaws.{fold-stays, fold-goes-on, fold-ends}
 use Rattle.cells.specs.declared.ranges.Range.{Range}
 use Rattle.world.specs.declared.Point.{Point}
 use Rattle.world.specs.declared.Aabb.{Aabb}
@@ -21,18 +23,33 @@ use Rattle.world.specs.Laws.{run-none as boxes-none, run-end as boxes-end, run-
 use Rattle.world.specs.Space.{Space, boxHere, blockOf}
 use Rattle.support.specs.declared.Interval.{Interval}
 use Rattle.support.specs.declared.Reach.{Reach}
-use Rattle.support.specs.declared.Reach.the-variants.{Refused, To}
 use Rattle.support.specs.declared.Way.{Way}
-use Rattle.support.specs.Cover.{round, enough}
+use Rattle.support.specs.Cover.{joins, reachOne, round, enough}
 use Rattle.support.specs.Rounds.{beyond, limit, begins, falls, goes-on, ends-short, ends-enough}
 use Rattle.support.specs.Support.{Shape, counts, interval, counting, ahead, intervals, allSupport, carried, shapesOf, rowShapes, layerShapes, allShapes}
-use Rattle.support.specs.Pass.{reachBy, step, pass, runShapes}
+use Rattle.support.specs.Pass.{reachBy, reached, step, pass, runShapes}
 
 -- ---- a pass as a round
 
-pub refused-stays : (w : Way) (ss : List Shape) → pass w Refused ss ≡ Refused
+pub refused-stays : (w : Way) (r : Reach) (ss : List Shape) → r .refused ≡ true → pass w r ss ≡ r
 unfolding step
-refused-stays w ss = fold-stays (step w) Refused (λ s. refl) ss
+refused-stays w r ss e = fold-stays (step w) r (λ s. rw e) ss
+
+-- one that nothing has refused is told by how far it covers
+pub unrefused : (r : Reach) → r .refused ≡ false → reached (r .to) ≡ r
+unrefused r e = ap (λ (b : Bool). record { to = r .to; refused = b }) (sym e)
+
+-- how far it covers, where nothing has refused it
+unfoldable pub outcome : Reach → Option Float
+outcome r = cond (r .refused) none (some (r .to))
+
+outcome-reached : (r : Reach) → r .refused ≡ false → outcome r ≡ some (r .to)
+unfolding outcome
+outcome-reached r e = rw e
+
+outcome-refused : (r : Reach) → r .refused ≡ true → outcome r ≡ none
+unfolding outcome
+outcome-refused r e = rw e
 
 round-ahead : (c : Float) (o : Option Interval) (is : List Interval) → round c (ahead o is) ≡ round (reachBy c o) is
 unfolding round
@@ -46,35 +63,68 @@ found w ss = intervals (w .from) (w .to) (counting (w .under) ss)
 abbrev pub firm : Way → List Shape → Bool
 firm w ss = allSupport (counting (w .under) ss)
 
-pub pass-is : (w : Way) (c : Float) (ss : List Shape) → pass w (To c) ss ≡ cond (firm w ss) (To (round c (found w ss))) Refused
+pub pass-is : (w : Way) (c : Float) (ss : List Shape) → outcome (pass w (reached c) ss) ≡ cond (firm w ss) (some (round c (found w ss))) none
 unfolding step counting allSupport intervals round
-pass-is w c [] = refl
+pass-is w c [] = outcome-reached (reached c) refl
 pass-is w c (s ∷ ss) = go (λ d. pass-is w d ss) (counts (w .under) (s .box)) refl (s .support) refl
   where
-    go : ((d : Float) → pass w (To d) ss ≡ cond (firm w ss) (To (round d (found w ss))) Refused) →
+    go : ((d : Float) → outcome (pass w (reached d) ss) ≡ cond (firm w ss) (some (round d (found w ss))) none) →
         (t : Bool) → counts (w .under) (s .box) ≡ t → (b : Bool) → s .support ≡ b →
-        pass w (To c) (s ∷ ss) ≡ cond (firm w (s ∷ ss)) (To (round c (found w (s ∷ ss)))) Refused
+        outcome (pass w (reached c) (s ∷ ss)) ≡ cond (firm w (s ∷ ss)) (some (round c (found w (s ∷ ss)))) none
     go f false p b q = rw p (f c)
-    go f true p false q = rw (p, q) (refused-stays w ss)
+    go f true p false q = rw (p, q, refused-stays w (record { to = c; refused = true }) ss refl) (outcome-refused (record { to = c; refused = true }) refl)
     go f true p true q = rw (p, q, round-ahead c (interval (s .box) (w .from) (w .to)) (found w ss)) (f (reachBy c (interval (s .box) (w .from) (w .to))))
 
 -- ---- one shape, by the tests on it
+
+-- an interval that begins before its end and at most E behind what is covered, and any other
+module _ (c : Float) (j : Interval) where
+  abbrev pub joined : Bool
+  joined = le (j .begin) (j .end) && le (j .begin) (add binary64 c E)
+
+  abbrev proper : Option Interval
+  proper = cond (le (j .begin) (j .end)) (some j) none
+
+  pub covers-more : joined ≡ true → reachBy c proper ≡ larger (j .end) c
+  unfolding reachOne joins
+  covers-more e = go (le (j .begin) (j .end)) refl (le (j .begin) (add binary64 c E)) refl e
+    where
+      go : (s : Bool) → le (j .begin) (j .end) ≡ s → (t : Bool) → le (j .begin) (add binary64 c E) ≡ t → (s && t) ≡ true → reachBy c proper ≡ larger (j .end) c
+      go true p true q e = rw (p, q)
+      go true p false q e = cc
+      go false p t q e = cc
+
+  pub covers-none : joined ≡ false → reachBy c proper ≡ c
+  unfolding reachOne joins
+  covers-none e = go (le (j .begin) (j .end)) refl (le (j .begin) (add binary64 c E)) refl e
+    where
+      go : (s : Bool) → le (j .begin) (j .end) ≡ s → (t : Bool) → le (j .begin) (add binary64 c E) ≡ t → (s && t) ≡ false → reachBy c proper ≡ c
+      go true p true q e = cc
+      go true p false q e = rw (p, q)
+      go false p t q e = rw p
 
 module _ (w : Way) (c : Float) (support : Bool) (b : Aabb) where
   abbrev shape : Shape
   shape = record { support = support; box = b }
 
-  pub apart : counts (w .under) b ≡ false → step w (To c) shape ≡ To c
+  -- one that counts and is a support covers more; any other covers nothing, and refuses if it counts
+  pub reaches : {t : Bool} → counts (w .under) b ≡ t → (t && support) ≡ true → step w (reached c) shape ≡ reached (reachBy c (interval b (w .from) (w .to)))
   unfolding step
-  apart p = rw p
+  reaches {t} e h = go t support refl e h
+    where
+      go : (t s : Bool) → support ≡ s → counts (w .under) b ≡ t → (t && s) ≡ true → step w (reached c) shape ≡ reached (reachBy c (interval b (w .from) (w .to)))
+      go true true p q r = rw (p, q)
+      go true false p q r = cc
+      go false s p q r = cc
 
-  pub refuses : counts (w .under) b ≡ true → support ≡ false → step w (To c) shape ≡ Refused
+  pub stops : {t : Bool} → counts (w .under) b ≡ t → (t && support) ≡ false → step w (reached c) shape ≡ record { to = c; refused = t }
   unfolding step
-  refuses p q = rw (p, q)
-
-  pub reaches : counts (w .under) b ≡ true → support ≡ true → step w (To c) shape ≡ To (reachBy c (interval b (w .from) (w .to)))
-  unfolding step
-  reaches p q = rw (p, q)
+  stops {t} e h = go t support refl e h
+    where
+      go : (t s : Bool) → support ≡ s → counts (w .under) b ≡ t → (t && s) ≡ false → step w (reached c) shape ≡ record { to = c; refused = t }
+      go true true p q r = cc
+      go true false p q r = rw (p, q)
+      go false s p q r = rw q
 
 -- ---- a run of boxes
 
@@ -91,13 +141,17 @@ module _ (w : Way) (support : Bool) (by : Point) (s : List ℕ) (at : ℕ) where
       after r left ≡ pass w q (runShapes support by s (left - 1) (at + 48))
   run-on r q left b h e t = rw (boxes-more s at left b h e) (ap (λ (x : Reach). pass w x (runShapes support by s (left - 1) (at + 48))) t)
 
-  pub run-refused : (r : Reach) (left : ℕ) (b : Aabb) → 0 < left → boxHere s at ≡ Here b → step w r (record { support = support; box = moved b by }) ≡ Refused →
-      after r left ≡ Refused
-  run-refused r left b h e t = run-on r Refused left b h e t ∙ refused-stays w (runShapes support by s (left - 1) (at + 48))
-
-  -- no box is left
+  -- no box is left, or the pass is refused
   pub run-none : (r : Reach) (left : ℕ) → left ≤ 0 → after r left ≡ r
   run-none r left h = let z : left ≡ 0 = omega arith in rw (z, boxes-none s at)
+
+  pub run-stops : (r : Reach) (left : ℕ) → (ltb 0 left && not (r .refused)) ≡ false → after r left ≡ r
+  run-stops r left e = go (ltb 0 left) refl (r .refused) refl e
+    where
+      go : (t : Bool) → ltb 0 left ≡ t → (b : Bool) → r .refused ≡ b → (t && not b) ≡ false → after r left ≡ r
+      go false p b q e = run-none r left (ltb-false 0 left p)
+      go true p true q e = refused-stays w r (runShapes support by s left at) q
+      go true p false q e = cc
 
 -- past its end a table has no boxes
 pub past : (w : Way) (support : Bool) (by : Point) (s : List ℕ) (n left : ℕ) (r : Reach) → length s < n → pass w r (runShapes support by (drop n s) left 0) ≡ r
@@ -124,8 +178,23 @@ module _ (w : Way) (f : ℕ → List Shape) (r : Reach) (k n : ℕ) (h : k < n) 
   pub pass-on : (q : Reach) → pass w r (f k) ≡ q → pass w r (gather f k (n - k)) ≡ pass w q (gather f (k + 1) (n - (k + 1)))
   pass-on q e = fold-goes-on (step w) f r k n h ∙ ap (λ (x : Reach). pass w x (gather f (k + 1) (n - (k + 1)))) e
 
-  pub pass-refused : pass w r (f k) ≡ Refused → pass w r (gather f k (n - k)) ≡ Refused
-  pass-refused e = pass-on Refused e ∙ refused-stays w (gather f (k + 1) (n - (k + 1)))
+-- the end, or a pass that is refused
+pub pass-stops : (w : Way) (f : ℕ → List Shape) (r : Reach) (k n : ℕ) → (ltb k n && not (r .refused)) ≡ false → pass w r (gather f k (n - k)) ≡ r
+pass-stops w f r k n e = go (ltb k n) refl (r .refused) refl e
+  where
+    go : (t : Bool) → ltb k n ≡ t → (b : Bool) → r .refused ≡ b → (t && not b) ≡ false → pass w r (gather f k (n - k)) ≡ r
+    go false p b q e = fold-ends (step w) f r k n (ltb-false k n p)
+    go true p true q e = refused-stays w r (gather f k (n - k)) q
+    go true p false q e = cc
+
+-- a turn is taken
+pub turns : (k n : ℕ) (r : Reach) → (ltb k n && not (r .refused)) ≡ true → (k < n) × (reached (r .to) ≡ r)
+turns k n r e = go (ltb k n) refl (r .refused) refl e
+  where
+    go : (t : Bool) → ltb k n ≡ t → (b : Bool) → r .refused ≡ b → (t && not b) ≡ true → (k < n) × (reached (r .to) ≡ r)
+    go true p false q e = (ltb-true k n p, unrefused r q)
+    go true p true q e = absurd (let z : _≡_ {A = ℕ} 0 1 = cc in omega arith)
+    go false p b q e = absurd (let z : _≡_ {A = ℕ} 0 1 = cc in omega arith)
 
 -- ---- what each turn of the three loops passes over
 
@@ -163,40 +232,68 @@ module _ (w : Way) (ss : List Shape) where
   left c = beyond c (found w ss)
 
   -- by what a pass says
-  told-refused : (c : Float) → pass w (To c) ss ≡ Refused → firm w ss ≡ false
-  told-refused c e = go (firm w ss) refl (sym (pass-is w c ss) ∙ e)
-    where
-      go : (b : Bool) → firm w ss ≡ b → cond b (To (round c (found w ss))) Refused ≡ Refused → firm w ss ≡ false
-      go true p q = absurd (let z : _≡_ {A = ℕ} 0 1 = cc in omega arith)
-      go false p q = p
+  module _ (c : Float) (d : Reach) (e : pass w (reached c) ss ≡ d) where
+    told : outcome d ≡ cond (firm w ss) (some (round c (found w ss))) none
+    told = ap outcome (sym e) ∙ pass-is w c ss
 
-  told-to : (c d : Float) → pass w (To c) ss ≡ To d → (firm w ss ≡ true) × (round c (found w ss) ≡ d)
-  told-to c d e = go (firm w ss) refl (sym (pass-is w c ss) ∙ e)
-    where
-      go : (b : Bool) → firm w ss ≡ b → cond b (To (round c (found w ss))) Refused ≡ To d → (firm w ss ≡ true) × (round c (found w ss) ≡ d)
-      go true p q = (p, cc)
-      go false p q = absurd (let z : _≡_ {A = ℕ} 0 1 = cc in omega arith)
+    told-refused : d .refused ≡ true → firm w ss ≡ false
+    told-refused h = go (firm w ss) refl (sym (outcome-refused d h) ∙ told)
+      where
+        go : (b : Bool) → firm w ss ≡ b → none ≡ cond b (some (round c (found w ss))) none → firm w ss ≡ false
+        go true p q = absurd (let z : _≡_ {A = ℕ} 0 1 = cc in omega arith)
+        go false p q = p
+
+    told-to : d .refused ≡ false → (firm w ss ≡ true) × (round c (found w ss) ≡ d .to)
+    told-to h = go (firm w ss) refl (sym (outcome-reached d h) ∙ told)
+      where
+        go : (b : Bool) → firm w ss ≡ b → some (d .to) ≡ cond b (some (round c (found w ss))) none → (firm w ss ≡ true) × (round c (found w ss) ≡ d .to)
+        go true p q = (p, cc)
+        go false p q = absurd (let z : _≡_ {A = ℕ} 0 1 = cc in omega arith)
+
+    refused-verdict : d .refused ≡ true → verdict c ≡ false
+    refused-verdict h = rw (told-refused h)
+
+    more : d .refused ≡ false → lt c (d .to) ≡ true → lt c (round c (found w ss)) ≡ true
+    more h k = ap (lt c) (told-to h .1) ∙ k
+
+    enough-verdict : d .refused ≡ false → enough (d .to) ≡ true → verdict c ≡ true
+    enough-verdict h k = rw (told-to h .0) (ends-enough (found w ss) c (ap enough (told-to h .1) ∙ k))
+
+    short-verdict : d .refused ≡ false → enough (d .to) ≡ false → lt c (d .to) ≡ false → verdict c ≡ false
+    short-verdict h k l = rw (told-to h .0) (ends-short (found w ss) c (ap enough (told-to h .1) ∙ k) (ap (lt c) (told-to h .1) ∙ l))
+
+    -- the test of the code: whether this pass is the last
+    abbrev pub last : Bool
+    last = (d .refused || enough (d .to)) || not (lt c (d .to))
+
+    pub carried-ends : last ≡ true → verdict c ≡ enough (d .to) && not (d .refused)
+    carried-ends t = go (d .refused) refl (enough (d .to)) refl (lt c (d .to)) refl t
+      where
+        go : (r : Bool) → d .refused ≡ r → (s : Bool) → enough (d .to) ≡ s → (l : Bool) → lt c (d .to) ≡ l → ((r || s) || not l) ≡ true → verdict c ≡ s && not r
+        go true p true q l k t = refused-verdict p
+        go true p false q l k t = refused-verdict p
+        go false p true q l k t = enough-verdict p q
+        go false p false q false k t = short-verdict p q k
+        go false p false q true k t = cc
+
+    goes-further : last ≡ false → (d .refused ≡ false) × (lt c (d .to) ≡ true)
+    goes-further t = go (d .refused) refl (enough (d .to)) (lt c (d .to)) refl t
+      where
+        go : (r : Bool) → d .refused ≡ r → (s l : Bool) → lt c (d .to) ≡ l → ((r || s) || not l) ≡ false → (d .refused ≡ false) × (lt c (d .to) ≡ true)
+        go true p s l k t = absurd (let z : _≡_ {A = ℕ} 0 1 = cc in omega arith)
+        go false p true l k t = absurd (let z : _≡_ {A = ℕ} 0 1 = cc in omega arith)
+        go false p false true k t = (p, k)
+        go false p false false k t = absurd (let z : _≡_ {A = ℕ} 0 1 = cc in omega arith)
+
+    pub carried-on : last ≡ false → verdict c ≡ verdict (d .to)
+    carried-on t =
+        let h = goes-further t .0 in
+        let k = goes-further t .1 in
+        ap (λ (b : Bool). firm w ss && b) (goes-on (found w ss) c (more h k) ∙ ap (λ (x : Float). enough (limit (found w ss) x)) (told-to h .1))
+
+    pub carried-falls : last ≡ false → left (d .to) < left c
+    carried-falls t = let h = goes-further t .0 in let k = goes-further t .1 in rw (told-to h .1) at (falls (found w ss) c (more h k))
 
   pub carried-begins : carried (w .under) (w .from) (w .to) ss ≡ verdict nought
   unfolding carried
   carried-begins = ap (λ (b : Bool). firm w ss && b) (begins (found w ss))
-
-  pub carried-refused : (c : Float) → pass w (To c) ss ≡ Refused → verdict c ≡ false
-  carried-refused c e = rw (told-refused c e)
-
-  module _ (c d : Float) (e : pass w (To c) ss ≡ To d) where
-    pub carried-enough : enough d ≡ true → verdict c ≡ true
-    carried-enough h = rw (told-to c d e .0) (ends-enough (found w ss) c (ap enough (told-to c d e .1) ∙ h))
-
-    pub carried-short : enough d ≡ false → lt c d ≡ false → verdict c ≡ false
-    carried-short h k = rw (told-to c d e .0) (ends-short (found w ss) c (ap enough (told-to c d e .1) ∙ h) (ap (lt c) (told-to c d e .1) ∙ k))
-
-    more : lt c d ≡ true → lt c (round c (found w ss)) ≡ true
-    more k = ap (lt c) (told-to c d e .1) ∙ k
-
-    pub carried-on : lt c d ≡ true → verdict c ≡ verdict d
-    carried-on k =
-        ap (λ (b : Bool). firm w ss && b) (goes-on (found w ss) c (more k) ∙ ap (λ (x : Float). enough (limit (found w ss) x)) (told-to c d e .1))
-
-    pub carried-falls : lt c d ≡ true → left d < left c
-    carried-falls k = rw (told-to c d e .1) at (falls (found w ss) c (more k))

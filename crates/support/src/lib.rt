@@ -28,8 +28,8 @@ pub struct Way {
     pub under: Aabb,
 }
 
-// How far a pass covers the centre line from 0 on, or that a shape refuses it.
-pub enum Reach {
-    Refused,
-    To(f64),
+// How far a pass covers the centre line from 0 on, and whether a shape refused it there.
+pub struct Reach {
+    pub to: f64,
+    pub refused: bool,
 }

@@ -1,6 +1,7 @@
-// The part of a way's centre line that lies above a box (01: "The centre-line intervals, borders included").
+// The part of a way's centre line that lies above a box (01: "The centre-line intervals, borders included"), and what it makes of what is covered.
 ghost use mathlib.Core.Path.{_≡_};
 ghost use Rattle.support.specs.Support.{told, narrowed, interval};
+ghost use Rattle.support.specs.Pass.{reachBy};
 use crate::Interval;
 use crate::Span;
 use world::Aabb;
@@ -24,23 +25,23 @@ fn narrow(start: f64, delta: f64, least: f64, greatest: f64, i: Interval) -> Spa
     })
 }
 
-// The part of the centre line above a box.
-pub(crate) fn support_interval(b: Aabb, from: Point, to: Point) -> Span
-    ensures { λ r. ⌜ told r ≡ interval b from to ⌝ }
+// What is covered with the part of the centre line above a box, where that begins at most E behind what was.
+pub(crate) fn reach_over(b: Aabb, from: Point, to: Point, covered: f64) -> f64
+    ensures { λ r. ⌜ r ≡ reachBy covered (interval b from to) ⌝ }
 {
     let all = Interval {
         begin: 0.0,
         end: 1.0,
     };
     let Span::Over(i) = narrow(from.x, to.x - from.x, b.min.x, b.max.x, all) else {
-        return Span::Nowhere;
+        return covered;
     };
     let Span::Over(j) = narrow(from.z, to.z - from.z, b.min.z, b.max.z, i) else {
-        return Span::Nowhere;
+        return covered;
     };
-    if j.begin <= j.end {
-        Span::Over(j)
+    if (j.begin <= j.end) & (j.begin <= covered + floats::E) {
+        floats::max(j.end, covered)
     } else {
-        Span::Nowhere
+        covered
     }
 }

@@ -1,12 +1,9 @@
 // What one shape does to a way: the footprint that it must lie under, whether it counts, and how far it covers the centre line, of what is covered
 // so far. A shape that counts and is no support refuses the way.
 ghost use mathlib.Core.Path.{_≡_};
-ghost use Rattle.support.specs.Cover.{reachOne};
 ghost use Rattle.support.specs.Support.{footprint, counts};
-ghost use Rattle.support.specs.Pass.{step};
-use crate::Interval;
+ghost use Rattle.support.specs.Pass.{reached, step};
 use crate::Reach;
-use crate::Span;
 use crate::Way;
 use world::Aabb;
 use world::Point;
@@ -42,29 +39,19 @@ fn counts(f: Aabb, b: Aabb) -> bool
         & (f.min.z < b.max.z)
 }
 
-// What one more interval makes of what is covered.
-fn reach_one(covered: f64, i: Interval) -> f64
-    ensures { λ r. ⌜ r ≡ reachOne covered i ⌝ }
-{
-    if i.begin <= covered + floats::E {
-        floats::max(i.end, covered)
-    } else {
-        covered
-    }
-}
-
-// What one more shape makes of a pass.
+// What one more shape makes of a pass that nothing has refused.
 pub fn reach_shape(way: Way, support: bool, b: Aabb, covered: f64) -> Reach
-    ensures { λ r. ⌜ r ≡ step way (Reach.To covered) (record { support = support; box = b }) ⌝ }
+    ensures { λ r. ⌜ r ≡ step way (reached covered) (record { support = support; box = b }) ⌝ }
 {
-    if !counts(way.under, b) {
-        return Reach::To(covered);
+    let met = counts(way.under, b);
+    if met & support {
+        return Reach {
+            to: crate::line::reach_over(b, way.from, way.to, covered),
+            refused: false,
+        };
     }
-    if !support {
-        return Reach::Refused;
+    Reach {
+        to: covered,
+        refused: met,
     }
-    let Span::Over(i) = crate::line::support_interval(b, way.from, way.to) else {
-        return Reach::To(covered);
-    };
-    Reach::To(reach_one(covered, i))
 }

@@ -50,12 +50,6 @@ pub struct Window {
     pub sz: u32,
 }
 
-// A place in a row or in a table.
-pub enum Place {
-    At(usize),
-    Out,
-}
-
 // The two numbers of a record of 8 bytes, where there is one: a cell's state and shape, or a shape's first box and count.
 pub enum Entry {
     Of(u32, u32),

@@ -1,59 +1,28 @@
 // The space that the tables are (01, "Tables, little-endian records"): which record of the cell table a cell is, what its state and its shape
 // make of it, and the box records. Each record is read once, and nothing is divided but by a power of two.
 ghost use mathlib.Core.Path.{_≡_};
-ghost use Prim.Native.Nat.{_+_, _*_, _<_, _≤_};
+ghost use Prim.Native.Nat.{_+_, _≤_};
 ghost use lib.IntN.{_-ℤ_};
 ghost use lib.ListN.{length};
-ghost use Rattle.world.specs.Space.{place, recordOf, entryAt, ofParts, known, cellAt, pointAt, boxHere};
+ghost use Rattle.world.specs.Space.{place, far, recordOf, entryAt, entryIn, ofParts, known, cellAt, pointAt, boxHere};
 use crate::Aabb;
 use crate::Cell;
 use crate::Entry;
 use crate::Found;
-use crate::Place;
 use crate::Point;
 use crate::Window;
 
-// How far a number is from an origin, where it is inside. A size above 256, which no window of a good world has, holds nothing: so no index
-// below can wrap.
-fn along(origin: i32, size: u32, at: i64) -> Place
-    ensures { λ r. ⌜ r ≡ place (at -ℤ origin) size ⌝ }
+// How far a number is from an origin, or 256, which no place in a row is, where it is outside. A size above 256, which no window of a good world
+// has, holds nothing: so no index below can wrap.
+fn along(origin: i32, size: u32, at: i64) -> usize
+    ensures { λ r. ⌜ r ≡ far (place (at -ℤ origin) size) ⌝ }
 {
-    if size > 256 {
-        return Place::Out;
-    }
     let low = origin as i64;
-    if at < low {
-        return Place::Out;
+    if (size <= 256) & (low <= at) & (at < low + (size as i64)) {
+        (at - low) as usize
+    } else {
+        256
     }
-    let end = low + (size as i64);
-    if end <= at {
-        return Place::Out;
-    }
-    Place::At((at - low) as usize)
-}
-
-// A record's number, of its places in a row, a layer and the table.
-fn index(sx: u32, sz: u32, i: usize, j: usize, k: usize) -> usize
-    requires { ⌜ (sx ≤ 256) × (sz ≤ 256) × (i < 256) × (j < 256) × (k < 256) ⌝ }
-    ensures { λ r. ⌜ r ≡ i + sx * (k + sz * j) ⌝ }
-{
-    i + (sx as usize) * (k + (sz as usize) * j)
-}
-
-// The record of the cell table that a cell is.
-fn record_of(w: Window, x: i64, y: i64, z: i64) -> Place
-    ensures { λ r. ⌜ r ≡ recordOf w x y z ⌝ }
-{
-    let Place::At(i) = along(w.x, w.sx, x) else {
-        return Place::Out;
-    };
-    let Place::At(j) = along(w.y, w.sy, y) else {
-        return Place::Out;
-    };
-    let Place::At(k) = along(w.z, w.sz, z) else {
-        return Place::Out;
-    };
-    Place::At(index(w.sx, w.sz, i, j, k))
 }
 
 // The two numbers of record i of a table of 8-byte records, by one read of 8 bytes.
@@ -69,26 +38,29 @@ pub fn entry_at(s: &[u8], i: usize) -> Entry
     Entry::Of(low, high)
 }
 
+// The two numbers of the record of the cell table that a cell is: x runs fastest, then z, then y.
+fn entry_of(w: Window, cells: &[u8], x: i64, y: i64, z: i64) -> Entry
+    ensures { λ r. ⌜ r ≡ entryIn (now (cells .entry)) (recordOf w x y z) ⌝ }
+{
+    let i = along(w.x, w.sx, x);
+    let j = along(w.y, w.sy, y);
+    let k = along(w.z, w.sz, z);
+    if (i < 256) & (j < 256) & (k < 256) {
+        entry_at(cells, i + (w.sx as usize) * (k + (w.sz as usize) * j))
+    } else {
+        Entry::Missing
+    }
+}
+
 // A known cell of a permission byte, and of a shape's first box and count.
 fn of_parts(p: u8, first: u32, count: u32) -> Cell
     ensures { λ r. ⌜ r ≡ ofParts p first count ⌝ }
 {
-    let occupied = p % 2 == 1;
-    let support = p / 2 % 2 == 1;
-    if p / 4 % 2 == 1 {
-        Cell::Known {
-            occupied,
-            support,
-            first,
-            count,
-        }
-    } else {
-        Cell::Known {
-            occupied,
-            support,
-            first,
-            count: 0,
-        }
+    Cell::Known {
+        occupied: p % 2 == 1,
+        support: p / 2 % 2 == 1,
+        first,
+        count: ((p / 4 % 2) as u32) * count,
     }
 }
 
@@ -110,10 +82,7 @@ fn known_cell(perms: &[u8], shapes: &[u8], state: u32, shape: u32) -> Cell
 pub fn cell_at(w: Window, cells: &[u8], perms: &[u8], shapes: &[u8], x: i64, y: i64, z: i64) -> Cell
     ensures { λ r. ⌜ r ≡ cellAt w (now (cells .entry)) (now (perms .entry)) (now (shapes .entry)) x y z ⌝ }
 {
-    let Place::At(i) = record_of(w, x, y, z) else {
-        return Cell::Unknown;
-    };
-    let Entry::Of(state, shape) = entry_at(cells, i) else {
+    let Entry::Of(state, shape) = entry_of(w, cells, x, y, z) else {
         return Cell::Unknown;
     };
     known_cell(perms, shapes, state, shape)

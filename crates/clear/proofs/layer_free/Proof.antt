@@ -1,10 +1,9 @@
 -- `clear::layer_free` meets its contract. Assumes nothing.
-use Prim.Native.Nat.{ℕ, _-_}
+use Prim.Native.Nat.{ℕ, _-_, _<_}
 use native.Mathlib.Omega.{arith}
-use mathlib.Core.Bool.{Bool}
+use mathlib.Core.Bool.{Bool, _&&_}
 use mathlib.Core.List.{List}
 use mathlib.Core.Path.{_≡_, sym, _∙_}
-use borrow.Author.Tests.{not-true, not-false}
 use denote.Ref.{now}
 use mir.Syntax.{w64}
 use mir.Val.{toZ, ofZ}
@@ -15,7 +14,7 @@ use Rattle.world.specs.declared.Window.{Window}
 use Rattle.world.specs.declared.Aabb.{Aabb}
 use Rattle.world.specs.Space.{space}
 use Rattle.clear.specs.Clear.{holds, layerFree}
-use Rattle.clear.specs.Laws.{rowOf, layer-is, begins, fails, goes-on, ends}
+use Rattle.clear.specs.Laws.{rowOf, layer-is, begins, turn, goes-on, ends}
 use Rattle.clear.proofs.layer_free.Statement.{statement}
 use Rattle.clear.proofs.layer_free.Tie as tie
 
@@ -24,11 +23,11 @@ abbrev Turn : Window → List ℕ → List ℕ → List ℕ → List ℕ → Aab
 Turn w cells perms shapes boxes area y xs zs = rowOf (space w cells perms shapes boxes) area (toZ w64 y) xs zs
 
 abbrev Inv-loop : tie.InvT-loop
-Inv-loop w cells perms shapes boxes area y xs zs k₀ k =
-    holds (Turn w cells perms shapes boxes area y xs zs) 0 (xs .count) ≡ holds (Turn w cells perms shapes boxes area y xs zs) k (xs .count - k)
+Inv-loop w cells perms shapes boxes area y xs zs free₀ k₀ free k =
+    holds (Turn w cells perms shapes boxes area y xs zs) 0 (xs .count) ≡ free && holds (Turn w cells perms shapes boxes area y xs zs) k (xs .count - k)
 
 abbrev μ-loop : tie.MeasureT-loop
-μ-loop w cells perms shapes boxes area y xs zs k₀ k = xs .count - k
+μ-loop w cells perms shapes boxes area y xs zs free₀ k₀ free k = xs .count - k
 
 -- the same, of a start
 abbrev at : (s : tie.Start Inv-loop μ-loop) → ℕ → Bool
@@ -38,36 +37,38 @@ whole : (s : tie.Start Inv-loop μ-loop) →
     layerFree (space (s .args .w) (now (s .args .cells)) (now (s .args .perms)) (now (s .args .shapes)) (now (s .args .boxes))) (s .args .area) (s .args .y) (s .args .xs) (s .args .zs) ≡ holds (at s) 0 (s .args .xs .count)
 whole s = rw (toZ-ofZ {w = w64} (s .fits .y)) (layer-is _ _ _ _ _)
 
-one : (c : tie.After-row-free Inv-loop μ-loop) → at (c .before .before .before .before .before .before .before .before .before .before) (c .before .before .before .before .before .loop .k) ≡ c .row-free .result
-unfolding rowOf
-one c = sym (rw (number-is (c .before .before .before .before .before .before .before .before .before .before .args .xs) (c .before .before .before .before .before .before .before .before .before .before .pre .0) (c .before .before .before .before .before .loop .k) (c .before .before .before .if1 .taken)) at (c .row-free .ensures))
+-- a turn, and what it asks
+module _ (c : tie.After-row-free Inv-loop μ-loop) where
+  inside : c .before .before .before .before .before .loop .k < c .before .before .before .before .before .before .before .before .before .before .args .xs .count
+  inside = turn (c .before .before .before .before .before .loop .k) (c .before .before .before .before .before .before .before .before .before .before .args .xs .count) (c .before .before .before .before .before .loop .free) (c .before .before .before .if1 .taken)
+
+  one : at (c .before .before .before .before .before .before .before .before .before .before) (c .before .before .before .before .before .loop .k) ≡ c .row-free .result
+  unfolding rowOf
+  one = sym (rw (number-is (c .before .before .before .before .before .before .before .before .before .before .args .xs) (c .before .before .before .before .before .before .before .before .before .before .pre .0) (c .before .before .before .before .before .loop .k) inside) at (c .row-free .ensures))
 
 loop-holds : tie.Need-loop-holds Inv-loop μ-loop
 loop-holds c = begins (at (c .before .before .before .before)) (c .before .before .before .before .args .xs .count)
 
 cast-x : tie.Need-cast-x Inv-loop μ-loop
-cast-x c = record { sfits = omega (arith, c .before .before .before .before .before .before .before .pre .0 .count, c .if1 .taken) }
+cast-x c = record { sfits = omega (arith, c .before .before .before .before .before .before .before .pre .0 .count, turn (c .before .before .loop .k) (c .before .before .before .before .before .before .before .args .xs .count) (c .before .before .loop .free) (c .if1 .taken)) }
 
 add-x : tie.Need-add-x Inv-loop μ-loop
-add-x c = number-fits (c .before .before .before .before .before .before .before .before .before .args .xs) (c .before .before .before .before .before .before .before .before .before .pre .0) (c .before .before .before .before .loop .k) (c .before .before .if1 .taken)
+add-x c = number-fits (c .before .before .before .before .before .before .before .before .before .args .xs) (c .before .before .before .before .before .before .before .before .before .pre .0) (c .before .before .before .before .loop .k) (turn (c .before .before .before .before .loop .k) (c .before .before .before .before .before .before .before .before .before .args .xs .count) (c .before .before .before .before .loop .free) (c .before .before .if1 .taken))
 
 row-free-requires : tie.Need-row-free-requires Inv-loop μ-loop
 row-free-requires c κs = c .before .before .before .before .before .before .before .before .before .pre .1
 
-returns : tie.Need-returns Inv-loop μ-loop
-returns c = sym (whole (c .before .before .before .before .before .before .before .before .before .before .before) ∙ c .before .before .before .before .before .before .loop .inv ∙ fails (at (c .before .before .before .before .before .before .before .before .before .before .before)) (c .before .before .before .before .before .before .loop .k) (c .before .before .before .before .before .before .before .before .before .before .before .args .xs .count) (c .before .before .before .before .if1 .taken) (one (c .before) ∙ not-true _ (c .if2 .taken)))
-
 add-k : tie.Need-add-k Inv-loop μ-loop
-add-k c = omega (arith, c .before .before .before .before .before .before .before .before .before .before .before .pre .0 .count, c .before .before .before .before .if1 .taken)
+add-k c = omega (arith, c .before .before .before .before .before .before .before .before .before .before .pre .0 .count, inside c)
 
 loop-less : tie.Need-loop-less Inv-loop μ-loop
-loop-less c = omega (arith, c .before .before .before .before .if1 .taken)
+loop-less c = omega (arith, inside c)
 
 loop-again : tie.Need-loop-again Inv-loop μ-loop
-loop-again c = c .before .before .before .before .before .before .loop .inv ∙ goes-on (at (c .before .before .before .before .before .before .before .before .before .before .before)) (c .before .before .before .before .before .before .loop .k) (c .before .before .before .before .before .before .before .before .before .before .before .args .xs .count) (c .before .before .before .before .if1 .taken) (one (c .before) ∙ not-false _ (c .if2 .left))
+loop-again c = c .before .before .before .before .before .loop .inv ∙ goes-on (at (c .before .before .before .before .before .before .before .before .before .before)) (c .before .before .before .before .before .loop .k) (c .before .before .before .before .before .before .before .before .before .before .args .xs .count) (c .before .before .before .before .before .loop .free) _ (c .before .before .before .if1 .taken) (one c)
 
-returns-2 : tie.Need-returns-2 Inv-loop μ-loop
-returns-2 c = sym (whole (c .before .before .before .before .before .before .before) ∙ c .before .before .loop .inv ∙ ends (at (c .before .before .before .before .before .before .before)) (c .before .before .loop .k) (c .before .before .before .before .before .before .before .args .xs .count) (c .if1 .left))
+returns : tie.Need-returns Inv-loop μ-loop
+returns c = sym (whole (c .before .before .before .before .before .before .before) ∙ c .before .before .loop .inv ∙ ends (at (c .before .before .before .before .before .before .before)) (c .before .before .loop .k) (c .before .before .before .before .before .before .before .args .xs .count) (c .before .before .loop .free) (c .if1 .left))
 
 pub layer-free-spec : {M : Type 1} → statement M
 layer-free-spec =
@@ -79,8 +80,7 @@ layer-free-spec =
     cast-x
     add-x
     row-free-requires
-    returns
     add-k
     loop-less
     loop-again
-    returns-2)
+    returns)

@@ -1,10 +1,9 @@
 -- `clear::row_free` meets its contract. Assumes nothing.
-use Prim.Native.Nat.{ℕ, _-_}
+use Prim.Native.Nat.{ℕ, _-_, _<_}
 use native.Mathlib.Omega.{arith}
-use mathlib.Core.Bool.{Bool}
+use mathlib.Core.Bool.{Bool, _&&_}
 use mathlib.Core.List.{List}
 use mathlib.Core.Path.{_≡_, sym, _∙_}
-use borrow.Author.Tests.{not-true, not-false}
 use denote.Ref.{now}
 use mir.Syntax.{w64}
 use mir.Val.{toZ, ofZ}
@@ -15,7 +14,7 @@ use Rattle.world.specs.declared.Window.{Window}
 use Rattle.world.specs.declared.Aabb.{Aabb}
 use Rattle.world.specs.Space.{space}
 use Rattle.clear.specs.Clear.{holds, rowFree}
-use Rattle.clear.specs.Laws.{cellOf, row-is, begins, fails, goes-on, ends}
+use Rattle.clear.specs.Laws.{cellOf, row-is, begins, turn, goes-on, ends}
 use Rattle.clear.proofs.row_free.Statement.{statement}
 use Rattle.clear.proofs.row_free.Tie as tie
 
@@ -24,11 +23,11 @@ abbrev Turn : Window → List ℕ → List ℕ → List ℕ → List ℕ → Aab
 Turn w cells perms shapes boxes area x y zs = cellOf (space w cells perms shapes boxes) area (toZ w64 x) (toZ w64 y) zs
 
 abbrev Inv-loop : tie.InvT-loop
-Inv-loop w cells perms shapes boxes area x y zs k₀ k =
-    holds (Turn w cells perms shapes boxes area x y zs) 0 (zs .count) ≡ holds (Turn w cells perms shapes boxes area x y zs) k (zs .count - k)
+Inv-loop w cells perms shapes boxes area x y zs free₀ k₀ free k =
+    holds (Turn w cells perms shapes boxes area x y zs) 0 (zs .count) ≡ free && holds (Turn w cells perms shapes boxes area x y zs) k (zs .count - k)
 
 abbrev μ-loop : tie.MeasureT-loop
-μ-loop w cells perms shapes boxes area x y zs k₀ k = zs .count - k
+μ-loop w cells perms shapes boxes area x y zs free₀ k₀ free k = zs .count - k
 
 -- the same, of a start
 abbrev at : (s : tie.Start Inv-loop μ-loop) → ℕ → Bool
@@ -38,36 +37,38 @@ whole : (s : tie.Start Inv-loop μ-loop) →
     rowFree (space (s .args .w) (now (s .args .cells)) (now (s .args .perms)) (now (s .args .shapes)) (now (s .args .boxes))) (s .args .area) (s .args .x) (s .args .y) (s .args .zs) ≡ holds (at s) 0 (s .args .zs .count)
 whole s = rw (toZ-ofZ {w = w64} (s .fits .x), toZ-ofZ {w = w64} (s .fits .y)) (row-is _ _ _ _ _)
 
-one : (c : tie.After-cell-free Inv-loop μ-loop) → at (c .before .before .before .before .before .before .before .before .before .before) (c .before .before .before .before .before .loop .k) ≡ c .cell-free .result
-unfolding cellOf
-one c = sym (rw (number-is (c .before .before .before .before .before .before .before .before .before .before .args .zs) (c .before .before .before .before .before .before .before .before .before .before .pre) (c .before .before .before .before .before .loop .k) (c .before .before .before .if1 .taken)) at (c .cell-free .ensures))
+-- a turn, and what it asks
+module _ (c : tie.After-cell-free Inv-loop μ-loop) where
+  inside : c .before .before .before .before .before .loop .k < c .before .before .before .before .before .before .before .before .before .before .args .zs .count
+  inside = turn (c .before .before .before .before .before .loop .k) (c .before .before .before .before .before .before .before .before .before .before .args .zs .count) (c .before .before .before .before .before .loop .free) (c .before .before .before .if1 .taken)
+
+  one : at (c .before .before .before .before .before .before .before .before .before .before) (c .before .before .before .before .before .loop .k) ≡ c .cell-free .result
+  unfolding cellOf
+  one = sym (rw (number-is (c .before .before .before .before .before .before .before .before .before .before .args .zs) (c .before .before .before .before .before .before .before .before .before .before .pre) (c .before .before .before .before .before .loop .k) inside) at (c .cell-free .ensures))
 
 loop-holds : tie.Need-loop-holds Inv-loop μ-loop
 loop-holds c = begins (at (c .before .before .before .before)) (c .before .before .before .before .args .zs .count)
 
 cast-z : tie.Need-cast-z Inv-loop μ-loop
-cast-z c = record { sfits = omega (arith, c .before .before .before .before .before .before .before .pre .count, c .if1 .taken) }
+cast-z c = record { sfits = omega (arith, c .before .before .before .before .before .before .before .pre .count, turn (c .before .before .loop .k) (c .before .before .before .before .before .before .before .args .zs .count) (c .before .before .loop .free) (c .if1 .taken)) }
 
 add-z : tie.Need-add-z Inv-loop μ-loop
-add-z c = number-fits (c .before .before .before .before .before .before .before .before .before .args .zs) (c .before .before .before .before .before .before .before .before .before .pre) (c .before .before .before .before .loop .k) (c .before .before .if1 .taken)
+add-z c = number-fits (c .before .before .before .before .before .before .before .before .before .args .zs) (c .before .before .before .before .before .before .before .before .before .pre) (c .before .before .before .before .loop .k) (turn (c .before .before .before .before .loop .k) (c .before .before .before .before .before .before .before .before .before .args .zs .count) (c .before .before .before .before .loop .free) (c .before .before .if1 .taken))
 
 cell-free-requires : tie.Need-cell-free-requires Inv-loop μ-loop
 cell-free-requires c κs = tt
 
-returns : tie.Need-returns Inv-loop μ-loop
-returns c = sym (whole (c .before .before .before .before .before .before .before .before .before .before .before) ∙ c .before .before .before .before .before .before .loop .inv ∙ fails (at (c .before .before .before .before .before .before .before .before .before .before .before)) (c .before .before .before .before .before .before .loop .k) (c .before .before .before .before .before .before .before .before .before .before .before .args .zs .count) (c .before .before .before .before .if1 .taken) (one (c .before) ∙ not-true _ (c .if2 .taken)))
-
 add-k : tie.Need-add-k Inv-loop μ-loop
-add-k c = omega (arith, c .before .before .before .before .before .before .before .before .before .before .before .pre .count, c .before .before .before .before .if1 .taken)
+add-k c = omega (arith, c .before .before .before .before .before .before .before .before .before .before .pre .count, inside c)
 
 loop-less : tie.Need-loop-less Inv-loop μ-loop
-loop-less c = omega (arith, c .before .before .before .before .if1 .taken)
+loop-less c = omega (arith, inside c)
 
 loop-again : tie.Need-loop-again Inv-loop μ-loop
-loop-again c = c .before .before .before .before .before .before .loop .inv ∙ goes-on (at (c .before .before .before .before .before .before .before .before .before .before .before)) (c .before .before .before .before .before .before .loop .k) (c .before .before .before .before .before .before .before .before .before .before .before .args .zs .count) (c .before .before .before .before .if1 .taken) (one (c .before) ∙ not-false _ (c .if2 .left))
+loop-again c = c .before .before .before .before .before .loop .inv ∙ goes-on (at (c .before .before .before .before .before .before .before .before .before .before)) (c .before .before .before .before .before .loop .k) (c .before .before .before .before .before .before .before .before .before .before .args .zs .count) (c .before .before .before .before .before .loop .free) _ (c .before .before .before .if1 .taken) (one c)
 
-returns-2 : tie.Need-returns-2 Inv-loop μ-loop
-returns-2 c = sym (whole (c .before .before .before .before .before .before .before) ∙ c .before .before .loop .inv ∙ ends (at (c .before .before .before .before .before .before .before)) (c .before .before .loop .k) (c .before .before .before .before .before .before .before .args .zs .count) (c .if1 .left))
+returns : tie.Need-returns Inv-loop μ-loop
+returns c = sym (whole (c .before .before .before .before .before .before .before) ∙ c .before .before .loop .inv ∙ ends (at (c .before .before .before .before .before .before .before)) (c .before .before .loop .k) (c .before .before .before .before .before .before .before .args .zs .count) (c .before .before .loop .free) (c .if1 .left))
 
 pub row-free-spec : {M : Type 1} → statement M
 row-free-spec =
@@ -79,8 +80,7 @@ row-free-spec =
     cast-z
     add-z
     cell-free-requires
-    returns
     add-k
     loop-less
     loop-again
-    returns-2)
+    returns)

@@ -1,13 +1,11 @@
 -- `segments::carries` meets its contract. The measure is how many intervals end beyond what is covered. Assumes nothing.
 use mathlib.Core.Path.{_≡_, sym, _∙_}
 use mathlib.Core.List.{List}
-use borrow.Author.Needs.{needs}
-use borrow.Author.Tests.{not-true, not-false}
 use denote.Ref.{now}
 use Rattle.world.specs.Space.{space}
 use Rattle.support.specs.Cover.{enough}
 use Rattle.support.specs.Support.{Shape, allShapes, carried}
-use Rattle.support.specs.PassLaws.{verdict, left, carried-begins, carried-refused, carried-enough, carried-short, carried-on, carried-falls}
+use Rattle.support.specs.PassLaws.{verdict, left, carried-begins, carried-ends, carried-on, carried-falls}
 use Rattle.segments.proofs.carries.Statement.{statement}
 use Rattle.segments.proofs.carries.Tie as tie
 
@@ -29,42 +27,19 @@ loop-holds c = carried-begins (c .before .before .before .before .args .way) (un
 reach-all-requires : tie.Need-reach-all-requires Inv-loop μ-loop
 reach-all-requires c κs = (c .before .before .before .before .before .pre .0, c .before .before .before .before .before .pre .1, c .before .before .before .before .before .pre .2)
 
-enum-known-reach : tie.Need-enum-known-reach Inv-loop μ-loop
-enum-known-reach c = search needs
-
-enum-told : tie.Need-enum-told Inv-loop μ-loop
-enum-told c = search needs
-
 returns : tie.Need-returns Inv-loop μ-loop
-returns c = sym (c .before .before .before .loop .inv ∙ carried-refused (c .before .before .before .before .before .before .before .before .args .way) (under (c .before .before .before .before .before .before .before .before)) (c .before .before .before .loop .covered) (sym (c .before .before .reach-all .ensures) ∙ c .enum-told .given .1))
-
-returns-2 : tie.Need-returns-2 Inv-loop μ-loop
 unfolding enough
-returns-2 c = sym (c .before .before .before .before .before .loop .inv ∙ carried-enough (c .before .before .before .before .before .before .before .before .before .before .args .way) (under (c .before .before .before .before .before .before .before .before .before .before)) (c .before .before .before .before .before .loop .covered) _ (sym (c .before .before .before .before .reach-all .ensures) ∙ c .before .before .reach .given .1) (c .if1 .taken))
-
-returns-3 : tie.Need-returns-3 Inv-loop μ-loop
-unfolding enough
-returns-3 c =
-    sym (c .before .before .before .before .before .before .loop .inv ∙ carried-short (c .before .before .before .before .before .before .before .before .before .before .before .args .way) (under (c .before .before .before .before .before .before .before .before .before .before .before)) (c .before .before .before .before .before .before .loop .covered) _ (sym (c .before .before .before .before .before .reach-all .ensures) ∙ c .before .before .before .reach .given .1) (c .before .if1 .left) (not-true _ (c .if2 .taken)))
+returns c = sym (c .before .before .before .before .before .before .loop .inv ∙ carried-ends (c .before .before .before .before .before .before .before .before .before .before .before .args .way) (under (c .before .before .before .before .before .before .before .before .before .before .before)) (c .before .before .before .before .before .before .loop .covered) _ (sym (c .before .before .before .before .before .reach-all .ensures)) (c .before .if1 .taken))
 
 loop-less : tie.Need-loop-less Inv-loop μ-loop
-loop-less c = carried-falls (c .before .before .before .before .before .before .before .before .before .before .before .args .way) (under (c .before .before .before .before .before .before .before .before .before .before .before)) (c .before .before .before .before .before .before .loop .covered) _ (sym (c .before .before .before .before .before .reach-all .ensures) ∙ c .before .before .before .reach .given .1) (not-false _ (c .if2 .left))
+unfolding enough
+loop-less c = carried-falls (c .before .before .before .before .before .before .before .before .before .before .args .way) (under (c .before .before .before .before .before .before .before .before .before .before)) (c .before .before .before .before .before .loop .covered) _ (sym (c .before .before .before .before .reach-all .ensures)) (c .if1 .left)
 
 loop-again : tie.Need-loop-again Inv-loop μ-loop
-loop-again c = c .before .before .before .before .before .before .loop .inv ∙ carried-on (c .before .before .before .before .before .before .before .before .before .before .before .args .way) (under (c .before .before .before .before .before .before .before .before .before .before .before)) (c .before .before .before .before .before .before .loop .covered) _ (sym (c .before .before .before .before .before .reach-all .ensures) ∙ c .before .before .before .reach .given .1) (not-false _ (c .if2 .left))
+unfolding enough
+loop-again c = c .before .before .before .before .before .loop .inv ∙ carried-on (c .before .before .before .before .before .before .before .before .before .before .args .way) (under (c .before .before .before .before .before .before .before .before .before .before)) (c .before .before .before .before .before .loop .covered) _ (sym (c .before .before .before .before .reach-all .ensures)) (c .if1 .left)
 
 pub carries-spec : {M : Type 1} → statement M
 carries-spec =
     tie.close
-    (tie.spec
-    Inv-loop
-    μ-loop
-    loop-holds
-    reach-all-requires
-    enum-known-reach
-    enum-told
-    returns
-    returns-2
-    returns-3
-    loop-less
-    loop-again)
+    (tie.spec Inv-loop μ-loop loop-holds reach-all-requires returns loop-less loop-again)

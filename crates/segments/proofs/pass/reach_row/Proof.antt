@@ -1,22 +1,21 @@
 -- `segments::pass::reach_row` meets its contract. Assumes nothing.
-use Prim.Native.Nat.{ℕ, _-_}
+use Prim.Native.Nat.{ℕ, _-_, _<_}
 use native.Mathlib.Omega.{arith}
 use mathlib.Core.Path.{_≡_, sym, ap, _∙_}
 use mathlib.Core.List.{List}
-use borrow.Author.Needs.{needs}
 use denote.Ref.{now}
 use mir.Syntax.{w64}
 use mir.Val.{toZ, ofZ}
 use mir.Facts.{toZ-ofZ}
 use Rattle.cells.specs.Ranges.{gather}
-use Rattle.cells.specs.RangeLaws.{fold-begins, fold-ends, number-fits, number-is}
+use Rattle.cells.specs.RangeLaws.{fold-begins, number-fits, number-is}
 use Rattle.cells.specs.declared.ranges.Range.{Range}
 use Rattle.world.specs.declared.Window.{Window}
 use Rattle.world.specs.Space.{space}
-use Rattle.support.specs.declared.Reach.the-variants.{To}
+use Rattle.support.specs.declared.Reach.{Reach}
 use Rattle.support.specs.Support.{Shape, rowShapes}
-use Rattle.support.specs.Pass.{step, pass}
-use Rattle.support.specs.PassLaws.{cellOf, row-is, pass-on, pass-refused}
+use Rattle.support.specs.Pass.{reached, step, pass}
+use Rattle.support.specs.PassLaws.{cellOf, row-is, turns, pass-on, pass-stops}
 use Rattle.segments.proofs.pass.reach_row.Statement.{statement}
 use Rattle.segments.proofs.pass.reach_row.Tie as tie
 
@@ -25,12 +24,12 @@ abbrev Turn : Window → List ℕ → List ℕ → List ℕ → List ℕ → ℕ
 Turn w cells perms shapes boxes x y zs = cellOf (space w cells perms shapes boxes) (toZ w64 x) (toZ w64 y) zs
 
 abbrev Inv-loop : tie.InvT-loop
-Inv-loop w cells perms shapes boxes way x y zs covered reached₀ k₀ reached k =
-    pass way (To covered) (gather (Turn w cells perms shapes boxes x y zs) 0 (zs .count))
-    ≡ pass way (To reached) (gather (Turn w cells perms shapes boxes x y zs) k (zs .count - k))
+Inv-loop w cells perms shapes boxes way x y zs covered reach₀ k₀ reach k =
+    pass way (reached covered) (gather (Turn w cells perms shapes boxes x y zs) 0 (zs .count))
+    ≡ pass way reach (gather (Turn w cells perms shapes boxes x y zs) k (zs .count - k))
 
 abbrev μ-loop : tie.MeasureT-loop
-μ-loop w cells perms shapes boxes way x y zs covered reached₀ k₀ reached k = zs .count - k
+μ-loop w cells perms shapes boxes way x y zs covered reach₀ k₀ reach k = zs .count - k
 
 -- the same, of a start
 abbrev at : (s : tie.Start Inv-loop μ-loop) → ℕ → List Shape
@@ -41,51 +40,44 @@ whole : (s : tie.Start Inv-loop μ-loop) →
 whole s = rw (toZ-ofZ {w = w64} (s .fits .x), toZ-ofZ {w = w64} (s .fits .y)) (row-is _ _ _ _)
 
 passed : (s : tie.Start Inv-loop μ-loop) →
-    pass (s .args .way) (To (s .args .covered)) (rowShapes (space (s .args .w) (now (s .args .cells)) (now (s .args .perms)) (now (s .args .shapes)) (now (s .args .boxes))) (s .args .x) (s .args .y) (s .args .zs))
-    ≡ pass (s .args .way) (To (s .args .covered)) (gather (at s) 0 (s .args .zs .count))
-passed s = ap (λ (l : List Shape). pass (s .args .way) (To (s .args .covered)) l) (whole s)
+    pass (s .args .way) (reached (s .args .covered)) (rowShapes (space (s .args .w) (now (s .args .cells)) (now (s .args .perms)) (now (s .args .shapes)) (now (s .args .boxes))) (s .args .x) (s .args .y) (s .args .zs))
+    ≡ pass (s .args .way) (reached (s .args .covered)) (gather (at s) 0 (s .args .zs .count))
+passed s = ap (λ (l : List Shape). pass (s .args .way) (reached (s .args .covered)) l) (whole s)
 
-one : (c : tie.After-reach-cell Inv-loop μ-loop) → pass (c .before .before .before .before .before .before .before .before .before .before .args .way) (To (c .before .before .before .before .before .loop .reached)) (at (c .before .before .before .before .before .before .before .before .before .before) (c .before .before .before .before .before .loop .k)) ≡ c .reach-cell .result
-unfolding cellOf
-one c = sym (rw (number-is (c .before .before .before .before .before .before .before .before .before .before .args .zs) (c .before .before .before .before .before .before .before .before .before .before .pre) (c .before .before .before .before .before .loop .k) (c .before .before .before .if1 .taken)) at (c .reach-cell .ensures))
+-- a turn, and what it makes of the pass
+module _ (c : tie.After-reach-cell Inv-loop μ-loop) where
+  turn : (c .before .before .before .before .before .before .loop .k < c .before .before .before .before .before .before .before .before .before .before .before .args .zs .count) × (reached (c .before .before .before .before .before .before .loop .reach .to) ≡ c .before .before .before .before .before .before .loop .reach)
+  turn = turns (c .before .before .before .before .before .before .loop .k) (c .before .before .before .before .before .before .before .before .before .before .before .args .zs .count) (c .before .before .before .before .before .before .loop .reach) (c .before .before .before .if1 .taken)
+
+  one : pass (c .before .before .before .before .before .before .before .before .before .before .before .args .way) (c .before .before .before .before .before .before .loop .reach) (at (c .before .before .before .before .before .before .before .before .before .before .before) (c .before .before .before .before .before .before .loop .k)) ≡ c .reach-cell .result
+  unfolding cellOf
+  one =
+      ap (λ (r : Reach). pass (c .before .before .before .before .before .before .before .before .before .before .before .args .way) r (at (c .before .before .before .before .before .before .before .before .before .before .before) (c .before .before .before .before .before .before .loop .k))) (sym (turn .1))
+      ∙ sym (rw (number-is (c .before .before .before .before .before .before .before .before .before .before .before .args .zs) (c .before .before .before .before .before .before .before .before .before .before .before .pre) (c .before .before .before .before .before .before .loop .k) (turn .0)) at (c .reach-cell .ensures))
 
 loop-holds : tie.Need-loop-holds Inv-loop μ-loop
-loop-holds c = fold-begins (step (c .before .before .before .before .args .way)) (at (c .before .before .before .before)) (To (c .before .before .before .before .args .covered)) (c .before .before .before .before .args .zs .count)
+loop-holds c = fold-begins (step (c .before .before .before .before .args .way)) (at (c .before .before .before .before)) (reached (c .before .before .before .before .args .covered)) (c .before .before .before .before .args .zs .count)
 
 cast-z : tie.Need-cast-z Inv-loop μ-loop
-cast-z c = record { sfits = omega (arith, c .before .before .before .before .before .before .before .pre .count, c .if1 .taken) }
+cast-z c = record { sfits = omega (arith, c .before .before .before .before .before .before .before .before .pre .count, turns (c .before .before .before .loop .k) (c .before .before .before .before .before .before .before .before .args .zs .count) (c .before .before .before .loop .reach) (c .if1 .taken) .0) }
 
 add-z : tie.Need-add-z Inv-loop μ-loop
-add-z c = number-fits (c .before .before .before .before .before .before .before .before .before .args .zs) (c .before .before .before .before .before .before .before .before .before .pre) (c .before .before .before .before .loop .k) (c .before .before .if1 .taken)
+add-z c = number-fits (c .before .before .before .before .before .before .before .before .before .before .args .zs) (c .before .before .before .before .before .before .before .before .before .before .pre) (c .before .before .before .before .before .loop .k) (turns (c .before .before .before .before .before .loop .k) (c .before .before .before .before .before .before .before .before .before .before .args .zs .count) (c .before .before .before .before .before .loop .reach) (c .before .before .if1 .taken) .0)
 
 reach-cell-requires : tie.Need-reach-cell-requires Inv-loop μ-loop
 reach-cell-requires c κs = tt
 
-enum-known-next : tie.Need-enum-known-next Inv-loop μ-loop
-enum-known-next c = search needs
-
-enum-told : tie.Need-enum-told Inv-loop μ-loop
-enum-told c = search needs
-
-returns : tie.Need-returns Inv-loop μ-loop
-returns c =
-    sym (passed (c .before .before .before .before .before .before .before .before .before .before .before .before) ∙ c .before .before .before .before .before .before .before .loop .inv
-    ∙ pass-refused (c .before .before .before .before .before .before .before .before .before .before .before .before .args .way) (at (c .before .before .before .before .before .before .before .before .before .before .before .before)) (To (c .before .before .before .before .before .before .before .loop .reached)) (c .before .before .before .before .before .before .before .loop .k) (c .before .before .before .before .before .before .before .before .before .before .before .before .args .zs .count) (c .before .before .before .before .before .if1 .taken) (one (c .before .before) ∙ c .enum-told .given .1))
-
 add-k : tie.Need-add-k Inv-loop μ-loop
-add-k c = omega (arith, c .before .before .before .before .before .before .before .before .before .before .before .before .before .pre .count, c .before .before .before .before .before .before .if1 .taken)
+add-k c = omega (arith, c .before .before .before .before .before .before .before .before .before .before .before .pre .count, turn c .0)
 
 loop-less : tie.Need-loop-less Inv-loop μ-loop
-loop-less c = omega (arith, c .before .before .before .before .before .before .if1 .taken)
+loop-less c = omega (arith, turn c .0)
 
 loop-again : tie.Need-loop-again Inv-loop μ-loop
-loop-again c =
-    c .before .before .before .before .before .before .before .before .loop .inv
-    ∙ pass-on (c .before .before .before .before .before .before .before .before .before .before .before .before .before .args .way) (at (c .before .before .before .before .before .before .before .before .before .before .before .before .before)) (To (c .before .before .before .before .before .before .before .before .loop .reached)) (c .before .before .before .before .before .before .before .before .loop .k) (c .before .before .before .before .before .before .before .before .before .before .before .before .before .args .zs .count) (c .before .before .before .before .before .before .if1 .taken) _ (one (c .before .before .before) ∙ c .before .next .given .1)
+loop-again c = c .before .before .before .before .before .before .loop .inv ∙ pass-on (c .before .before .before .before .before .before .before .before .before .before .before .args .way) (at (c .before .before .before .before .before .before .before .before .before .before .before)) (c .before .before .before .before .before .before .loop .reach) (c .before .before .before .before .before .before .loop .k) (c .before .before .before .before .before .before .before .before .before .before .before .args .zs .count) (turn c .0) _ (one c)
 
-returns-2 : tie.Need-returns-2 Inv-loop μ-loop
-returns-2 c =
-    sym (passed (c .before .before .before .before .before .before .before) ∙ c .before .before .loop .inv ∙ fold-ends (step (c .before .before .before .before .before .before .before .args .way)) (at (c .before .before .before .before .before .before .before)) (To (c .before .before .loop .reached)) (c .before .before .loop .k) (c .before .before .before .before .before .before .before .args .zs .count) (c .if1 .left))
+returns : tie.Need-returns Inv-loop μ-loop
+returns c = sym (passed (c .before .before .before .before .before .before .before .before) ∙ c .before .before .before .loop .inv ∙ pass-stops (c .before .before .before .before .before .before .before .before .args .way) (at (c .before .before .before .before .before .before .before .before)) (c .before .before .before .loop .reach) (c .before .before .before .loop .k) (c .before .before .before .before .before .before .before .before .args .zs .count) (c .if1 .left))
 
 pub reach-row-spec : {M : Type 1} → statement M
 reach-row-spec =
@@ -97,10 +89,7 @@ reach-row-spec =
     cast-z
     add-z
     reach-cell-requires
-    enum-known-next
-    enum-told
-    returns
     add-k
     loop-less
     loop-again
-    returns-2)
+    returns)

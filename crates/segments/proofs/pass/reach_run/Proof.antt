@@ -1,7 +1,7 @@
 -- `segments::pass::reach_run` meets its contract. Assumes nothing.
-use Prim.Native.Nat.{_≤_}
+use Prim.Native.Nat.{_≤_, _<_}
 use native.Mathlib.Omega.{arith}
-use mathlib.Core.Path.{_≡_, refl, sym, _∙_}
+use mathlib.Core.Path.{_≡_, refl, sym, ap, _∙_}
 use borrow.Author.Needs.{needs}
 use denote.Ref.{now}
 use lib.ListN.{length}
@@ -9,27 +9,31 @@ use Rattle.world.specs.declared.Found.the-variants.{Here}
 use Rattle.world.specs.Boxes.{moved}
 use Rattle.world.specs.Laws.{box-room}
 use Rattle.world.specs.Space.{boxHere}
-use Rattle.support.specs.declared.Reach.the-variants.{To}
-use Rattle.support.specs.Pass.{step, pass, runShapes}
-use Rattle.support.specs.PassLaws.{run-end, run-on, run-refused, run-none}
+use Rattle.support.specs.declared.Reach.{Reach}
+use Rattle.support.specs.Pass.{reached, step, pass, runShapes}
+use Rattle.support.specs.PassLaws.{turns, run-end, run-on, run-stops}
 use Rattle.segments.proofs.pass.reach_run.Statement.{statement}
 use Rattle.segments.proofs.pass.reach_run.Tie as tie
 
 abbrev Inv-loop : tie.InvT-loop
-Inv-loop part boxes by support way covered reached₀ left₀ at₀ reached left at =
-    (at ≤ length part) × (pass way (To covered) (runShapes support by part boxes 0) ≡ pass way (To reached) (runShapes support by part left at))
+Inv-loop part boxes by support way covered reach₀ left₀ at₀ reach left at =
+    (at ≤ length part) × (pass way (reached covered) (runShapes support by part boxes 0) ≡ pass way reach (runShapes support by part left at))
 
 abbrev μ-loop : tie.MeasureT-loop
-μ-loop part boxes by support way covered reached₀ left₀ at₀ reached left at = left
+μ-loop part boxes by support way covered reach₀ left₀ at₀ reach left at = left
 
--- the box that was read
-here : (c : tie.After-b Inv-loop μ-loop) → boxHere (now (c .before .before .before .before .before .before .args .part)) (c .before .before .before .before .loop .at) ≡ Here (c .b .given .0 .0)
-here c = sym (c .before .before .box-at .ensures) ∙ c .b .given .1
+-- a turn: the box that was read, and what it makes of the pass
+module _ (c : tie.After-reach-shape Inv-loop μ-loop) where
+  turn : (0 < c .before .before .before .before .before .before .before .before .loop .left) × (reached (c .before .before .before .before .before .before .before .before .loop .reach .to) ≡ c .before .before .before .before .before .before .before .before .loop .reach)
+  turn = turns 0 (c .before .before .before .before .before .before .before .before .loop .left) (c .before .before .before .before .before .before .before .before .loop .reach) (c .before .before .before .before .before .before .if1 .taken)
 
--- what it makes of the pass
-stepped : (c : tie.After-reach-shape Inv-loop μ-loop) →
-    step (c .before .before .before .before .before .before .before .before .before .args .way) (To (c .before .before .before .before .before .before .before .loop .reached)) (record { support = c .before .before .before .before .before .before .before .before .before .args .support; box = moved (c .before .before .before .b .given .0 .0) (c .before .before .before .before .before .before .before .before .before .args .by) }) ≡ c .reach-shape .result
-stepped c = sym (rw (c .before .offset .ensures) at (c .reach-shape .ensures))
+  here : boxHere (now (c .before .before .before .before .before .before .before .before .before .before .args .part)) (c .before .before .before .before .before .before .before .before .loop .at) ≡ Here (c .before .before .before .b .given .0 .0)
+  here = sym (c .before .before .before .before .before .box-at .ensures) ∙ c .before .before .before .b .given .1
+
+  stepped : step (c .before .before .before .before .before .before .before .before .before .before .args .way) (c .before .before .before .before .before .before .before .before .loop .reach) (record { support = c .before .before .before .before .before .before .before .before .before .before .args .support; box = moved (c .before .before .before .b .given .0 .0) (c .before .before .before .before .before .before .before .before .before .before .args .by) }) ≡ c .reach-shape .result
+  stepped =
+      ap (λ (r : Reach). step (c .before .before .before .before .before .before .before .before .before .before .args .way) r (record { support = c .before .before .before .before .before .before .before .before .before .before .args .support; box = moved (c .before .before .before .b .given .0 .0) (c .before .before .before .before .before .before .before .before .before .before .args .by) })) (sym (turn .1))
+      ∙ sym (rw (c .before .offset .ensures) at (c .reach-shape .ensures))
 
 loop-holds : tie.Need-loop-holds Inv-loop μ-loop
 loop-holds c = (omega arith, refl)
@@ -44,7 +48,7 @@ enum-told : tie.Need-enum-told Inv-loop μ-loop
 enum-told c = search needs
 
 returns : tie.Need-returns Inv-loop μ-loop
-returns c = sym (c .before .before .before .before .loop .inv .1 ∙ run-end (c .before .before .before .before .before .before .args .way) (c .before .before .before .before .before .before .args .support) (c .before .before .before .before .before .before .args .by) (now (c .before .before .before .before .before .before .args .part)) (c .before .before .before .before .loop .at) (To (c .before .before .before .before .loop .reached)) (c .before .before .before .before .loop .left) (sym (c .before .before .box-at .ensures) ∙ c .enum-told .given .1))
+returns c = sym (c .before .before .before .before .before .loop .inv .1 ∙ run-end (c .before .before .before .before .before .before .before .args .way) (c .before .before .before .before .before .before .before .args .support) (c .before .before .before .before .before .before .before .args .by) (now (c .before .before .before .before .before .before .before .args .part)) (c .before .before .before .before .before .loop .at) (c .before .before .before .before .before .loop .reach) (c .before .before .before .before .before .loop .left) (sym (c .before .before .box-at .ensures) ∙ c .enum-told .given .1))
 
 offset-requires : tie.Need-offset-requires Inv-loop μ-loop
 offset-requires c κs = tt
@@ -52,35 +56,24 @@ offset-requires c κs = tt
 reach-shape-requires : tie.Need-reach-shape-requires Inv-loop μ-loop
 reach-shape-requires c κs = tt
 
-enum-known-next : tie.Need-enum-known-next Inv-loop μ-loop
-enum-known-next c = search needs
-
-enum-told-2 : tie.Need-enum-told-2 Inv-loop μ-loop
-enum-told-2 c = search needs
-
-returns-2 : tie.Need-returns-2 Inv-loop μ-loop
-returns-2 c =
-    sym (c .before .before .before .before .before .before .before .before .before .loop .inv .1
-    ∙ run-refused (c .before .before .before .before .before .before .before .before .before .before .before .args .way) (c .before .before .before .before .before .before .before .before .before .before .before .args .support) (c .before .before .before .before .before .before .before .before .before .before .before .args .by) (now (c .before .before .before .before .before .before .before .before .before .before .before .args .part)) (c .before .before .before .before .before .before .before .before .before .loop .at) (To (c .before .before .before .before .before .before .before .before .before .loop .reached)) (c .before .before .before .before .before .before .before .before .before .loop .left) _ (c .before .before .before .before .before .before .before .before .loop-test .taken) (here (c .before .before .before .before .before)) (stepped (c .before .before) ∙ c .enum-told2 .given .1))
-
 sub-left : tie.Need-sub-left Inv-loop μ-loop
-sub-left c = search needs
+sub-left c = omega (arith, turn c .0)
 
 add-at : tie.Need-add-at Inv-loop μ-loop
-add-at c = omega (arith, box-room (now (c .before .before .before .before .before .before .before .before .before .before .before .before .args .part)) (c .before .before .before .before .before .before .before .before .before .before .loop .at) _ (here (c .before .before .before .before .before .before)))
+add-at c = omega (arith, box-room (now (c .before .before .before .before .before .before .before .before .before .before .args .part)) (c .before .before .before .before .before .before .before .before .loop .at) _ (here c))
 
 loop-less : tie.Need-loop-less Inv-loop μ-loop
-loop-less c = search needs
+loop-less c = omega (arith, turn c .0)
 
 loop-again : tie.Need-loop-again Inv-loop μ-loop
 loop-again c = (
-  box-room (now (c .before .before .before .before .before .before .before .before .before .before .before .before .args .part)) (c .before .before .before .before .before .before .before .before .before .before .loop .at) _ (here (c .before .before .before .before .before .before)),
-  c .before .before .before .before .before .before .before .before .before .before .loop .inv .1
-      ∙ run-on (c .before .before .before .before .before .before .before .before .before .before .before .before .args .way) (c .before .before .before .before .before .before .before .before .before .before .before .before .args .support) (c .before .before .before .before .before .before .before .before .before .before .before .before .args .by) (now (c .before .before .before .before .before .before .before .before .before .before .before .before .args .part)) (c .before .before .before .before .before .before .before .before .before .before .loop .at) (To (c .before .before .before .before .before .before .before .before .before .before .loop .reached)) _ (c .before .before .before .before .before .before .before .before .before .before .loop .left) _ (c .before .before .before .before .before .before .before .before .before .loop-test .taken) (here (c .before .before .before .before .before .before)) (stepped (c .before .before .before) ∙ c .before .next .given .1),
+  box-room (now (c .before .before .before .before .before .before .before .before .before .before .args .part)) (c .before .before .before .before .before .before .before .before .loop .at) _ (here c),
+  c .before .before .before .before .before .before .before .before .loop .inv .1
+      ∙ run-on (c .before .before .before .before .before .before .before .before .before .before .args .way) (c .before .before .before .before .before .before .before .before .before .before .args .support) (c .before .before .before .before .before .before .before .before .before .before .args .by) (now (c .before .before .before .before .before .before .before .before .before .before .args .part)) (c .before .before .before .before .before .before .before .before .loop .at) (c .before .before .before .before .before .before .before .before .loop .reach) _ (c .before .before .before .before .before .before .before .before .loop .left) _ (turn c .0) (here c) (stepped c),
 )
 
-returns-3 : tie.Need-returns-3 Inv-loop μ-loop
-returns-3 c = sym (c .before .loop .inv .1 ∙ run-none (c .before .before .before .args .way) (c .before .before .before .args .support) (c .before .before .before .args .by) (now (c .before .before .before .args .part)) (c .before .loop .at) (To (c .before .loop .reached)) (c .before .loop .left) (c .loop-test .left))
+returns-2 : tie.Need-returns-2 Inv-loop μ-loop
+returns-2 c = sym (c .before .before .loop .inv .1 ∙ run-stops (c .before .before .before .before .args .way) (c .before .before .before .before .args .support) (c .before .before .before .before .args .by) (now (c .before .before .before .before .args .part)) (c .before .before .loop .at) (c .before .before .loop .reach) (c .before .before .loop .left) (c .if1 .left))
 
 pub reach-run-spec : {M : Type 1} → statement M
 reach-run-spec =
@@ -95,11 +88,8 @@ reach-run-spec =
     returns
     offset-requires
     reach-shape-requires
-    enum-known-next
-    enum-told-2
-    returns-2
     sub-left
     add-at
     loop-less
     loop-again
-    returns-3)
+    returns-2)

@@ -4,7 +4,7 @@ use mathlib.Core.Path.{sym}
 use denote.Ref.{now}
 use borrow.Author.Needs.{needs}
 use Rattle.world.specs.Laws.{part-is}
-use Rattle.support.specs.declared.Reach.the-variants.{To}
+use Rattle.support.specs.Pass.{reached}
 use Rattle.support.specs.PassLaws.{past}
 use Rattle.segments.proofs.pass.reach_table.Statement.{statement}
 use Rattle.segments.proofs.pass.reach_table.Tie as tie
@@ -28,7 +28,7 @@ returns : tie.Need-returns
 returns c = rw (part-is (48 * c .before .before .before .before .args .first) (now (c .before .before .before .before .args .table))) at (c .reach-run .ensures)
 
 returns-2 : tie.Need-returns-2
-returns-2 c = sym (past (c .before .before .args .way) (c .before .before .args .support) (c .before .before .args .by) (now (c .before .before .args .table)) (48 * c .before .before .args .first) (c .before .before .args .boxes) (To (c .before .before .args .covered)) (c .if1 .left))
+returns-2 c = sym (past (c .before .before .args .way) (c .before .before .args .support) (c .before .before .args .by) (now (c .before .before .args .table)) (48 * c .before .before .args .first) (c .before .before .args .boxes) (reached (c .before .before .args .covered)) (c .if1 .left))
 
 pub reach-table-spec : {M : Type 1} → statement M
 reach-table-spec =
