@@ -1,16 +1,10 @@
 // The columns around a point: their heights, the edges to them, and which of them the graph looks at.
 use crate::digest;
-use moves::EdgeAnswer;
+use crate::digest::Reached;
 use heights::Height;
 use scene::Scene;
 use sides::Sides;
 use world::Point;
-
-// What a column's heights and edges add to a digest, and whether an edge does not climb.
-struct Reached {
-    digest: u64,
-    level: bool,
-}
 
 // More heights than any column has.
 const MOST: u32 = 65536;
@@ -41,8 +35,8 @@ fn next_height(
     )
 }
 
-// The edge to a height of column n.
-fn edge_to(
+// One more height of column n, and the edge to it.
+fn with_height(
     s: Scene,
     cells: &[u8],
     perms: &[u8],
@@ -51,14 +45,15 @@ fn edge_to(
     from: Point,
     n: usize,
     y: f64,
-) -> EdgeAnswer {
+    c: Reached,
+) -> Reached {
     let at = steps::column_centre(from, n);
     let to = Point {
         x: at.x,
         y,
         z: at.z,
     };
-    edges::edge(
+    let a = edges::edge(
         s.window,
         cells,
         perms,
@@ -68,18 +63,11 @@ fn edge_to(
         s.body,
         from,
         to,
-    )
-}
-
-// One more height, and the answer of the edge to it.
-fn with_height(c: Reached, from: Point, y: f64, a: EdgeAnswer) -> Reached {
-    let level = match a {
-        EdgeAnswer::To(w) => sides::is_level(from, w.feet),
-        EdgeAnswer::Nowhere => false,
-    };
+    );
+    let e = digest::with_edge(digest::with_float(c.digest, y), from, a);
     Reached {
-        digest: digest::with_edge(digest::with_float(c.digest, y), a),
-        level: c.level | level,
+        digest: e.digest,
+        level: c.level | e.level,
     }
 }
 
@@ -101,8 +89,7 @@ fn column(
         let Height::At(y) = last else {
             return c;
         };
-        let a = edge_to(s, cells, perms, shapes, boxes, from, n, y);
-        c = with_height(c, from, y, a);
+        c = with_height(s, cells, perms, shapes, boxes, from, n, y, c);
     }
     c
 }
@@ -125,7 +112,7 @@ pub(crate) fn columns(
             level: false,
         };
         let c = column(s, cells, perms, shapes, boxes, from, n, none);
-        sum = digest::with_bool(c.digest, sides.looked(n));
+        sum = digest::with(c.digest, sides.looked(n) as u64);
         sides = sides.answered(n, c.level);
     }
     sum

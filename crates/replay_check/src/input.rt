@@ -1,32 +1,26 @@
 // Standard input, piece by piece.
 use libc::STDIN_FILENO;
 
-// The next n bytes, at the start of a buffer that has room for them.
-pub(crate) fn take(n: usize, into: &mut [u8]) {
-    if n <= into.len() {
-        io::read_full(STDIN_FILENO, &mut into[..n]);
+// The next n bytes, at the place of record k, 64 bytes each, in a buffer that has room for them.
+pub(crate) fn take(k: u32, n: u32, into: &mut [u8]) {
+    let at = 64 * (k as usize);
+    let end = at + n as usize;
+    if end <= into.len() {
+        io::read_full(STDIN_FILENO, &mut into[at..end]);
     }
 }
 
 // The next number: two bytes, the lower first.
 pub(crate) fn number() -> u32 {
     let mut b = [0u8; 4];
-    take(2, &mut b);
+    take(0, 2, &mut b);
     fields::u32_at(&b, 0)
 }
 
-// The next record of a scene, at its place in a buffer of zeros: its length without the zeros at its end, then its bytes.
-fn record(at: usize, into: &mut [u8]) {
-    let n = number() as usize;
-    if at <= into.len() {
-        take(n, &mut into[at..]);
-    }
-}
-
-// The next records of a scene, 64 bytes each.
+// The next records of a scene, in a buffer of zeros: each its length without the zeros at its end, then its bytes.
 pub(crate) fn records(count: u32, into: &mut [u8]) {
     for k in 0..count {
-        record(64 * (k as usize), into);
+        take(k, number(), into);
     }
 }
 

@@ -45,7 +45,10 @@ fn signed(d: u64, x: i32) -> u64 {
 
 fn of_window(d: u64, w: Window) -> u64 {
     let origin = signed(signed(signed(d, w.x), w.y), w.z);
-    number(number(number(origin, w.sx as u64), w.sy as u64), w.sz as u64)
+    number(
+        number(number(origin, w.sx as u64), w.sy as u64),
+        w.sz as u64,
+    )
 }
 
 fn of_in_use(d: u64, u: InUse) -> u64 {

@@ -4,7 +4,6 @@
 mod digest;
 mod input;
 
-use input::Case;
 use libc::STDOUT_FILENO;
 use scene_state::SceneAnswer;
 
@@ -36,35 +35,17 @@ fn answered(a: SceneAnswer) -> Line {
     }
 }
 
-fn print(l: Line) {
+// The line of an answer and of all tables.
+fn print(answer: SceneAnswer, cells: &[u8], perms: &[u8], shapes: &[u8], boxes: &[u8]) {
+    let l = answered(answer);
+    let a = digest::table(digest::table(l.digest, cells), perms);
+    let d = digest::table(digest::table(a, shapes), boxes);
     io::print_decimal(STDOUT_FILENO, l.number);
     io::write_all(STDOUT_FILENO, b" ");
     io::print_decimal(STDOUT_FILENO, l.record);
     io::write_all(STDOUT_FILENO, b" ");
-    io::print_decimal(STDOUT_FILENO, l.digest);
+    io::print_decimal(STDOUT_FILENO, d);
     io::write_all(STDOUT_FILENO, b"\n");
-}
-
-// One case, from what the case before it left.
-fn one(
-    last: Case,
-    scene: &mut [u8],
-    cells: &mut [u8],
-    perms: &mut [u8],
-    shapes: &mut [u8],
-    boxes: &mut [u8],
-) -> Case {
-    let case = input::next(last, scene);
-    let bytes = input::front(scene, case.length);
-    let l = answered(read_scene::read_scene(bytes, cells, perms, shapes, boxes));
-    let a = digest::table(digest::table(l.digest, cells), perms);
-    let b = digest::table(digest::table(a, shapes), boxes);
-    print(Line {
-        number: l.number,
-        record: l.record,
-        digest: b,
-    });
-    case
 }
 
 fn main() {
@@ -73,16 +54,13 @@ fn main() {
     let mut perms = [0u8; 256];
     let mut shapes = [0u8; 2048];
     let mut boxes = [0u8; 12288];
-    let mut case = input::no_case();
     let count = input::word();
     for _ in 0..count {
-        case = one(
-            case,
-            &mut scene,
-            &mut cells,
-            &mut perms,
-            &mut shapes,
-            &mut boxes,
-        );
+        let case = input::next();
+        let old = input::damage(case, &mut scene);
+        let bytes = input::front(&scene, case.length);
+        let answer = read_scene::read_scene(bytes, &mut cells, &mut perms, &mut shapes, &mut boxes);
+        stores::put_u64(&mut scene, case.place, old);
+        print(answer, &cells, &perms, &shapes, &boxes);
     }
 }

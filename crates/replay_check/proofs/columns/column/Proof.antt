@@ -25,9 +25,6 @@ enum-told c = search needs
 returns : tie.Need-returns Inv-loop μ-loop
 returns c = search needs
 
-edge-to-requires : tie.Need-edge-to-requires Inv-loop μ-loop
-edge-to-requires c κs = search needs
-
 with-height-requires : tie.Need-with-height-requires Inv-loop μ-loop
 with-height-requires c κs = search needs
 
@@ -54,7 +51,6 @@ column-spec =
     enum-known-last
     enum-told
     returns
-    edge-to-requires
     with-height-requires
     add-counter
     loop-less

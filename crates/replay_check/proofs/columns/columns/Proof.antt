@@ -22,8 +22,11 @@ column-requires c κs = search needs
 looked-requires : tie.Need-looked-requires Inv-loop μ-loop
 looked-requires c κs = search needs
 
-with-bool-requires : tie.Need-with-bool-requires Inv-loop μ-loop
-with-bool-requires c κs = search needs
+cast-with : tie.Need-cast-with Inv-loop μ-loop
+cast-with c = search needs
+
+with-requires : tie.Need-with-requires Inv-loop μ-loop
+with-requires c κs = search needs
 
 answered-requires : tie.Need-answered-requires Inv-loop μ-loop
 answered-requires c κs = search needs
@@ -50,7 +53,8 @@ columns-spec =
     loop-holds
     column-requires
     looked-requires
-    with-bool-requires
+    cast-with
+    with-requires
     answered-requires
     add-n
     loop-less

@@ -1,24 +1,26 @@
 -- `replay_check::digest::with_bytes` is safe and ends. Assumes nothing.
 use Prim.Native.Nat.{_-_}
-use lib.ListN.{length}
 use borrow.Author.Needs.{needs}
 use Rattle.replay_check.proofs.digest.with_bytes.Statement.{statement}
 use Rattle.replay_check.proofs.digest.with_bytes.Tie as tie
 
 abbrev Inv-loop : tie.InvT-loop
-Inv-loop d s sum₀ i₀ sum i = Unit
+Inv-loop d room n sum₀ i₀ sum i = Unit
 
 abbrev μ-loop : tie.MeasureT-loop
-μ-loop d s sum₀ i₀ sum i = length s - i
+μ-loop d room n sum₀ i₀ sum i = n - i
 
 loop-holds : tie.Need-loop-holds Inv-loop μ-loop
 loop-holds c = search needs
 
-shared-slice-read-with-byte : tie.Need-shared-slice-read-with-byte Inv-loop μ-loop
-shared-slice-read-with-byte c = search needs
+byte-at-requires : tie.Need-byte-at-requires Inv-loop μ-loop
+byte-at-requires c κs = search needs
 
-with-byte-requires : tie.Need-with-byte-requires Inv-loop μ-loop
-with-byte-requires c κs = search needs
+cast-with : tie.Need-cast-with Inv-loop μ-loop
+cast-with c = search needs
+
+with-requires : tie.Need-with-requires Inv-loop μ-loop
+with-requires c κs = search needs
 
 add-i : tie.Need-add-i Inv-loop μ-loop
 add-i c = search needs
@@ -39,8 +41,9 @@ with-bytes-spec =
     Inv-loop
     μ-loop
     loop-holds
-    shared-slice-read-with-byte
-    with-byte-requires
+    byte-at-requires
+    cast-with
+    with-requires
     add-i
     loop-less
     loop-again

@@ -15,14 +15,11 @@ abbrev μ-loop : tie.MeasureT-loop
 loop-holds : tie.Need-loop-holds Inv-loop μ-loop
 loop-holds c = search needs
 
-cast-record : tie.Need-cast-record Inv-loop μ-loop
-cast-record c = search needs
+number-requires : tie.Need-number-requires Inv-loop μ-loop
+number-requires c κs = search needs
 
-mul-record : tie.Need-mul-record Inv-loop μ-loop
-mul-record c = search needs
-
-record-requires : tie.Need-record-requires Inv-loop μ-loop
-record-requires c κs = search needs
+take-requires : tie.Need-take-requires Inv-loop μ-loop
+take-requires c κs = search needs
 
 add-k : tie.Need-add-k Inv-loop μ-loop
 add-k c = search needs
@@ -46,9 +43,8 @@ records-spec =
     Inv-loop
     μ-loop
     loop-holds
-    cast-record
-    mul-record
-    record-requires
+    number-requires
+    take-requires
     add-k
     loop-less
     loop-again
