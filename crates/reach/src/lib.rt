@@ -12,12 +12,15 @@ use rooms::Feet;
 use rooms::Label;
 use rooms::NodeRecord;
 use visits::Aim;
+use visits::Visit;
+ghost use mathlib.Core.Path.{_≡_};
 ghost use Prim.Native.Nat.{_+_, _*_, _≤_, _<_};
 ghost use lib.ListN.{length};
+ghost use Rattle.rooms.specs.Records.{nodeAt};
 ghost use Rattle.rooms.specs.Rooms.{nobody};
 ghost use Rattle.rooms.specs.Laws.Writes.{WroteNode, WroteEntry};
 ghost use Rattle.visits.specs.Laws.Visits.{childRecord};
-ghost use Rattle.visits.specs.Visits.{Ready, Seen, VisitedIf};
+ghost use Rattle.visits.specs.Visits.{Ready, Seen, countsBy, saysClosed, isShut, VisitedIf};
 
 // Node j written as an open node that is reached from node k, with its entry.
 fn put_open(
@@ -55,18 +58,18 @@ fn again(
     cost: u64,
     to: Feet,
     label: Label,
-) -> Counts
+) -> Visit
     requires { ⌜ Ready (now nodes) (now front) (aim .budget) 1 c ⌝ }
     requires { ⌜ (j < c .retained) × (k < c .retained) ⌝ }
-    ensures { λ r. ⌜ Seen aim k c j cost to label r (now (nodes .entry)) (now (front .entry)) (now (nodes .exit)) (now (front .exit)) ⌝ }
+    ensures { λ v. ⌜ Seen aim k c j cost to label (countsBy c v) (now (nodes .entry)) (now (front .entry)) (now (nodes .exit)) (now (front .exit)) × (saysClosed v ≡ isShut (nodeAt (now (nodes .entry)) j)) ⌝ }
 {
     let old = rooms::get_node(nodes, j);
     if old.closed != 0 {
-        return c;
+        return Visit::Closed;
     }
     let better = cheaper(cost, old.cost);
     if !better {
-        return c;
+        return Visit::Counted(c);
     }
     let waiting = rooms::get_entry(front, j);
     let e = estimate(aim.goal, cost, to);
@@ -74,7 +77,7 @@ fn again(
     let feet = old.feet;
     put_open(nodes, front, j, k, feet, label, cost, entry);
     c.pushed += 1;
-    c
+    Visit::Counted(c)
 }
 
 // A step that an expansion of node k, which is `from`, found: to a known point it may re-parent, a new point is retained while there is room, and else
@@ -88,12 +91,12 @@ pub fn visit(
     mut c: Counts,
     to: Feet,
     label: Label,
-) -> Counts
-    ensures { λ r. ⌜ VisitedIf aim k from c to label r (now (nodes .entry)) (now (front .entry)) (now (nodes .exit)) (now (front .exit)) ⌝ }
+) -> Visit
+    ensures { λ v. ⌜ VisitedIf aim k from c to label v (now (nodes .entry)) (now (front .entry)) (now (nodes .exit)) (now (front .exit)) ⌝ }
 {
     let ready = visits::is_ready(nodes.len(), front.len(), aim.budget, k, c);
     if !ready {
-        return c;
+        return Visit::Counted(c);
     }
     let n = c.retained;
     let j = scans::seek(nodes, n, to);
@@ -103,12 +106,12 @@ pub fn visit(
     }
     if aim.budget <= n {
         c.dropped += 1;
-        return c;
+        return Visit::Counted(c);
     }
     let e = estimate(aim.goal, cost, to);
     let entry = pushed_as(e, c.pushed);
     put_open(nodes, front, n, k, to, label, cost, entry);
     c.retained = n + 1;
     c.pushed += 1;
-    c
+    Visit::Counted(c)
 }

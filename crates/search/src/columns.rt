@@ -7,6 +7,7 @@ use moves::EdgeAnswer;
 use rooms::Counts;
 use sides::Sides;
 use visits::Aim;
+use visits::Visit;
 use world::Body;
 use world::Point;
 use world::Request;
@@ -47,9 +48,14 @@ fn step_to(
     };
     let feet = words::feet_of(way.feet);
     let label = words::label_of(way);
-    let counts = reach::visit(nodes, front, aim, at.number, at.node, c.counts, feet, label);
-    let flat = sides::is_level(at.point, way.feet);
-    Column { counts, level: c.level | flat }
+    let level = c.level | sides::is_level(at.point, way.feet);
+    let visit = reach::visit(nodes, front, aim, at.number, at.node, c.counts, feet, label);
+    let Visit::Counted(counts) = visit else {
+        // A closed side still answers (01).
+        let counts = c.counts;
+        return Column { counts, level };
+    };
+    Column { counts, level }
 }
 
 // Column n: its heights upwards.

@@ -1,10 +1,10 @@
 -- What one step, one closing and the start make of the rooms: the theory's visit, close and begin, of the state that the rooms are. Definitions only.
 use mathlib.Core.Path.{_≡_}
-use mathlib.Core.Bool.{Bool, true, false, _&&_}
+use mathlib.Core.Bool.{Bool, true, false, not, _&&_}
 use mathlib.Core.List.{List}
 use mathlib.Core.Logic.{_≢_}
 use Prim.Native.Nat.{ℕ, _+_, _*_, _/_, _^_, _≤_, _<_}
-use lib.Dec.{ltb, leb}
+use lib.Dec.{ltb, leb, eqb}
 use lib.ListN.{length, drop}
 use Rattle.exploration.specs.Graph.{Graph}
 use Rattle.exploration.specs.Policy.{Node}
@@ -15,11 +15,14 @@ use Rattle.rooms.specs.declared.NodeRecord.{NodeRecord}
 use Rattle.rooms.specs.declared.Counts.{Counts}
 use Rattle.rooms.specs.Waypoints.{standing}
 use Rattle.rooms.specs.Records.{nodeAt}
+use Rattle.rooms.specs.Scans.{firstAt}
 use Rattle.rooms.specs.Rooms.{Note, nobody, nodeIn, stateOf}
 use Rattle.rooms.specs.Laws.Rooms.{BySamePoint}
 use Rattle.rooms.specs.Laws.Writes.{PutNode, PutEntry}
 use Rattle.visits.specs.declared.Aim.{Aim}
 use Rattle.visits.specs.declared.Closing.{Closing}
+use Rattle.visits.specs.declared.Visit.{Visit}
+use Rattle.visits.specs.declared.Visit.the-variants.{Closed as ToClosed, Counted}
 use Rattle.costs.specs.Costs.{pushedAs}
 use Rattle.visits.specs.Best.{relaxed, best}
 
@@ -65,6 +68,22 @@ pub record Seen (aim : Aim) (k : ℕ) (c : Counts) (j cost : ℕ) (to : Feet) (l
   pub kept : Kept (r .retained) a f b g
   pub near : Near (aim .budget) 1 c r
 
+-- the counts that a visit answers: at a closed node those from before
+abbrev pub countsBy : Counts → Visit → Counts
+countsBy c ToClosed = c
+countsBy c (Counted r) = r
+
+abbrev pub saysClosed : Visit → Bool
+saysClosed ToClosed = true
+saysClosed (Counted r) = false
+
+abbrev pub isShut : NodeRecord → Bool
+isShut r = not (eqb (r .closed) 0)
+
+-- whether one of n nodes is at a point, and the first one there is closed
+unfoldable pub shutAt : List ℕ → ℕ → Feet → Bool
+shutAt a n q = ltb (firstAt a n q) n && isShut (nodeAt a (firstAt a n q))
+
 -- a step from node k: the theory's visit, over every graph whose points compare as 01 says
 pub record Visited (aim : Aim) (k : ℕ) (from : NodeRecord) (c : Counts) (to : Feet) (label : Label) (r : Counts) (a f b g : List ℕ) : Type 0 where
   pub state : (𝓖 : Graph Feet Label) → BySamePoint 𝓖 → (n : Node Feet Label Note) → n .point ≡ from .feet → n .note .cost ≡ from .cost →
@@ -72,9 +91,11 @@ pub record Visited (aim : Aim) (k : ℕ) (from : NodeRecord) (c : Counts) (to : 
   pub kept : Kept (r .retained) a f b g
   pub near : Near (aim .budget) 1 c r
 
-pub record VisitedIf (aim : Aim) (k : ℕ) (from : NodeRecord) (c : Counts) (to : Feet) (label : Label) (r : Counts) (a f b g : List ℕ) : Type 0 where
-  pub done : ready (length a) (length f) (aim .budget) k c ≡ true → Visited aim k from c to label r a f b g
-  pub left : ready (length a) (length f) (aim .budget) k c ≡ false → Untouched c r a f b g
+-- and what it answers, on every input
+pub record VisitedIf (aim : Aim) (k : ℕ) (from : NodeRecord) (c : Counts) (to : Feet) (label : Label) (v : Visit) (a f b g : List ℕ) : Type 0 where
+  pub done : ready (length a) (length f) (aim .budget) k c ≡ true → Visited aim k from c to label (countsBy c v) a f b g
+  pub left : ready (length a) (length f) (aim .budget) k c ≡ false → Untouched c (countsBy c v) a f b g
+  pub closed : saysClosed v ≡ (ready (length a) (length f) (aim .budget) k c && shutAt a (c .retained) to)
 
 -- node k closed: the theory's close
 pub record Closed (aim : Aim) (k : ℕ) (c r : Counts) (a f b g : List ℕ) : Type 0 where

@@ -23,6 +23,12 @@ pub struct Closing {
     pub counts: Counts,
 }
 
+// What a visit comes to: its point is that of a closed node, and nothing changes; or the counts after.
+pub enum Visit {
+    Closed,
+    Counted(Counts),
+}
+
 // Half of what a u64 can count: counts below it can grow.
 const FAR: u64 = 0x8000_0000_0000_0000;
 

@@ -2,6 +2,7 @@
 use native.Mathlib.Nat.{lt-of-lt-of-le}
 use mathlib.Core.Path.{_≡_, refl, sym, ap, subst, _∙_}
 use mathlib.Core.Bool.{Bool, true, false}
+use mathlib.Core.Logic.{_≢_}
 use borrow.Author.Tests.{not-true, not-false}
 use denote.Ref.{now}
 use Rattle.rooms.specs.declared.NodeRecord.{NodeRecord}
@@ -9,7 +10,7 @@ use Rattle.rooms.specs.declared.Entry.{Entry}
 use Rattle.rooms.specs.Records.{nodeAt}
 use Rattle.rooms.specs.Laws.Writes.{WroteNode, WroteEntry}
 use Rattle.costs.specs.Costs.{cheaper, lowered}
-use Rattle.visits.specs.Laws.Visits.{numbered, node-inside, entry-inside, pushes-fit, childRecord, seen-shut, seen-dear, seen-lower}
+use Rattle.visits.specs.Laws.Visits.{numbered, node-inside, entry-inside, pushes-fit, childRecord, seen-shut, seen-dear, seen-lower, is-shut, is-open}
 use Rattle.reach.proofs.again.Statement.{statement}
 use Rattle.reach.proofs.again.Tie as tie
 
@@ -22,7 +23,8 @@ same-length c = refl
 returns : tie.Need-returns
 returns c =
     let a = c .before .before .before .before .before .before .args in
-    seen-shut (a .aim) (a .k) (a .c) (now (a .nodes)) (now (a .front)) (c .before .before .before .before .before .before .pre .0 .few) (a .j) (a .cost) (a .to) (a .label) (λ e. c .if1 .taken (ap (λ (r : NodeRecord). r .closed) (c .before .before .get-node .ensures) ∙ e))
+    let h : nodeAt (now (a .nodes)) (a .j) .closed ≢ 0 = λ e. c .if1 .taken (ap (λ (r : NodeRecord). r .closed) (c .before .before .get-node .ensures) ∙ e) in
+    (seen-shut (a .aim) (a .k) (a .c) (now (a .nodes)) (now (a .front)) (c .before .before .before .before .before .before .pre .0 .few) (a .j) (a .cost) (a .to) (a .label) h, is-shut (nodeAt (now (a .nodes)) (a .j)) h)
 
 -- node j is open, once the first test failed
 unclosed : (s : tie.Else1) → nodeAt (now (s .before .before .before .before .before .before .args .nodes)) (s .before .before .before .before .before .before .args .j) .closed ≡ 0
@@ -41,7 +43,8 @@ same-length-2 c = refl
 returns-2 : tie.Need-returns-2
 returns-2 c =
     let a = c .before .before .before .before .before .before .before .before .args in
-    seen-dear (a .aim) (a .k) (a .c) (now (a .nodes)) (now (a .front)) (c .before .before .before .before .before .before .before .before .pre .0 .few) (a .j) (a .cost) (a .to) (a .label) (unclosed (c .before .before)) (sym (compared (c .before)) ∙ not-true _ (c .if2 .taken))
+    let h = unclosed (c .before .before) in
+    (seen-dear (a .aim) (a .k) (a .c) (now (a .nodes)) (now (a .front)) (c .before .before .before .before .before .before .before .before .pre .0 .few) (a .j) (a .cost) (a .to) (a .label) h (sym (compared (c .before)) ∙ not-true _ (c .if2 .taken)), is-open (nodeAt (now (a .nodes)) (a .j)) h)
 
 get-entry-requires : tie.Need-get-entry-requires
 get-entry-requires c κs = tt
@@ -73,7 +76,8 @@ returns-3 c =
     let a = s .args in
     let p = subst (λ (r : NodeRecord). WroteNode (now (a .nodes)) (a .j) (childRecord (a .k) (r .feet) (a .label) (a .cost)) (c .before .before .before .before .before .put-open .last .0)) (c .before .before .before .before .before .before .before .before .before .before .before .before .before .before .before .before .before .get-node .ensures) (c .before .before .before .before .before .put-open .ensures .0) in
     let w = subst (λ (e : Entry). WroteEntry (now (a .front)) (a .j) e (c .before .before .before .before .before .put-open .last .1 .0)) (c .before .before .before .before .before .before .before .before .before .lowered .ensures ∙ (λ i. lowered (c .before .before .before .before .before .before .before .before .before .before .estimate .ensures i) (c .before .before .before .before .before .before .before .before .before .before .before .get-entry .ensures i) (a .c .pushed))) (c .before .before .before .before .before .put-open .ensures .1) in
-    seen-lower (a .aim) (a .k) (a .c) (now (a .nodes)) (now (a .front)) (s .pre .0 .few) (a .j) (a .cost) (a .to) (a .label) (numbered (s .pre .0) (a .k) (s .pre .1 .1)) (s .pre .1 .0) (unclosed (c .before .before .before .before .before .before .before .before .before .before .before .before .before .before .before)) (sym (compared (c .before .before .before .before .before .before .before .before .before .before .before .before .before .before)) ∙ not-false _ (c .before .before .before .before .before .before .before .before .before .before .before .before .before .if2 .left)) p w
+    let h = unclosed (c .before .before .before .before .before .before .before .before .before .before .before .before .before .before .before) in
+    (seen-lower (a .aim) (a .k) (a .c) (now (a .nodes)) (now (a .front)) (s .pre .0 .few) (a .j) (a .cost) (a .to) (a .label) (numbered (s .pre .0) (a .k) (s .pre .1 .1)) (s .pre .1 .0) h (sym (compared (c .before .before .before .before .before .before .before .before .before .before .before .before .before .before)) ∙ not-false _ (c .before .before .before .before .before .before .before .before .before .before .before .before .before .if2 .left)) p w, is-open (nodeAt (now (a .nodes)) (a .j)) h)
 
 pub again-spec : {M : Type 1} → statement M
 again-spec =

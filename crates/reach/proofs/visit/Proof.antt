@@ -5,13 +5,12 @@ use mathlib.Core.Bool.{true}
 use lib.ListN.{length}
 use borrow.Author.Tests.{not-true, not-false}
 use denote.Ref.{now}
-use Rattle.exploration.specs.Laws.Lists.{true-false}
 use Rattle.rooms.specs.declared.Entry.{Entry}
 use Rattle.rooms.specs.Scans.{firstAt}
 use Rattle.rooms.specs.Laws.Writes.{WroteEntry}
 use Rattle.costs.specs.Costs.{pushedAs}
 use Rattle.visits.specs.Visits.{Ready, ready}
-use Rattle.visits.specs.Laws.Visits.{ready-is, numbered, node-inside, entry-inside, pushes-fit, drops-fit, retains-fit, visited-known, visited-drop, visited-new}
+use Rattle.visits.specs.Laws.Visits.{ready-is, numbered, node-inside, entry-inside, pushes-fit, drops-fit, retains-fit, visited-known, visited-drop, visited-new, visited-if, visited-not, shut-known, shut-none}
 use Rattle.reach.proofs.visit.Statement.{statement}
 use Rattle.reach.proofs.visit.Tie as tie
 
@@ -32,8 +31,7 @@ is-ready-requires : tie.Need-is-ready-requires
 is-ready-requires c κs = tt
 
 returns : tie.Need-returns
-returns c =
-    record { done = λ e. absurd (true-false e (sym (c .before .is-ready .ensures) ∙ not-true _ (c .if1 .taken))); left = λ e. record { counts = refl; nodes = refl; front = refl } }
+returns c = visited-not (sym (c .before .is-ready .ensures) ∙ not-true _ (c .if1 .taken))
 
 seek-requires : tie.Need-seek-requires
 seek-requires c κs = tt
@@ -56,8 +54,8 @@ returns-2 : tie.Need-returns-2
 returns-2 c =
     let a = c .before .before .before .before .before .before .before .before .before .before .before .before .before .before .before .args in
     let r = known (c .before .before .before .before .before .before .before .before .before .before .before) in
-    let v = visited-known (a .aim) (a .k) (a .c) (now (a .nodes)) (now (a .front)) (r .0 .few) (a .from) (a .to) (a .label) (c .before .before .before .before .before .before .before .before .before .seek .result) (c .before .before .before .before .before .before .before .before .cost-by .result) (c .before .before .before .before .before .before .before .before .before .seek .ensures) (c .before .before .before .before .before .before .before .before .cost-by .ensures) (c .before .before .before .before .before .before .before .if2 .taken) (c .before .before .before .before .again .ensures) in
-    record { done = λ e. v; left = λ e. absurd (true-false (passed (c .before .before .before .before .before .before .before .before .before .before .before)) e) }
+    let v = visited-known (a .aim) (a .k) (a .c) (now (a .nodes)) (now (a .front)) (r .0 .few) (a .from) (a .to) (a .label) (c .before .before .before .before .before .before .before .before .before .seek .result) (c .before .before .before .before .before .before .before .before .cost-by .result) (c .before .before .before .before .before .before .before .before .before .seek .ensures) (c .before .before .before .before .before .before .before .before .cost-by .ensures) (c .before .before .before .before .before .before .before .if2 .taken) (c .before .before .before .before .again .ensures .0) in
+    visited-if (passed (c .before .before .before .before .before .before .before .before .before .before .before)) (c .before .before .before .before .again .ensures .1 ∙ sym (shut-known (now (a .nodes)) (a .c .retained) (a .to) (c .before .before .before .before .before .before .before .before .before .seek .result) (c .before .before .before .before .before .before .before .before .before .seek .ensures) (c .before .before .before .before .before .before .before .if2 .taken))) v
 
 add-c : tie.Need-add-c
 add-c c = drops-fit (known (c .before .before .before .before .before .before .before) .0)
@@ -69,7 +67,7 @@ returns-3 : tie.Need-returns-3
 returns-3 c =
     let a = c .before .before .before .before .before .before .before .before .before .before .before .args in
     let v = visited-drop (a .aim) (a .k) (a .c) (now (a .nodes)) (now (a .front)) (known (c .before .before .before .before .before .before .before) .0 .few) (a .from) (a .to) (a .label) (missing (c .before .before .before)) (c .before .if3 .taken) in
-    record { done = λ e. v; left = λ e. absurd (true-false (passed (c .before .before .before .before .before .before .before)) e) }
+    visited-if (passed (c .before .before .before .before .before .before .before)) (sym (shut-none (now (a .nodes)) (a .c .retained) (a .to) (missing (c .before .before .before)))) v
 
 estimate-requires : tie.Need-estimate-requires
 estimate-requires c κs = tt
@@ -101,7 +99,7 @@ returns-4 c =
     let r = known (c .before .before .before .before .before .before .before .before .before .before .before .before .before .before .before .before) in
     let w = subst (λ (e : Entry). WroteEntry (now (a .front)) (a .c .retained) e (c .before .before .before .before .before .put-open .last .1 .0)) (c .before .before .before .before .before .before .before .before .pushed-as .ensures ∙ (λ i. pushedAs (c .before .before .before .before .before .before .before .before .before .estimate .ensures i) (a .c .pushed))) (c .before .before .before .before .before .put-open .ensures .1) in
     let v = visited-new (a .aim) (a .k) (a .c) (now (a .nodes)) (now (a .front)) (r .0 .few) (a .from) (a .to) (a .label) (c .before .before .before .before .before .before .before .before .before .before .before .before .before .cost-by .result) (c .before .before .before .before .before .before .before .before .before .before .before .before .before .cost-by .ensures) (missing (c .before .before .before .before .before .before .before .before .before .before .before .before)) (c .before .before .before .before .before .before .before .before .before .before .if3 .left) (numbered (r .0) (a .k) (r .1)) (c .before .before .before .before .before .put-open .ensures .0) w in
-    record { done = λ e. v; left = λ e. absurd (true-false (passed (c .before .before .before .before .before .before .before .before .before .before .before .before .before .before .before .before)) e) }
+    visited-if (passed (c .before .before .before .before .before .before .before .before .before .before .before .before .before .before .before .before)) (sym (shut-none (now (a .nodes)) (a .c .retained) (a .to) (missing (c .before .before .before .before .before .before .before .before .before .before .before .before)))) v
 
 pub visit-spec : {M : Type 1} → statement M
 visit-spec =

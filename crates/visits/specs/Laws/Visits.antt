@@ -15,7 +15,7 @@ use borrow.Author.Tests.{eq-eqb, ne-eqb, lt-ltb, le-ltb, le-leb, ltb-true, leb-t
 use Rattle.exploration.specs.Graph.{Graph}
 use Rattle.exploration.specs.Policy.{Node}
 use Rattle.exploration.specs.Explore.{State, child, apply, effect, effectAt, effectKnown, visit, close, begin}
-use Rattle.exploration.specs.Laws.Lists.{and-both, and-first, and-second}
+use Rattle.exploration.specs.Laws.Lists.{and-both, and-first, and-second, true-false}
 use Rattle.fields.specs.RecordLaws.{length-firsts}
 use Rattle.rooms.specs.declared.Feet.{Feet}
 use Rattle.rooms.specs.declared.Label.{Label}
@@ -29,9 +29,11 @@ use Rattle.rooms.specs.Laws.Writes.{WroteNode, WroteEntry, PutNode, PutEntry}
 use Rattle.rooms.specs.Laws.Rooms.{BySamePoint, nodes-set, nodes-more, seek-none, seek-some}
 use Rattle.visits.specs.declared.Aim.{Aim}
 use Rattle.visits.specs.declared.Closing.{Closing}
+use Rattle.visits.specs.declared.Visit.{Visit}
+use Rattle.visits.specs.declared.Visit.the-variants.{Counted}
 use Rattle.costs.specs.Costs.{costBy, estimateBy, cheaper, pushedAs, lowered}
 use Rattle.visits.specs.Best.{opened, idle, given, relaxed, best}
-use Rattle.visits.specs.Visits.{Ready, ready, Kept, Untouched, Near, Seen, Visited, VisitedIf, Closed, ClosedIf, startRecord, counted, Started, Begun}
+use Rattle.visits.specs.Visits.{Ready, ready, Kept, Untouched, Near, Seen, countsBy, saysClosed, isShut, shutAt, Visited, VisitedIf, Closed, ClosedIf, startRecord, counted, Started, Begun}
 
 -- ---- the bytes that stay, and the counts
 
@@ -195,6 +197,30 @@ module _ (aim : Aim) (k : ℕ) (c : Counts) (a f : List ℕ) (few : c .retained 
       where
         ns : nodesOf (c .retained + 1) b g ≡ nodesOf (c .retained) a f ++ (child k to label (opened cost (pushedAs (estimateBy (aim .goal) cost to) (c .pushed))) ∷ [])
         ns = ap (λ (i : ℕ). nodesOf i b g) (add-one (c .retained)) ∙ nodes-more p w ∙ ap (λ (x : Node Feet Label Note). nodesOf (c .retained) a f ++ (x ∷ [])) (child-node k to label cost _ hk)
+
+-- ---- what a visit answers
+
+pub is-shut : (r : NodeRecord) → r .closed ≢ 0 → true ≡ isShut r
+is-shut r h = let e = ne-eqb (r .closed) 0 h in rw e refl
+
+pub is-open : (r : NodeRecord) → r .closed ≡ 0 → false ≡ isShut r
+is-open r h = let e = eq-eqb (r .closed) 0 h in rw e refl
+
+module _ (a : List ℕ) (n : ℕ) (q : Feet) where
+  pub shut-known : (j : ℕ) → j ≡ firstAt a n q → j < n → shutAt a n q ≡ isShut (nodeAt a j)
+  unfolding shutAt
+  shut-known j e l = let z = lt-ltb (firstAt a n q) n (rw (← e) l) in rw (z, e)
+
+  pub shut-none : n ≤ firstAt a n q → shutAt a n q ≡ false
+  unfolding shutAt
+  shut-none l = let z = le-ltb (firstAt a n q) n l in rw z
+
+module _ {aim : Aim} {k : ℕ} {from : NodeRecord} {c : Counts} {to : Feet} {label : Label} {a f : List ℕ} where
+  pub visited-if : {v : Visit} {b g : List ℕ} → ready (length a) (length f) (aim .budget) k c ≡ true → saysClosed v ≡ shutAt a (c .retained) to → Visited aim k from c to label (countsBy c v) a f b g → VisitedIf aim k from c to label v a f b g
+  visited-if p e x = record { done = λ h. x; left = λ h. absurd (true-false p h); closed = rw p e }
+
+  pub visited-not : ready (length a) (length f) (aim .budget) k c ≡ false → VisitedIf aim k from c to label (Counted c) a f a f
+  visited-not e = record { done = λ h. absurd (true-false h e); left = λ h. record { counts = refl; nodes = refl; front = refl }; closed = rw e refl }
 
 -- ---- a closing
 

@@ -1,6 +1,7 @@
 -- `search::columns::step_to` meets its contract. Assumes nothing.
-use mathlib.Core.Path.{_≡_, sym, _∙_}
+use mathlib.Core.Path.{_≡_, sym, ap, _∙_}
 use borrow.Author.Needs.{needs}
+use Rattle.visits.specs.Visits.{countsBy}
 use Rattle.search.specs.Laws.Steps.{went-nowhere, went-to}
 use Rattle.search.proofs.columns.step_to.Statement.{statement}
 use Rattle.search.proofs.columns.step_to.Tie as tie
@@ -23,21 +24,39 @@ feet-of-requires c κs = tt
 label-of-requires : tie.Need-label-of-requires
 label-of-requires c κs = tt
 
-visit-requires : tie.Need-visit-requires
-visit-requires c κs = tt
-
 is-level-requires : tie.Need-is-level-requires
 is-level-requires c κs = tt
 
+visit-requires : tie.Need-visit-requires
+visit-requires c κs = tt
+
+enum-known-visit : tie.Need-enum-known-visit
+enum-known-visit c = search needs
+
+enum-told-2 : tie.Need-enum-told-2
+enum-told-2 c = search needs
+
 same-length : tie.Need-same-length
-same-length c = c .before .before .before .before .before .before .visit .kept .0
+same-length c = c .before .before .before .before .before .before .before .visit .kept .0
 
 same-length-2 : tie.Need-same-length-2
-same-length-2 c = c .before .before .before .before .before .before .visit .kept .1 .0
+same-length-2 c = c .before .before .before .before .before .before .before .visit .kept .1 .0
 
 returns-2 : tie.Need-returns-2
 returns-2 c =
-    went-to _ (c .before .before .before .before .before .before .before .before .before .before .before .before .way .given .0 .0) (c .before .before .before .before .before .before .before .before .before .before .feet-of .result) (c .before .before .before .before .before .before .before .before .before .label-of .result) (c .before .is-level .result) (sym (c .before .before .before .before .before .before .before .before .before .before .before .before .way .given .1) ∙ c .before .before .before .before .before .before .before .before .before .before .before .before .before .before .edge .ensures) (c .before .before .before .before .before .before .before .before .before .before .feet-of .ensures) (c .before .before .before .before .before .before .before .before .before .label-of .ensures) (c .before .is-level .ensures) (c .before .before .before .before .before .before .before .before .before .before .before .before .before .before .before .before .before .before .before .before .before .pre .0) (c .before .before .before .before .before .before .before .before .before .before .before .before .before .before .before .before .before .before .before .before .before .pre .1) (c .before .before .before .before .before .before .visit .ensures)
+    let w = went-to {c = c .before .before .before .before .before .before .before .before .before .before .before .before .before .before .before .before .before .before .before .before .before .before .before .before .args .c} _ (c .before .before .before .before .before .before .before .before .before .before .before .before .before .before .before .way .given .0 .0) (c .before .before .before .before .before .before .before .before .before .before .before .before .before .feet-of .result) (c .before .before .before .before .before .before .before .before .before .before .before .before .label-of .result) (c .before .before .before .before .before .before .before .before .before .before .before .is-level .result) (sym (c .before .before .before .before .before .before .before .before .before .before .before .before .before .before .before .way .given .1) ∙ c .before .before .before .before .before .before .before .before .before .before .before .before .before .before .before .before .before .edge .ensures) (c .before .before .before .before .before .before .before .before .before .before .before .before .before .feet-of .ensures) (c .before .before .before .before .before .before .before .before .before .before .before .before .label-of .ensures) (c .before .before .before .before .before .before .before .before .before .before .before .is-level .ensures) (c .before .before .before .before .before .before .before .before .before .before .before .before .before .before .before .before .before .before .before .before .before .before .before .before .pre .0) (c .before .before .before .before .before .before .before .before .before .before .before .before .before .before .before .before .before .before .before .before .before .before .before .before .pre .1) (c .before .before .before .before .before .before .before .visit .ensures) (ap (countsBy (c .before .before .before .before .before .before .before .before .before .before .before .before .before .before .before .before .before .before .before .before .before .before .before .before .args .c .counts)) (c .before .enum-told2 .given .1)) in
+    record { steps = w .steps; noted = w .noted }
+
+same-length-3 : tie.Need-same-length-3
+same-length-3 c = c .before .before .before .before .before .before .before .visit .kept .0
+
+same-length-4 : tie.Need-same-length-4
+same-length-4 c = c .before .before .before .before .before .before .before .visit .kept .1 .0
+
+returns-3 : tie.Need-returns-3
+returns-3 c =
+    let w = went-to {c = c .before .before .before .before .before .before .before .before .before .before .before .before .before .before .before .before .before .before .before .before .before .before .before .before .args .c} _ (c .before .before .before .before .before .before .before .before .before .before .before .before .before .before .before .way .given .0 .0) (c .before .before .before .before .before .before .before .before .before .before .before .before .before .feet-of .result) (c .before .before .before .before .before .before .before .before .before .before .before .before .label-of .result) (c .before .before .before .before .before .before .before .before .before .before .before .is-level .result) (sym (c .before .before .before .before .before .before .before .before .before .before .before .before .before .before .before .way .given .1) ∙ c .before .before .before .before .before .before .before .before .before .before .before .before .before .before .before .before .before .edge .ensures) (c .before .before .before .before .before .before .before .before .before .before .before .before .before .feet-of .ensures) (c .before .before .before .before .before .before .before .before .before .before .before .before .label-of .ensures) (c .before .before .before .before .before .before .before .before .before .before .before .is-level .ensures) (c .before .before .before .before .before .before .before .before .before .before .before .before .before .before .before .before .before .before .before .before .before .before .before .before .pre .0) (c .before .before .before .before .before .before .before .before .before .before .before .before .before .before .before .before .before .before .before .before .before .before .before .before .pre .1) (c .before .before .before .before .before .before .before .visit .ensures) (ap (countsBy (c .before .before .before .before .before .before .before .before .before .before .before .before .before .before .before .before .before .before .before .before .before .before .before .before .args .c .counts)) (c .before .visit2 .given .1)) in
+    record { steps = w .steps; noted = w .noted }
 
 pub step-to-spec : {M : Type 1} → statement M
 step-to-spec =
@@ -49,8 +68,13 @@ step-to-spec =
     returns
     feet-of-requires
     label-of-requires
-    visit-requires
     is-level-requires
+    visit-requires
+    enum-known-visit
+    enum-told-2
     same-length
     same-length-2
-    returns-2)
+    returns-2
+    same-length-3
+    same-length-4
+    returns-3)
