@@ -54,9 +54,8 @@ pub fn connector(
 ) -> EdgeAnswer
     ensures { λ a. ⌜ a ≡ connector (space w (now (cells .entry)) (now (perms .entry)) (now (shapes .entry)) (now (boxes .entry))) r body from ⌝ }
 {
-    let goal = r.goal;
-    if places::near(1.5, from.x, goal.x) & places::near(1.5, from.z, goal.z) {
-        return edge(w, cells, perms, shapes, boxes, r, body, from, goal);
+    if places::near(1.5, from.x, r.goal.x) & places::near(1.5, from.z, r.goal.z) {
+        return edge(w, cells, perms, shapes, boxes, r, body, from, r.goal);
     }
     EdgeAnswer::Nowhere
 }

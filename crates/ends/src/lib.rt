@@ -19,13 +19,7 @@ pub fn ends_good(
 ) -> bool
     ensures { λ a. ⌜ a ≡ endsGood (space w (now (cells .entry)) (now (perms .entry)) (now (shapes .entry)) (now (boxes .entry))) r body ⌝ }
 {
-    let start = r.start;
-    let goal = r.goal;
-    if !places::in_range(r, goal) {
-        return false;
-    }
-    if !places::standable(w, cells, perms, shapes, boxes, body, start) {
-        return false;
-    }
-    places::standable(w, cells, perms, shapes, boxes, body, goal)
+    places::in_range(r, r.goal)
+        && places::standable(w, cells, perms, shapes, boxes, body, r.start)
+        && places::standable(w, cells, perms, shapes, boxes, body, r.goal)
 }

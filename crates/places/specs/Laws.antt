@@ -1,19 +1,10 @@
--- The two ways through `standable`.
-use mathlib.Core.Path.{_≡_}
-use mathlib.Core.Bool.{true, false}
-use Rattle.world.specs.declared.Point.{Point}
-use Rattle.world.specs.declared.Body.{Body}
-use Rattle.world.specs.Boxes.{fromFeet}
-use Rattle.world.specs.Space.{Space}
-use Rattle.clear.specs.Clear.{clear}
-use Rattle.support.specs.Support.{supported}
-use Rattle.places.specs.Places.{standable}
+-- A chain of tests, each of them asked only where those before it held: what its answer says, by what the part before the last test says.
+use mathlib.Core.Path.{_≡_, sym, _∙_}
+use mathlib.Core.Bool.{Bool, true, false, _&&_}
 
-module _ (sp : Space) (body : Body) (p : Point) where
-  pub no-room : clear sp (fromFeet p (body .width) (body .height)) ≡ false → standable sp body p ≡ false
-  unfolding standable
-  no-room e = rw e
+module _ {p f g : Bool} (e : f ≡ p) where
+  pub asked : {s : Bool} → f ≡ true → g ≡ s → g ≡ (p && s)
+  asked t h = rw (sym e ∙ t) h
 
-  pub by-support : clear sp (fromFeet p (body .width) (body .height)) ≡ true → standable sp body p ≡ supported sp (body .width) p p
-  unfolding standable
-  by-support e = rw e
+  pub spared : (s : Bool) → f ≡ false → g ≡ f → g ≡ (p && s)
+  spared s l h = rw (sym e ∙ l) (h ∙ l)

@@ -35,9 +35,6 @@ pub fn standable(
     ensures { λ a. ⌜ a ≡ standable (space w (now (cells .entry)) (now (perms .entry)) (now (shapes .entry)) (now (boxes .entry))) body p ⌝ }
 {
     let area = boxes::from_feet(p, body.width, body.height);
-    if !clear::clear_area(w, cells, perms, shapes, boxes, area) {
-        return false;
-    }
-    let width = body.width;
-    segments::supported_segment(w, cells, perms, shapes, boxes, width, p, p)
+    clear::clear_area(w, cells, perms, shapes, boxes, area)
+        && segments::supported_segment(w, cells, perms, shapes, boxes, body.width, p, p)
 }
