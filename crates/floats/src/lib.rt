@@ -2,17 +2,10 @@
 ghost use mathlib.Core.Path.{_≡_};
 ghost use lib.Ieee.{binary64, ofBits, toBits};
 ghost use lib.Ieee.Scale.{finite};
-ghost use Rattle.floats.specs.Floats.{E, smaller, larger, absolute, canonical, same};
+ghost use Rattle.floats.specs.Floats.{smaller, larger, absolute, canonical};
 
 // 01: "E is 1.0e-7 as f64".
 pub const E: f64 = 1.0e-7;
-
-// E by a call, for a program that compares its bits.
-pub fn epsilon() -> f64
-    ensures { λ r. ⌜ r ≡ E ⌝ }
-{
-    E
-}
 
 // The float of a bit pattern: every NaN pattern is the one NaN.
 pub fn float_of(n: u64) -> f64
@@ -62,13 +55,6 @@ pub fn canonical(x: f64) -> f64
     ensures { λ r. ⌜ r ≡ canonical x ⌝ }
 {
     if x == 0.0 { 0.0 } else { x }
-}
-
-// Whether two coordinates are the same: equal bits, with -0.0 as 0.
-pub fn same(a: f64, b: f64) -> bool
-    ensures { λ r. ⌜ r ≡ same a b ⌝ }
-{
-    bits_of(canonical(a)) == bits_of(canonical(b))
 }
 
 // Whether a float is a number: neither an infinity nor a NaN.
