@@ -13,13 +13,12 @@ use world::Point;
 use world::Request;
 use world::Window;
 ghost use mathlib.Core.Path.{_≡_};
-ghost use mathlib.Core.Bool.{false};
 ghost use mathlib.Core.List.{[]};
 ghost use Prim.Native.Nat.{_+_, _<_};
 ghost use lib.ListN.{length};
 ghost use Rattle.world.specs.Space.{space};
 ghost use Rattle.edges.specs.Edges.{edge};
-ghost use Rattle.steps.specs.Columns.{ahead, columnSteps, columnIf, stepsFrom};
+ghost use Rattle.steps.specs.Columns.{ahead, columnIf, stepsFrom};
 ghost use Rattle.steps.specs.Expansion.{sidesBefore};
 ghost use Rattle.visits.specs.Visits.{Ready};
 ghost use Rattle.search.specs.Steps.{Went, Stepped, Looked};
@@ -58,45 +57,8 @@ fn step_to(
     Column { counts, level }
 }
 
-// Column n: its heights upwards.
+// Column n, where it is looked at: its heights upwards.
 fn column(
-    w: Window,
-    cells: &[u8],
-    perms: &[u8],
-    shapes: &[u8],
-    boxes: &[u8],
-    r: Request,
-    body: Body,
-    nodes: &mut [u8],
-    front: &mut [u8],
-    aim: Aim,
-    at: Place,
-    n: usize,
-    c: Counts,
-) -> Column
-    requires { ⌜ Ready (now nodes) (now front) (aim .budget) (length (columnSteps (space w (now cells) (now perms) (now shapes) (now boxes)) r body (at .point) n) + 1) c × (at .number < c .retained) ⌝ }
-    ensures { λ a. ⌜ Went aim at (columnSteps (space w (now (cells .entry)) (now (perms .entry)) (now (shapes .entry)) (now (boxes .entry))) r body (at .point) n) (record { counts = c; level = false }) a (now (nodes .entry)) (now (front .entry)) (now (nodes .exit)) (now (front .exit)) ⌝ }
-{
-    let from = at.point;
-    let centre = steps::column_centre(from, n);
-    let band = steps::band_of(r, body, from);
-    let x = centre.x;
-    let z = centre.z;
-    let mut gone = Column { counts: c, level: false };
-    let mut after = Height::None;
-    loop {
-        let next = heights::next_height(w, cells, perms, shapes, boxes, band, x, z, after);
-        let Height::At(y) = next else {
-            return gone;
-        };
-        let to = Point { x, y, z };
-        gone = step_to(w, cells, perms, shapes, boxes, r, body, nodes, front, aim, at, to, gone);
-        after = Height::At(y);
-    }
-}
-
-// Column n, where it is looked at.
-fn around(
     w: Window,
     cells: &[u8],
     perms: &[u8],
@@ -120,10 +82,25 @@ fn around(
     if !looked {
         return c;
     }
-    let gone = column(w, cells, perms, shapes, boxes, r, body, nodes, front, aim, at, n, c.counts);
-    let counts = gone.counts;
-    let answered = sides.answered(n, gone.level);
-    Around { counts, sides: answered }
+    let from = at.point;
+    let centre = steps::column_centre(from, n);
+    let band = steps::band_of(r, body, from);
+    let x = centre.x;
+    let z = centre.z;
+    let counts = c.counts;
+    let mut gone = Column { counts, level: false };
+    let mut after = Height::None;
+    loop {
+        let next = heights::next_height(w, cells, perms, shapes, boxes, band, x, z, after);
+        let Height::At(y) = next else {
+            let counts = gone.counts;
+            let answered = sides.answered(n, gone.level);
+            return Around { counts, sides: answered };
+        };
+        let to = Point { x, y, z };
+        gone = step_to(w, cells, perms, shapes, boxes, r, body, nodes, front, aim, at, to, gone);
+        after = Height::At(y);
+    }
 }
 
 // The columns around a point, in order.
@@ -148,7 +125,7 @@ pub(crate) fn columns(
     let mut gone = Around { counts: c, sides };
     let mut n: usize = 0;
     while n < 9 {
-        gone = around(w, cells, perms, shapes, boxes, r, body, nodes, front, aim, at, n, gone);
+        gone = column(w, cells, perms, shapes, boxes, r, body, nodes, front, aim, at, n, gone);
         n += 1;
     }
     gone.counts

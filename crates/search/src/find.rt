@@ -1,7 +1,9 @@
-// The public call (01, "Numbers given back": "Search order").
-use crate::whole::search;
+// The public call (01, "Numbers given back": "Search order"): the start, as many expansions as the budget, the list, and the frontier room all zero.
+use crate::turns::expand;
 use outcomes::Answer;
+use outcomes::Turn;
 use refusals::Judged;
+use visits::Aim;
 use world::Body;
 use world::Request;
 use world::Window;
@@ -27,8 +29,25 @@ pub fn find_walk_path(
     ensures { λ _. ⌜ now (front .exit) ≡ frontAfter w (now (cells .entry)) (now (perms .entry)) (now (shapes .entry)) (now (boxes .entry)) r body (now (nodes .entry)) (now (front .entry)) (now (out .entry)) ⌝ }
     ensures { λ _. ⌜ now (out .exit) ≡ outAfter w (now (cells .entry)) (now (perms .entry)) (now (shapes .entry)) (now (boxes .entry)) r body (now (nodes .entry)) (now (front .entry)) (now (out .entry)) ⌝ }
 {
-    match refusals::judge(w, cells, perms, shapes, boxes, r, body, nodes.len(), front.len(), out.len()) {
-        Judged::Refused(outcome) => outcomes::without_search(outcome),
-        Judged::Begins => search(w, cells, perms, shapes, boxes, r, body, nodes, front, out),
+    let judged = refusals::judge(w, cells, perms, shapes, boxes, r, body, nodes.len(), front.len(), out.len());
+    if let Judged::Refused(outcome) = judged {
+        return outcomes::without_search(outcome);
     }
+    let start = words::feet_of(r.start);
+    let goal = words::feet_of(r.goal);
+    let budget = r.node_budget as usize;
+    let aim = Aim { budget, goal };
+    let begun = visits::begin(nodes, front, budget, start);
+    let mut turn = Turn::Going(begun);
+    let mut t: usize = 0;
+    while t < budget {
+        let Turn::Going(c) = turn else {
+            break;
+        };
+        turn = expand(w, cells, perms, shapes, boxes, r, body, nodes, front, aim, c);
+        t += 1;
+    }
+    let answer = outcomes::conclude(nodes, goal, turn, out);
+    writes::zero(front);
+    answer
 }

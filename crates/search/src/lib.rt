@@ -1,13 +1,11 @@
 // The search (01, "Search"): one expansion of a node on the rooms, as the theory's run of 01's graph under 01's policy.
 //
 // `columns` goes through the columns around the node's point, in 01's order, and visits the steps of each, upwards. `turns` has the whole expansion: pick,
-// close, try the connector, then the columns. `runs` has so many expansions, `whole` a search from its start to its list, and `find` the public call. What
-// it answers is the crate `outcomes`, whether it begins `refusals`.
+// close, try the connector, then the columns. `find` is the public call: as many expansions as the budget, or fewer where the search ends. What it answers is
+// the crate `outcomes`, whether it begins `refusals`.
 pub(crate) mod columns;
 pub mod find;
-pub(crate) mod runs;
 pub(crate) mod turns;
-mod whole;
 
 pub use find::find_walk_path;
 use rooms::Counts;

@@ -35,7 +35,7 @@ module _ {aim : Aim} {sp : Space} {r : Request} {body : Body} where
     near = near-le ((mostSteps + 1) * (n + 1)) (omega arith) (near-trans (u .near) (v .near));
     quiet = v .quiet }
 
-  pub spun-end : {c : Counts} {t : Turn} {a f b g : List ℕ} (n m : ℕ) → n ≤ m → Done (graph sp r body) (best (aim .goal)) (after aim t b g) → Spun aim sp r body c n t a f b g → Spun aim sp r body c m t a f b g
+  spun-end : {c : Counts} {t : Turn} {a f b g : List ℕ} (n m : ℕ) → n ≤ m → Done (graph sp r body) (best (aim .goal)) (after aim t b g) → Spun aim sp r body c n t a f b g → Spun aim sp r body c m t a f b g
   spun-end {c} {a = a} {f = f} n m h o u = record {
     state = let e : n + (m - n) ≡ m = omega arith in
         u .state ∙ sym (done-run (graph sp r body) (best (aim .goal)) (aim .budget) (m - n) _ (subst (Done (graph sp r body) (best (aim .goal))) (u .state) o))
@@ -43,13 +43,20 @@ module _ {aim : Aim} {sp : Space} {r : Request} {body : Body} where
         ∙ ap (λ (i : ℕ). run (graph sp r body) (best (aim .goal)) (aim .budget) i (stateOf a f c)) e;
     kept = u .kept; near = near-le ((mostSteps + 1) * m) (omega arith) (u .near); quiet = u .quiet }
 
-module _ (aim : Aim) (sp : Space) (r : Request) (body : Body) (c : Counts) (b g : List ℕ) where
-  pub over-rest : Quiet aim b g (Rest c) → Done (graph sp r body) (best (aim .goal)) (after aim (Rest c) b g)
-  unfolding stateOf
-  over-rest h = at-end refl h
+-- a turn that does not go on, so that the search has ended
 
-  pub over-at : (k : ℕ) → Done (graph sp r body) (best (aim .goal)) (after aim (At c k) b g)
-  over-at k = at-found _ refl
+abbrev pub Ended : Turn → Type 0
+Ended (Rest c) = Unit {0}
+Ended (Going c) = ⊥
+Ended (At c k) = Unit {0}
+Ended (By c k l) = Unit {0}
 
-  pub over-by : (k : ℕ) (l : Label) → Done (graph sp r body) (best (aim .goal)) (after aim (By c k l) b g)
-  over-by k l = at-found _ refl
+over : (aim : Aim) (sp : Space) (r : Request) (body : Body) (b g : List ℕ) (t : Turn) → Ended t → Quiet aim b g t → Done (graph sp r body) (best (aim .goal)) (after aim t b g)
+unfolding stateOf
+over aim sp r body b g (Rest c) e h = at-end refl h
+over aim sp r body b g (Going c) e h = absurd e
+over aim sp r body b g (At c k) e h = at-found _ refl
+over aim sp r body b g (By c k l) e h = at-found _ refl
+
+pub spun-over : {aim : Aim} {sp : Space} {r : Request} {body : Body} {c : Counts} (t : Turn) {a f b g : List ℕ} (n m : ℕ) → n ≤ m → Ended t → Spun aim sp r body c n t a f b g → Spun aim sp r body c m t a f b g
+spun-over {aim} {sp} {r} {body} t {b = b} {g = g} n m h e u = spun-end n m h (over aim sp r body b g t e (u .quiet)) u

@@ -173,8 +173,8 @@ module _ {aim : Aim} {at : Place} {sp : Space} {r : Request} {body : Body} {c : 
     steps = rw (skipped sp r body (at .point) n i) (stepped-none a f h);
     answered = before ∙ sym (sides-skipped sp r body (at .point) n i) }
 
-  pub looked-on : {b g : List ℕ} (gone : Column) (s : Sides) → lookedBy (c .sides) n ≡ true → s ≡ answeredBy (c .sides) n (gone .level)
-      → Went aim at (columnSteps sp r body (at .point) n) (record { counts = c .counts; level = false }) gone a f b g → Looked aim at sp r body n c (record { counts = gone .counts; sides = s }) a f b g
-  looked-on gone s e i w = let z = looked-column sp r body (at .point) n (c .sides) before e in record {
-    steps = rw z (w .steps);
-    answered = i ∙ ap (λ (x : Sides). answeredBy x n (gone .level)) before ∙ ap (answeredBy (sidesBefore sp r body (at .point) n) n) (w .noted ∙ ap (level (at .point)) (sym z)) ∙ sym (sides-on sp r body (at .point) n) }
+  pub looked-on : {b g : List ℕ} (gone : Column) (s : Sides) → s ≡ answeredBy (c .sides) n (gone .level)
+      → Went aim at (columnIf sp r body (at .point) n) (record { counts = c .counts; level = false }) gone a f b g → Looked aim at sp r body n c (record { counts = gone .counts; sides = s }) a f b g
+  looked-on gone s i w = record {
+    steps = w .steps;
+    answered = i ∙ ap (λ (x : Sides). answeredBy x n (gone .level)) before ∙ ap (answeredBy (sidesBefore sp r body (at .point) n) n) (w .noted) ∙ sym (sides-on sp r body (at .point) n) }

@@ -1,28 +1,35 @@
 -- `search::columns::column` meets its contract. The loop's invariant: the steps of the heights gone have been visited, and the column's steps are those and the
 -- ones behind the last height. The measure is how many heights are left. Assumes nothing.
 use mathlib.Core.Path.{_≡_, refl, sym, _∙_}
+use mathlib.Core.List.{[]}
 use native.Mathlib.Omega.{arith}
 use borrow.Author.Needs.{needs}
+use borrow.Author.Tests.{not-true, not-false}
 use denote.Ref.{now}
 use lib.ListN.{length}
 use Rattle.world.specs.Space.{space}
-use mathlib.Core.List.{[]}
 use Rattle.edges.specs.Edges.{edge}
-use Rattle.steps.specs.Columns.{target, ahead, columnSteps}
+use Rattle.steps.specs.Columns.{target, ahead, columnIf}
 use Rattle.steps.specs.Expansion.{stepsAfter}
 use Rattle.search.specs.Steps.{Went}
-use Rattle.search.specs.Laws.Steps.{ready-after, went-none, went-more, Along, along-none, along-on, along-end, along-short, column-starts, left, ends, goes-on, fewer}
+use Rattle.search.specs.Laws.Steps.{ready-after, went-none, went-more, Along, along-none, along-on, along-end, along-short, column-starts, left, ends, goes-on, fewer, looked-column, looked-not, looked-on}
 use Rattle.search.proofs.columns.column.Statement.{statement}
 use Rattle.search.proofs.columns.column.Tie as tie
 
 abbrev Inv-loop : tie.InvT-loop
-Inv-loop w cells perms shapes boxes r body nodes₀ front₀ aim at n band x z gone₀ after₀ nodes front gone after =
+Inv-loop w cells perms shapes boxes r body nodes₀ front₀ aim at n sides looked band x z gone₀ after₀ nodes front gone after =
     (length nodes ≡ length nodes₀) × (length front ≡ length front₀)
-    × Along (λ ws. Went aim at ws gone₀ gone nodes₀ front₀ nodes front) (columnSteps (space w cells perms shapes boxes) r body (at .point) n) (stepsAfter (space w cells perms shapes boxes) r body (at .point) n after)
+    × Along (λ ws. Went aim at ws gone₀ gone nodes₀ front₀ nodes front) (columnIf (space w cells perms shapes boxes) r body (at .point) n) (stepsAfter (space w cells perms shapes boxes) r body (at .point) n after)
 
 abbrev μ-loop : tie.MeasureT-loop
-μ-loop w cells perms shapes boxes r body nodes₀ front₀ aim at n band x z gone₀ after₀ nodes front gone after =
+μ-loop w cells perms shapes boxes r body nodes₀ front₀ aim at n sides looked band x z gone₀ after₀ nodes front gone after =
     left (space w cells perms shapes boxes) r body (at .point) n after
+
+looked-requires : tie.Need-looked-requires Inv-loop μ-loop
+looked-requires c κs = tt
+
+returns : tie.Need-returns Inv-loop μ-loop
+returns c = looked-not (c .before .before .before .before .before .before .before .before .before .args .n) (c .before .before .before .before .before .before .before .before .before .pre .1) (sym (c .before .looked .ensures) ∙ not-true _ (c .if1 .taken)) (c .before .before .before .before .before .before .before .before .before .pre .0 .0 .few)
 
 column-centre-requires : tie.Need-column-centre-requires Inv-loop μ-loop
 column-centre-requires c κs = tt
@@ -32,8 +39,9 @@ band-of-requires c κs = tt
 
 loop-holds : tie.Need-loop-holds Inv-loop μ-loop
 loop-holds c =
-    let a = c .before .before .before .before .before .before .before .before .before .args in
-    (refl, refl, along-none (column-starts (space (a .w) (now (a .cells)) (now (a .perms)) (now (a .shapes)) (now (a .boxes))) (a .r) (a .body) (a .at .point) (a .n)) (went-none (now (a .nodes)) (now (a .front)) (c .before .before .before .before .before .before .before .before .before .pre .0 .few)))
+    let a = c .before .before .before .before .before .before .before .before .before .before .before .before .before .args in
+    let z = looked-column (space (a .w) (now (a .cells)) (now (a .perms)) (now (a .shapes)) (now (a .boxes))) (a .r) (a .body) (a .at .point) (a .n) (a .c .sides) (c .before .before .before .before .before .before .before .before .before .before .before .before .before .pre .1) (sym (c .before .before .before .before .before .looked .ensures) ∙ not-false _ (c .before .before .before .before .if1 .left)) in
+    (refl, refl, along-none (z ∙ column-starts (space (a .w) (now (a .cells)) (now (a .perms)) (now (a .shapes)) (now (a .boxes))) (a .r) (a .body) (a .at .point) (a .n)) (went-none (now (a .nodes)) (now (a .front)) (c .before .before .before .before .before .before .before .before .before .before .before .before .before .pre .0 .0 .few)))
 
 next-height-requires : tie.Need-next-height-requires Inv-loop μ-loop
 next-height-requires c κs = tt
@@ -44,31 +52,35 @@ enum-known-next c = search needs
 enum-told : tie.Need-enum-told Inv-loop μ-loop
 enum-told c = search needs
 
+answered-requires : tie.Need-answered-requires Inv-loop μ-loop
+answered-requires c κs = tt
+
 same-length : tie.Need-same-length Inv-loop μ-loop
-same-length c = c .before .before .before .loop .inv .0
+same-length c = c .before .before .before .before .before .loop .inv .0
 
 same-length-2 : tie.Need-same-length-2 Inv-loop μ-loop
-same-length-2 c = c .before .before .before .loop .inv .1
+same-length-2 c = c .before .before .before .before .before .loop .inv .1
 
-returns : tie.Need-returns Inv-loop μ-loop
-returns c =
-    let a = c .before .before .before .before .before .before .before .before .before .before .before .before .before .args in
-    along-end (c .before .before .before .loop .inv .2) (ends (space (a .w) (now (a .cells)) (now (a .perms)) (now (a .shapes)) (now (a .boxes))) (a .r) (a .body) (a .at .point) (a .n) (c .before .before .before .loop .after) (c .before .before .before .before .band-of .ensures) (c .before .before .before .before .before .column-centre .ensures) (c .before .before .next-height .ensures) (c .enum-told .given .1))
+returns-2 : tie.Need-returns-2 Inv-loop μ-loop
+returns-2 c =
+    let a = c .before .before .before .before .before .before .before .before .before .before .before .before .before .before .before .before .before .before .before .args in
+    let g = along-end (c .before .before .before .before .before .loop .inv .2) (ends (space (a .w) (now (a .cells)) (now (a .perms)) (now (a .shapes)) (now (a .boxes))) (a .r) (a .body) (a .at .point) (a .n) (c .before .before .before .before .before .loop .after) (c .before .before .before .before .before .before .before .band-of .ensures) (c .before .before .before .before .before .before .before .before .column-centre .ensures) (c .before .before .before .before .next-height .ensures) (c .before .before .enum-told .given .1)) in
+    looked-on (a .n) (c .before .before .before .before .before .before .before .before .before .before .before .before .before .before .before .before .before .before .before .pre .1) (c .before .before .before .before .before .loop .gone) (c .answered .result) (c .answered .ensures) g
 
 step-to-requires : tie.Need-step-to-requires Inv-loop μ-loop
 step-to-requires c κs =
     let u = c .before .before .before .before .before .before .loop .inv .2 in
-    (ready-after (c .before .before .before .before .before .before .before .before .before .before .before .before .before .before .before .before .pre .0) (u .went .steps .near) (omega (arith, along-short u)) (c .before .before .before .before .before .before .loop .inv .0) (c .before .before .before .before .before .before .loop .inv .1), omega (arith, c .before .before .before .before .before .before .before .before .before .before .before .before .before .before .before .before .pre .1, u .went .steps .near .more))
+    (ready-after (c .before .before .before .before .before .before .before .before .before .before .before .before .before .before .before .before .before .before .before .before .pre .0 .0) (u .went .steps .near) (omega (arith, along-short u)) (c .before .before .before .before .before .before .loop .inv .0) (c .before .before .before .before .before .before .loop .inv .1), omega (arith, c .before .before .before .before .before .before .before .before .before .before .before .before .before .before .before .before .before .before .before .before .pre .0 .1, u .went .steps .near .more))
 
 loop-less : tie.Need-loop-less Inv-loop μ-loop
 loop-less c =
-    let a = c .before .before .before .before .before .before .before .before .before .before .before .before .before .before .before .before .before .before .before .before .before .args in
-    fewer (space (a .w) (now (a .cells)) (now (a .perms)) (now (a .shapes)) (now (a .boxes))) (a .r) (a .body) (a .at .point) (a .n) (c .before .before .before .before .before .before .before .before .before .before .before .loop .after) (c .before .before .before .before .before .before .before .before .before .before .before .before .band-of .ensures) (c .before .before .before .before .before .before .before .before .before .before .before .before .before .column-centre .ensures) (c .before .before .before .before .before .before .before .before .before .before .next-height .ensures) _ (c .before .before .before .before .before .before .before .before .next .given .1)
+    let a = c .before .before .before .before .before .before .before .before .before .before .before .before .before .before .before .before .before .before .before .before .before .before .before .before .before .args in
+    fewer (space (a .w) (now (a .cells)) (now (a .perms)) (now (a .shapes)) (now (a .boxes))) (a .r) (a .body) (a .at .point) (a .n) (c .before .before .before .before .before .before .before .before .before .before .before .loop .after) (c .before .before .before .before .before .before .before .before .before .before .before .before .before .band-of .ensures) (c .before .before .before .before .before .before .before .before .before .before .before .before .before .before .column-centre .ensures) (c .before .before .before .before .before .before .before .before .before .before .next-height .ensures) _ (c .before .before .before .before .before .before .before .before .next .given .1)
 
 loop-again : tie.Need-loop-again Inv-loop μ-loop
 loop-again c =
-    let a = c .before .before .before .before .before .before .before .before .before .before .before .before .before .before .before .before .before .before .before .before .before .args in
-    (c .before .before .before .before .step-to .kept .1 .1 .1 .1 .1 .1 .1 .0 ∙ c .before .before .before .before .before .before .before .before .before .before .before .loop .inv .0, c .before .before .before .before .step-to .kept .1 .1 .1 .1 .1 .1 .1 .1 .0 ∙ c .before .before .before .before .before .before .before .before .before .before .before .loop .inv .1, along-on (ahead (edge (space (a .w) (now (a .cells)) (now (a .perms)) (now (a .shapes)) (now (a .boxes))) (a .r) (a .body) (a .at .point) (target (c .before .before .before .before .before .before .before .before .before .before .before .before .before .column-centre .result) (c .before .before .before .before .before .before .before .before .next .given .0 .0))) []) (c .before .before .before .before .before .before .before .before .before .before .before .loop .inv .2) (goes-on (space (a .w) (now (a .cells)) (now (a .perms)) (now (a .shapes)) (now (a .boxes))) (a .r) (a .body) (a .at .point) (a .n) (c .before .before .before .before .before .before .before .before .before .before .before .loop .after) (c .before .before .before .before .before .before .before .before .before .before .before .before .band-of .ensures) (c .before .before .before .before .before .before .before .before .before .before .before .before .before .column-centre .ensures) (c .before .before .before .before .before .before .before .before .before .before .next-height .ensures) _ (c .before .before .before .before .before .before .before .before .next .given .1)) (λ vs g. went-more g (c .before .before .before .before .step-to .ensures)))
+    let a = c .before .before .before .before .before .before .before .before .before .before .before .before .before .before .before .before .before .before .before .before .before .before .before .before .before .args in
+    (c .before .before .before .before .step-to .kept .1 .1 .1 .1 .1 .1 .1 .0 ∙ c .before .before .before .before .before .before .before .before .before .before .before .loop .inv .0, c .before .before .before .before .step-to .kept .1 .1 .1 .1 .1 .1 .1 .1 .0 ∙ c .before .before .before .before .before .before .before .before .before .before .before .loop .inv .1, along-on (ahead (edge (space (a .w) (now (a .cells)) (now (a .perms)) (now (a .shapes)) (now (a .boxes))) (a .r) (a .body) (a .at .point) (target (c .before .before .before .before .before .before .before .before .before .before .before .before .before .before .column-centre .result) (c .before .before .before .before .before .before .before .before .next .given .0 .0))) []) (c .before .before .before .before .before .before .before .before .before .before .before .loop .inv .2) (goes-on (space (a .w) (now (a .cells)) (now (a .perms)) (now (a .shapes)) (now (a .boxes))) (a .r) (a .body) (a .at .point) (a .n) (c .before .before .before .before .before .before .before .before .before .before .before .loop .after) (c .before .before .before .before .before .before .before .before .before .before .before .before .before .band-of .ensures) (c .before .before .before .before .before .before .before .before .before .before .before .before .before .before .column-centre .ensures) (c .before .before .before .before .before .before .before .before .before .before .next-height .ensures) _ (c .before .before .before .before .before .before .before .before .next .given .1)) (λ vs g. went-more g (c .before .before .before .before .step-to .ensures)))
 
 pub column-spec : {M : Type 1} → statement M
 column-spec =
@@ -76,15 +88,18 @@ column-spec =
     (tie.spec
     Inv-loop
     μ-loop
+    looked-requires
+    returns
     column-centre-requires
     band-of-requires
     loop-holds
     next-height-requires
     enum-known-next
     enum-told
+    answered-requires
     same-length
     same-length-2
-    returns
+    returns-2
     step-to-requires
     loop-less
     loop-again)

@@ -29,8 +29,8 @@ loop-holds c =
     let a = c .before .before .before .before .before .before .before .args in
     (omega arith, refl, refl, c .none .ensures ∙ sym (sides-begin (space (a .w) (now (a .cells)) (now (a .perms)) (now (a .shapes)) (now (a .boxes))) (a .r) (a .body) (a .at .point)), along-none (columns-begin (space (a .w) (now (a .cells)) (now (a .perms)) (now (a .shapes)) (now (a .boxes))) (a .r) (a .body) (a .at .point)) (stepped-none (now (a .nodes)) (now (a .front)) (c .before .before .before .before .before .before .before .pre .0 .few)))
 
-around-requires : tie.Need-around-requires Inv-loop μ-loop
-around-requires c κs =
+column-requires : tie.Need-column-requires Inv-loop μ-loop
+column-requires c κs =
     let a = c .before .before .before .before .before .before .before .before .before .before .before .args in
     let n = c .before .before .before .loop .n in
     let u = c .before .before .before .loop .inv .4 in
@@ -49,7 +49,7 @@ loop-again : tie.Need-loop-again Inv-loop μ-loop
 loop-again c =
     let a = c .before .before .before .before .before .before .before .before .before .before .before .before .before .before .before .before .args in
     let n = c .before .before .before .before .before .before .before .before .loop .n in
-    (omega (arith, c .before .before .before .before .before .before .before .loop-test .taken), c .before .before .before .before .around .kept .1 .1 .1 .1 .1 .1 .1 .0 ∙ c .before .before .before .before .before .before .before .before .loop .inv .1, c .before .before .before .before .around .kept .1 .1 .1 .1 .1 .1 .1 .1 .0 ∙ c .before .before .before .before .before .before .before .before .loop .inv .2, c .before .before .before .before .around .ensures .answered, along-on (columnIf (space (a .w) (now (a .cells)) (now (a .perms)) (now (a .shapes)) (now (a .boxes))) (a .r) (a .body) (a .at .point) n) (c .before .before .before .before .before .before .before .before .loop .inv .4) (columns-on (space (a .w) (now (a .cells)) (now (a .perms)) (now (a .shapes)) (now (a .boxes))) (a .r) (a .body) (a .at .point) n (c .before .before .before .before .before .before .before .loop-test .taken)) (λ vs g. stepped-more g (c .before .before .before .before .around .ensures .steps)))
+    (omega (arith, c .before .before .before .before .before .before .before .loop-test .taken), c .before .before .before .before .column .kept .1 .1 .1 .1 .1 .1 .1 .0 ∙ c .before .before .before .before .before .before .before .before .loop .inv .1, c .before .before .before .before .column .kept .1 .1 .1 .1 .1 .1 .1 .1 .0 ∙ c .before .before .before .before .before .before .before .before .loop .inv .2, c .before .before .before .before .column .ensures .answered, along-on (columnIf (space (a .w) (now (a .cells)) (now (a .perms)) (now (a .shapes)) (now (a .boxes))) (a .r) (a .body) (a .at .point) n) (c .before .before .before .before .before .before .before .before .loop .inv .4) (columns-on (space (a .w) (now (a .cells)) (now (a .perms)) (now (a .shapes)) (now (a .boxes))) (a .r) (a .body) (a .at .point) n (c .before .before .before .before .before .before .before .loop-test .taken)) (λ vs g. stepped-more g (c .before .before .before .before .column .ensures .steps)))
 
 same-length : tie.Need-same-length Inv-loop μ-loop
 same-length c = c .before .before .loop .inv .1
@@ -70,7 +70,7 @@ columns-spec =
     μ-loop
     none-requires
     loop-holds
-    around-requires
+    column-requires
     add-n
     loop-less
     loop-again

@@ -1,64 +1,164 @@
--- `search::find::find_walk_path` meets its contract. Assumes nothing.
-use mathlib.Core.Path.{refl, sym, ap, _∙_}
+-- `search::find::find_walk_path` meets its contract. The loop's invariant: the rooms are the state after so many expansions, with what the last of them came to.
+-- Assumes nothing.
+use Prim.Native.Nat.{_+_, _-_, _≤_}
+use mathlib.Core.Path.{_≡_, refl, sym, ap, _∙_}
+use mathlib.Core.Logic.{inl, inr}
+use mathlib.Core.List.{[], _∷_}
 use mathlib.Core.Option.{none, some}
-use lib.ListN.{length}
-use denote.Ref.{now}
+use native.Mathlib.Omega.{arith}
 use borrow.Author.Needs.{needs}
+use denote.Enum.Declared.{tagOf}
+use denote.Ref.{now}
+use lib.ListN.{length}
+use types.Run.{OneOf}
+use Rattle.world.specs.Space.{space}
+use Rattle.fields.specs.Pieces.{Bytes}
 use Rattle.bounds.specs.Bounds.{steps-bounded}
 use Rattle.refusals.specs.Refusals.{told}
 use Rattle.refusals.specs.Laws.{begins}
+use Rattle.outcomes.proofs.Turn.{the-type}
+use Rattle.outcomes.specs.declared.Turn.{Turn}
+use Rattle.outcomes.specs.declared.Turn.the-variants.{Rest, Going, At, By}
+use Rattle.outcomes.specs.Outcomes.{countsOf}
+use Rattle.search.specs.Turns.{Bounded}
+use Rattle.search.specs.Runs.{Spun}
+use Rattle.search.specs.Laws.Steps.{ready-after}
+use Rattle.search.specs.Laws.Runs.{Ended, spun-none, spun-next, spun-over}
+use Rattle.search.specs.Laws.Whole.{Roomy, ready-spin, searched}
 use Rattle.search.specs.Laws.Find.{leaves}
 use Rattle.search.proofs.find.find_walk_path.Statement.{statement}
 use Rattle.search.proofs.find.find_walk_path.Tie as tie
 
-judge-requires : tie.Need-judge-requires
+abbrev Inv-loop : tie.InvT-loop
+Inv-loop w cells perms shapes boxes r body nodes₀ front₀ out goal budget aim turn₀ t₀ nodes front turn t =
+    (t ≤ budget) × (length nodes ≡ length nodes₀) × (length front ≡ length front₀) × Bytes nodes
+    × Spun aim (space w cells perms shapes boxes) r body (countsOf turn₀) t turn nodes₀ front₀ nodes front
+
+abbrev μ-loop : tie.MeasureT-loop
+μ-loop w cells perms shapes boxes r body nodes₀ front₀ out goal budget aim turn₀ t₀ nodes front turn t = budget - t
+
+-- a turn that is not `Going`
+ended : (t : Turn) → OneOf (0 ∷ 2 ∷ 3 ∷ []) (tagOf the-type t) → Ended t
+ended (Rest c) h = tt
+ended (Going c) (inl e) = omega (arith, e)
+ended (Going c) (inr (inl e)) = omega (arith, e)
+ended (Going c) (inr (inr e)) = omega (arith, e)
+ended (At c k) h = tt
+ended (By c k l) h = tt
+
+-- what `judge` says where the search begins
+roomy : (s : tie.After-begin Inv-loop μ-loop) → Roomy (s .before .before .before .before .before .before .before .before .before .before .before .before .before .before .before .args .r) (now (s .before .before .before .before .before .before .before .before .before .before .before .before .before .before .before .args .nodes)) (now (s .before .before .before .before .before .before .before .before .before .before .before .before .before .before .before .args .front)) (now (s .before .before .before .before .before .before .before .before .before .before .before .before .before .before .before .args .out))
+roomy s =
+    let a = s .before .before .before .before .before .before .before .before .before .before .before .before .before .before .before .args in
+    let b = begins (a .w) (now (a .cells)) (now (a .perms)) (now (a .shapes)) (now (a .boxes)) (a .r) (a .body) (length (now (a .nodes))) (length (now (a .front))) (length (now (a .out))) (sym (s .before .before .before .before .before .before .before .judge .ensures) ∙ ap told (s .before .before .before .before .before .enum-told .given .1)) in
+    record { few = b .few-nodes; node-room = b .node-room; front-room = b .front-room; out-room = b .out-room }
+
+bounded : (s : tie.After-begin Inv-loop μ-loop) → Bounded (space (s .before .before .before .before .before .before .before .before .before .before .before .before .before .before .before .args .w) (now (s .before .before .before .before .before .before .before .before .before .before .before .before .before .before .before .args .cells)) (now (s .before .before .before .before .before .before .before .before .before .before .before .before .before .before .before .args .perms)) (now (s .before .before .before .before .before .before .before .before .before .before .before .before .before .before .before .args .shapes)) (now (s .before .before .before .before .before .before .before .before .before .before .before .before .before .before .before .args .boxes))) (s .before .before .before .before .before .before .before .before .before .before .before .before .before .before .before .args .r) (s .before .before .before .before .before .before .before .before .before .before .before .before .before .before .before .args .body)
+bounded s =
+    let a = s .before .before .before .before .before .before .before .before .before .before .before .before .before .before .before .args in
+    let b = begins (a .w) (now (a .cells)) (now (a .perms)) (now (a .shapes)) (now (a .boxes)) (a .r) (a .body) (length (now (a .nodes))) (length (now (a .front))) (length (now (a .out))) (sym (s .before .before .before .before .before .before .before .judge .ensures) ∙ ap told (s .before .before .before .before .before .enum-told .given .1)) in
+    steps-bounded (a .w) (now (a .cells)) (now (a .perms)) (now (a .shapes)) (now (a .boxes)) (a .r) (a .body) (b .world)
+
+judge-requires : tie.Need-judge-requires Inv-loop μ-loop
 judge-requires c κs = tt
 
-enum-known-outcome : tie.Need-enum-known-outcome
-enum-known-outcome c = search needs
+enum-known-judged : tie.Need-enum-known-judged Inv-loop μ-loop
+enum-known-judged c = search needs
 
-without-search-requires : tie.Need-without-search-requires
+without-search-requires : tie.Need-without-search-requires Inv-loop μ-loop
 without-search-requires c κs = tt
 
-enum-told : tie.Need-enum-told
-enum-told c = search needs
-
-search-requires : tie.Need-search-requires
-search-requires c κs =
-    let a = c .before .before .before .before .before .before .before .before .before .before .before .before .before .args in
-    let begun = begins (a .w) (now (a .cells)) (now (a .perms)) (now (a .shapes)) (now (a .boxes)) (a .r) (a .body) (length (now (a .nodes))) (length (now (a .front))) (length (now (a .out))) (sym (c .before .before .before .before .before .judge .ensures) ∙ ap told (c .before .before .before .enum-told .given .1)) in
-    ((begun .few-nodes, begun .node-room, begun .front-room, begun .out-room), steps-bounded (a .w) (now (a .cells)) (now (a .perms)) (now (a .shapes)) (now (a .boxes)) (a .r) (a .body) (begun .world))
-
-returns : tie.Need-returns
+returns : tie.Need-returns Inv-loop μ-loop
 returns c =
     let a = c .before .before .before .before .before .before .before .before .before .before .before .before .args in
-    leaves (a .w) (now (a .cells)) (now (a .perms)) (now (a .shapes)) (now (a .boxes)) (a .r) (a .body) (now (a .nodes)) (now (a .front)) (now (a .out)) (some _) (sym (ap told (c .before .before .outcome .given .1)) ∙ c .before .before .before .before .judge .ensures) (c .without-search .ensures) refl refl refl
+    leaves (a .w) (now (a .cells)) (now (a .perms)) (now (a .shapes)) (now (a .boxes)) (a .r) (a .body) (now (a .nodes)) (now (a .front)) (now (a .out)) (some _) (sym (ap told (c .before .before .judged .given .1)) ∙ c .before .before .before .before .judge .ensures) (c .without-search .ensures) refl refl refl
 
-same-length : tie.Need-same-length
-same-length c = c .before .before .before .before .before .before .search .kept .1 .1 .1 .1 .1 .1 .1 .0
+enum-told : tie.Need-enum-told Inv-loop μ-loop
+enum-told c = search needs
 
-same-length-2 : tie.Need-same-length-2
-same-length-2 c = c .before .before .before .before .before .before .search .kept .1 .1 .1 .1 .1 .1 .1 .1 .0
+feet-of-requires : tie.Need-feet-of-requires Inv-loop μ-loop
+feet-of-requires c κs = tt
 
-same-length-3 : tie.Need-same-length-3
-same-length-3 c = c .before .before .before .before .before .before .search .kept .1 .1 .1 .1 .1 .1 .1 .1 .1 .0
+feet-of-requires-2 : tie.Need-feet-of-requires-2 Inv-loop μ-loop
+feet-of-requires-2 c κs = tt
 
-returns-2 : tie.Need-returns-2
+begin-requires : tie.Need-begin-requires Inv-loop μ-loop
+begin-requires c κs = tt
+
+loop-holds : tie.Need-loop-holds Inv-loop μ-loop
+loop-holds c =
+    let h = ready-spin (c .before .before .before .before .before .before .before .before .before .before .before .before .before .before .before .before .before .before .before .args .r) (roomy (c .before .before .before .before)) (c .before .before .before .before .before .before .before .before .feet-of .ensures) (c .before .before .before .before .begin .ensures) (c .before .before .before .before .begin .kept .0) (c .before .before .before .before .begin .kept .1 .0) in
+    (omega arith, refl, refl, (λ i. omega (arith, c .before .before .slice-known4 .given i)), spun-none _ _ (h .few))
+
+enum-known-turn : tie.Need-enum-known-turn Inv-loop μ-loop
+enum-known-turn c = search needs
+
+expand-requires : tie.Need-expand-requires Inv-loop μ-loop
+expand-requires c κs =
+    let h = ready-spin (c .before .before .before .before .before .before .before .before .before .before .before .before .before .before .before .before .before .before .before .before .before .before .before .before .before .before .args .r) (roomy (c .before .before .before .before .before .before .before .before .before .before .before)) (c .before .before .before .before .before .before .before .before .before .before .before .before .before .before .before .feet-of .ensures) (c .before .before .before .before .before .before .before .before .before .before .before .begin .ensures) (c .before .before .before .before .before .before .before .before .before .before .before .begin .kept .0) (c .before .before .before .before .before .before .before .before .before .before .before .begin .kept .1 .0) in
+    let u = rw (c .before .before .before .turn .given .1) at (c .before .before .before .before .before .before .loop .inv .4) in
+    (ready-after h (u .near) (omega (arith, c .before .before .before .before .before .loop-test .taken)) (c .before .before .before .before .before .before .loop .inv .1) (c .before .before .before .before .before .before .loop .inv .2), (c .before .before .before .before .before .before .before .before .before .before .before .before .before .before .feet-of2 .ensures, bounded (c .before .before .before .before .before .before .before .before .before .before .before)))
+
+add-t : tie.Need-add-t Inv-loop μ-loop
+add-t c = omega (arith, c .before .before .before .before .before .before .before .before .before .before .loop-test .taken, roomy (c .before .before .before .before .before .before .before .before .before .before .before .before .before .before .before .before) .few)
+
+loop-less : tie.Need-loop-less Inv-loop μ-loop
+loop-less c = omega (arith, c .before .before .before .before .before .before .before .before .before .before .loop-test .taken)
+
+loop-again : tie.Need-loop-again Inv-loop μ-loop
+loop-again c =
+    let u = rw (c .before .before .before .before .before .before .before .before .turn .given .1) at (c .before .before .before .before .before .before .before .before .before .before .before .loop .inv .4) in
+    (omega (arith, c .before .before .before .before .before .before .before .before .before .before .loop-test .taken), c .before .before .before .before .expand .kept .1 .1 .1 .1 .1 .1 .1 .0 ∙ c .before .before .before .before .before .before .before .before .before .before .before .loop .inv .1, c .before .before .before .before .expand .kept .1 .1 .1 .1 .1 .1 .1 .1 .0 ∙ c .before .before .before .before .before .before .before .before .before .before .before .loop .inv .2, (λ i. omega (arith, c .before .before .slice-known6 .given i)), spun-next (c .before .before .before .before .before .before .before .before .before .before .before .loop .t) u (c .before .before .before .before .expand .ensures))
+
+conclude-requires : tie.Need-conclude-requires Inv-loop μ-loop
+conclude-requires c κs = tt
+
+zero-requires : tie.Need-zero-requires Inv-loop μ-loop
+zero-requires c κs = tt
+
+same-length : tie.Need-same-length Inv-loop μ-loop
+same-length c = c .before .before .before .before .before .before .before .before .before .before .loop .inv .1 ∙ c .before .before .before .before .before .before .before .before .before .before .before .before .before .before .before .begin .kept .0
+
+same-length-2 : tie.Need-same-length-2 Inv-loop μ-loop
+same-length-2 c = c .before .before .zero .kept .0 ∙ c .before .before .before .before .before .before .before .before .before .before .loop .inv .2 ∙ c .before .before .before .before .before .before .before .before .before .before .before .before .before .before .before .begin .kept .1 .0
+
+same-length-3 : tie.Need-same-length-3 Inv-loop μ-loop
+same-length-3 c = c .before .before .before .before .before .before .conclude .kept .1 .1 .1 .0
+
+-- as many expansions as the budget, or the search has ended before
+spun : (s : tie.Left-loop Inv-loop μ-loop) → Spun (record { budget = s .before .before .before .before .before .before .before .before .before .before .before .before .before .before .before .before .before .before .before .before .before .args .r .«node_budget»; goal = s .before .before .before .before .before .before .before .before .before .feet-of2 .result }) (space (s .before .before .before .before .before .before .before .before .before .before .before .before .before .before .before .before .before .before .before .before .before .args .w) (now (s .before .before .before .before .before .before .before .before .before .before .before .before .before .before .before .before .before .before .before .before .before .args .cells)) (now (s .before .before .before .before .before .before .before .before .before .before .before .before .before .before .before .before .before .before .before .before .before .args .perms)) (now (s .before .before .before .before .before .before .before .before .before .before .before .before .before .before .before .before .before .before .before .before .before .args .shapes)) (now (s .before .before .before .before .before .before .before .before .before .before .before .before .before .before .before .before .before .before .before .before .before .args .boxes))) (s .before .before .before .before .before .before .before .before .before .before .before .before .before .before .before .before .before .before .before .before .before .args .r) (s .before .before .before .before .before .before .before .before .before .before .before .before .before .before .before .before .before .before .before .before .before .args .body) (s .before .before .before .before .before .before .begin .result) (s .before .before .before .before .before .before .before .before .before .before .before .before .before .before .before .before .before .before .before .before .before .args .r .«node_budget») (s .before .loop .turn) (s .before .before .before .before .before .before .begin .last .0) (s .before .before .before .before .before .before .begin .last .1 .0) (s .before .loop .nodes) (s .before .loop .front)
+spun s = elim (s .loop-test .came) [
+    inl x ↦ (let e : s .before .loop .t ≡ s .before .before .before .before .before .before .before .before .before .before .before .before .before .before .before .before .before .before .before .before .before .args .r .«node_budget» = omega (arith, x .left, s .before .loop .inv .0) in rw e at (s .before .loop .inv .4))
+  | inr x ↦ spun-over (s .before .loop .turn) (s .before .loop .t) (s .before .before .before .before .before .before .before .before .before .before .before .before .before .before .before .before .before .before .before .before .before .args .r .«node_budget») (s .before .loop .inv .0) (ended (s .before .loop .turn) (x .1 .keys2)) (s .before .loop .inv .4) ]
+
+returns-2 : tie.Need-returns-2 Inv-loop μ-loop
 returns-2 c =
-    let a = c .before .before .before .before .before .before .before .before .before .before .before .before .before .before .before .before .before .before .before .before .args in
-    let s = c .before .before .before .before .before .before .search .ensures in
-    leaves (a .w) (now (a .cells)) (now (a .perms)) (now (a .shapes)) (now (a .boxes)) (a .r) (a .body) (now (a .nodes)) (now (a .front)) (now (a .out)) none (sym (ap told (c .before .before .before .before .before .before .before .before .before .before .enum-told .given .1)) ∙ c .before .before .before .before .before .before .before .before .before .before .before .before .judge .ensures) (s .0) (s .1 .0) (s .1 .1 .0) (s .1 .1 .1)
+    let a = c .before .before .before .before .before .before .before .before .before .before .before .before .before .before .before .before .before .before .before .before .before .before .before .before .before .before .before .before .before .before .args in
+    let s = searched (a .r) (roomy (c .before .before .before .before .before .before .before .before .before .before .before .before .before .before .before)) (c .before .before .before .before .before .before .before .before .before .before .before .before .before .before .before .before .before .before .before .feet-of .ensures) (c .before .before .before .before .before .before .before .before .before .before .before .before .before .before .before .begin .ensures) (a .w) (now (a .cells)) (now (a .perms)) (now (a .shapes)) (now (a .boxes)) (a .body) (c .before .before .before .before .before .before .before .before .before .before .before .before .before .before .before .before .before .before .feet-of2 .ensures) (spun (c .before .before .before .before .before .before .before .before .before)) (c .before .before .before .before .before .before .before .before .before .before .loop .inv .3) (c .before .before .before .before .before .before .before .before .before .before .loop .inv .1 ∙ c .before .before .before .before .before .before .before .before .before .before .before .before .before .before .before .begin .kept .0) (c .before .before .before .before .before .before .before .before .before .before .loop .inv .2 ∙ c .before .before .before .before .before .before .before .before .before .before .before .before .before .before .before .begin .kept .1 .0) (c .before .before .before .before .before .before .conclude .ensures) (c .before .before .zero .ensures) in
+    leaves (a .w) (now (a .cells)) (now (a .perms)) (now (a .shapes)) (now (a .boxes)) (a .r) (a .body) (now (a .nodes)) (now (a .front)) (now (a .out)) none (sym (ap told (c .before .before .before .before .before .before .before .before .before .before .before .before .before .before .before .before .before .before .before .before .enum-told .given .1)) ∙ c .before .before .before .before .before .before .before .before .before .before .before .before .before .before .before .before .before .before .before .before .before .before .judge .ensures) (s .0) (s .1) (s .2) (s .3)
 
 pub find-walk-path-spec : {M : Type 1} → statement M
 find-walk-path-spec =
     tie.close
     (tie.spec
+    Inv-loop
+    μ-loop
     judge-requires
-    enum-known-outcome
+    enum-known-judged
     without-search-requires
-    enum-told
-    search-requires
     returns
+    enum-told
+    feet-of-requires
+    feet-of-requires-2
+    begin-requires
+    loop-holds
+    enum-known-turn
+    expand-requires
+    add-t
+    loop-less
+    loop-again
+    conclude-requires
+    zero-requires
     same-length
     same-length-2
     same-length-3
