@@ -60,7 +60,7 @@ pub fn without_search(outcome: Outcome) -> Answer
 }
 
 // The answer of a search that found no list: nothing waits any more.
-pub fn verdict(c: Counts) -> Answer
+fn verdict(c: Counts) -> Answer
     ensures { λ a. ⌜ a ≡ answerOf c (endQuiet (c .dropped)) ⌝ }
 {
     let outcome = if c.dropped == 0 { Outcome::Unreachable } else { Outcome::BudgetExceeded };

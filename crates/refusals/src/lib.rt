@@ -1,6 +1,6 @@
 // Whether a search begins (01, "Numbers given back": "Search order"): every answer that comes before the first expansion.
 ghost use mathlib.Core.Path.{_≡_};
-ghost use Rattle.refusals.specs.Refusals.{noRoom, withoutSearch, told};
+ghost use Rattle.refusals.specs.Refusals.{withoutSearch, told};
 use outcomes::Outcome;
 use world::Body;
 use world::Request;
@@ -10,14 +10,6 @@ use world::Window;
 pub enum Judged {
     Refused(Outcome),
     Begins,
-}
-
-// Whether rooms of so many bytes are too small for a budget.
-pub fn no_room(budget: u64, nodes: usize, front: usize, out: usize) -> bool
-    ensures { λ a. ⌜ a ≡ noRoom budget nodes front out ⌝ }
-{
-    let n = budget as usize;
-    (nodes / 56 < n) | (front / 24 < n) | (out / 40 <= n)
 }
 
 // The call judged in 01's order; of the three rooms only their lengths count.
@@ -44,7 +36,8 @@ pub fn judge(
     if request::too_large(r, body) {
         return Judged::Refused(Outcome::TooLarge);
     }
-    if no_room(r.node_budget, nodes, front, out) {
+    let n = r.node_budget as usize;
+    if (nodes / 56 < n) | (front / 24 < n) | (out / 40 <= n) {
         return Judged::Refused(Outcome::NoRoom);
     }
     if !ends::ends_good(w, cells, perms, shapes, boxes, r, body) {

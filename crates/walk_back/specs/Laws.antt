@@ -3,10 +3,10 @@ use Prim.Native.Nat.{ℕ, zero, suc, _+_, _-_, _/_, _%_, _≤_, _<_}
 use native.Mathlib.Omega.{arith}
 use native.Mathlib.Numerals.{add-one}
 use mathlib.Core.Path.{_≡_, refl, sym, ap, _∙_}
-use mathlib.Core.Bool.{Bool, true, false, _&&_, _||_, cond, and-false, and-assoc}
+use mathlib.Core.Bool.{Bool, true, false, not, _&&_, _||_, cond, and-true, and-false, and-assoc}
 use mathlib.Core.List.{List, [], _∷_, _++_, map}
-use borrow.Author.Tests.{eq-eqb, ne-eqb}
-use lib.Dec.{eqb}
+use borrow.Author.Tests.{eqb-true, eqb-false, ltb-true, ltb-false}
+use lib.Dec.{eqb, ltb}
 use lib.Ieee.{Float}
 use lib.ListN.{length}
 use Rattle.exploration.specs.Lists.{has}
@@ -29,17 +29,15 @@ use Rattle.heights.specs.Next.{kept-next}
 use Rattle.heights.specs.Laws.{numbers}
 use Rattle.steps.specs.declared.columns.Centre.{Centre}
 use Rattle.sides.specs.declared.Sides.{Sides}
-use Rattle.sides.specs.Sides.{lookedBy, answeredBy, levelTo}
+use Rattle.sides.specs.Sides.{noSides, lookedBy, answeredBy, levelTo}
 use Rattle.steps.specs.Columns.{centreOf, bandOf, ahead, level, columnIf, stepsFrom}
-use Rattle.steps.specs.Expansion.{columnsFrom, columns-on, columns-end, sidesBefore, sides-on, skipped, stepsAfter, column-begins, column-ends, column-on, noted-none, noted-on}
+use Rattle.steps.specs.Expansion.{columnsFrom, columns-begin, columns-on, columns-end, sidesBefore, sides-begin, sides-on, skipped, stepsAfter, column-begins, column-ends, column-on, noted-none, noted-on}
 use Rattle.rooms.specs.declared.Feet.{Feet}
 use Rattle.rooms.specs.declared.Label.{Label}
 use Rattle.rooms.specs.Waypoints.{samePoint, alike, standing}
 use Rattle.words.specs.Words.{pointOf, feetOf, labelOf, stepOf, labelIf}
 use Rattle.steps.specs.Graph.{graph}
 use Rattle.walk_back.specs.declared.listed.Listed.{Listed}
-use Rattle.walk_back.specs.declared.pairs.Looked.{Looked}
-use Rattle.walk_back.specs.declared.pairs.Looked.the-variants.{Met, Passed}
 use Rattle.walk_back.specs.Listed.{listedAt, feet, label, entry, entriesFrom, waypoints}
 use Rattle.walk_back.specs.WalkBack.{isRouteList}
 
@@ -49,61 +47,43 @@ use Rattle.walk_back.specs.WalkBack.{isRouteList}
 unfoldable pub leadsTo : Listed → Waypoint → Bool
 leadsTo v step = samePoint (feetOf (step .feet)) (feet v) && alike (labelOf step) (label v)
 
--- what one edge says, after what was passed before it
-abbrev pub taken : Listed → Point → Bool → EdgeAnswer → Looked
-taken v from noted Nowhere = Passed noted
-taken v from noted (To step) = cond (leadsTo v step) Met (Passed (noted || levelTo from (step .feet)))
+-- What was noted of the edges of a column, where these of them are left: one leads to the record; or none did so far, and whether one was level.
+abbrev pub Noted : Listed → Point → List Waypoint → Bool → Bool → List Waypoint → Type 0
+Noted v from ws true noted left = has (leadsTo v) ws ≡ true
+Noted v from ws false noted left = (has (leadsTo v) ws ≡ has (leadsTo v) left) × (level from ws ≡ (noted || level from left))
 
--- what several say
-unfoldable pub lookedIn : Listed → Point → Bool → List Waypoint → Looked
-lookedIn v from noted ws = cond (has (leadsTo v) ws) Met (Passed (noted || level from ws))
+-- a column that is looked at is gone through while no edge of it has led to the record
+going : {A : Type 0} (looked met : Bool) → (looked && not met) ≡ true → (looked ≡ true → met ≡ false → A) → A
+going true false e f = f refl refl
+going true true e f = absurd (let z : _≡_ {A = ℕ} 0 1 = cc in omega arith)
+going false met e f = absurd (let z : _≡_ {A = ℕ} 0 1 = cc in omega arith)
 
-differ : {A : Type 0} {b : Bool} → Met ≡ Passed b → A
-differ {A} {b} e = absurd (let z : _≡_ {A = ℕ} 0 1 = cc in omega arith)
-
-inside : (a b : Bool) → Passed a ≡ Passed b → a ≡ b
-inside a b e = cc
-
-module _ (v : Listed) (from : Point) where
-  pub nothing : (noted : Bool) → lookedIn v from noted [] ≡ Passed noted
-  unfolding lookedIn
-  nothing noted = ap Passed (noted-none from noted)
-
-  pub ahead-met : (noted : Bool) (e : EdgeAnswer) (ws : List Waypoint) → taken v from noted e ≡ Met → lookedIn v from noted (ahead e ws) ≡ Met
-  unfolding lookedIn
-  ahead-met noted Nowhere ws h = differ (sym h)
-  ahead-met noted (To step) ws h = go (leadsTo v step) h
+module _ (v : Listed) (from : Point) (ws : List Waypoint) (looked met noted : Bool) (left : List Waypoint) (h : Noted v from ws met noted (cond looked left [])) where
+  pub noted-over : (looked && not met) ≡ false → Noted v from ws met noted []
+  noted-over e = go looked met e h
     where
-      go : (b : Bool) → cond b Met (Passed (noted || levelTo from (step .feet))) ≡ Met → cond (b || has (leadsTo v) ws) Met (Passed (noted || level from (step ∷ ws))) ≡ Met
-      go true h = refl
-      go false h = differ (sym h)
+      go : (o m : Bool) → (o && not m) ≡ false → Noted v from ws m noted (cond o left []) → Noted v from ws m noted []
+      go true true e h = h
+      go true false e h = absurd (let z : _≡_ {A = ℕ} 0 1 = cc in omega arith)
+      go false m e h = h
 
-  pub ahead-passed : (noted : Bool) (e : EdgeAnswer) (ws : List Waypoint) (b : Bool) → taken v from noted e ≡ Passed b → lookedIn v from noted (ahead e ws) ≡ lookedIn v from b ws
-  unfolding lookedIn
-  ahead-passed noted Nowhere ws b h = ap (λ (n : Bool). lookedIn v from n ws) (inside noted b h)
-  ahead-passed noted (To step) ws b h = go (leadsTo v step) h
+  pub noted-all : left ≡ [] → Noted v from ws met noted []
+  noted-all e = go looked h
     where
-      go : (t : Bool) → cond t Met (Passed (noted || levelTo from (step .feet))) ≡ Passed b →
-          cond (t || has (leadsTo v) ws) Met (Passed (noted || level from (step ∷ ws))) ≡ cond (has (leadsTo v) ws) Met (Passed (b || level from ws))
-      go true h = differ h
-      go false h = ap (λ (n : Bool). cond (has (leadsTo v) ws) Met (Passed n)) (noted-on from noted step ws ∙ ap (λ (n : Bool). n || level from ws) (inside _ b h))
+      go : (o : Bool) → Noted v from ws met noted (cond o left []) → Noted v from ws met noted []
+      go true h = rw e at h
+      go false h = h
 
-  -- what a column has said
-  pub column-met : (ws : List Waypoint) → lookedIn v from false ws ≡ Met → has (leadsTo v) ws ≡ true
-  unfolding lookedIn
-  column-met ws h = go (has (leadsTo v) ws) h
-    where
-      go : (t : Bool) → cond t Met (Passed (level from ws)) ≡ Met → t ≡ true
-      go true h = refl
-      go false h = differ (sym h)
+  module _ (g : (looked && not met) ≡ true) (e : EdgeAnswer) (later : List Waypoint) (next : left ≡ ahead e later) where
+    pub noted-nowhere : e ≡ Nowhere → Noted v from ws met noted (cond looked later [])
+    noted-nowhere n = let z : left ≡ later = rw n at next in rw z at h
 
-  pub column-passed : (ws : List Waypoint) (b : Bool) → lookedIn v from false ws ≡ Passed b → (has (leadsTo v) ws ≡ false) × (b ≡ level from ws)
-  unfolding lookedIn
-  column-passed ws b h = go (has (leadsTo v) ws) h
-    where
-      go : (t : Bool) → cond t Met (Passed (level from ws)) ≡ Passed b → (t ≡ false) × (b ≡ level from ws)
-      go true h = differ h
-      go false h = (refl, sym (inside _ b h))
+    pub noted-to : (step : Waypoint) → e ≡ To step → Noted v from ws (leadsTo v step) (noted || levelTo from (step .feet)) (cond looked later [])
+    noted-to step n = going looked met g (λ o m. let z : left ≡ step ∷ later = rw n at next in rw o (go (leadsTo v step) (rw (o, m, z) at h)))
+      where
+        go : (b : Bool) → (has (leadsTo v) ws ≡ (b || has (leadsTo v) later)) × (level from ws ≡ (noted || level from (step ∷ later))) → Noted v from ws b (noted || levelTo from (step .feet)) later
+        go true h = h .0
+        go false h = (h .0, h .1 ∙ noted-on from noted step later)
 
 -- ---- the columns
 
@@ -128,38 +108,32 @@ has-of : {A B : Type 0} (p : B → Bool) (f : A → B) (xs : List A) → has (λ
 has-of p f [] = refl
 has-of p f (x ∷ xs) = ap (λ (b : Bool). p (f x) || b) (has-of p f xs)
 
-module _ (sp : Space) (r : Request) (body : Body) (from : Point) (n : ℕ) (v : Listed) where
+module _ (sp : Space) (r : Request) (body : Body) (from : Point) (n : ℕ) where
   -- ---- one column, height after height
 
-  module _ (s : Sides) (before : s ≡ sidesBefore sp r body from n) where
-    pub unlooked : lookedBy s n ≡ false → lookedIn v from false (columnIf sp r body from n) ≡ Passed false
-    unlooked h = ap (lookedIn v from false) (skipped sp r body from n (ap (λ (t : Sides). lookedBy t n) (sym before) ∙ h)) ∙ nothing v from false
+  -- a column that is not looked at has no edges
+  column-is : columnIf sp r body from n ≡ cond (lookedBy (sidesBefore sp r body from n) n) (stepsAfter sp r body from n None) []
+  column-is = go (lookedBy (sidesBefore sp r body from n) n) refl
+    where
+      go : (b : Bool) → lookedBy (sidesBefore sp r body from n) n ≡ b → columnIf sp r body from n ≡ cond b (stepsAfter sp r body from n None) []
+      go true e = column-begins sp r body from n e
+      go false e = skipped sp r body from n e
 
-    pub begun : lookedBy s n ≡ true → lookedIn v from false (columnIf sp r body from n) ≡ lookedIn v from false (stepsAfter sp r body from n None)
-    begun h = ap (lookedIn v from false) (column-begins sp r body from n (ap (λ (t : Sides). lookedBy t n) (sym before) ∙ h))
-
-    -- the side answers of the next column
-    pub sides-next : (b : Bool) → lookedIn v from false (columnIf sp r body from n) ≡ Passed b → answeredBy s n b ≡ sidesBefore sp r body from (n + 1)
-    sides-next b e = rw (before, column-passed v from (columnIf sp r body from n) b e .1) (sym (sides-on sp r body from n))
+  pub begun : (v : Listed) (looked : Bool) → looked ≡ lookedBy (sidesBefore sp r body from n) n →
+      Noted v from (columnIf sp r body from n) false false (cond looked (stepsAfter sp r body from n None) [])
+  begun v looked e = let z : cond looked (stepsAfter sp r body from n None) [] ≡ columnIf sp r body from n = rw e (sym column-is) in rw z (refl, refl)
 
   -- how many heights are left
   abbrev pub heightsLeft : Height → ℕ
   heightsLeft after = length (keptAfter after (sorted (tops sp (bandOf r body from) (centreOf from n .x) (centreOf from n .z))))
 
-  module _ (band : Band) (centre : Centre) (b : band ≡ bandOf r body from) (m : centre ≡ centreOf from n) (after : Height) (noted : Bool) where
-    pub looked-over : nextAfter sp band (centre .x) (centre .z) after ≡ None → lookedIn v from noted (stepsAfter sp r body from n after) ≡ Passed noted
-    looked-over e = ap (lookedIn v from noted) (column-ends sp r body from n after (rw (b, m) at e)) ∙ nothing v from noted
+  module _ (band : Band) (centre : Centre) (b : band ≡ bandOf r body from) (m : centre ≡ centreOf from n) (after : Height) where
+    pub none-left : nextAfter sp band (centre .x) (centre .z) after ≡ None → stepsAfter sp r body from n after ≡ []
+    none-left e = column-ends sp r body from n after (rw (b, m) at e)
 
     module _ (y : Float) (e : nextAfter sp band (centre .x) (centre .z) after ≡ At y) where
-      next : stepsAfter sp r body from n after ≡ ahead (edge sp r body from (record { x = centre .x; y = y; z = centre .z })) (stepsAfter sp r body from n (At y))
-      next = let f : nextAfter sp (bandOf r body from) (centreOf from n .x) (centreOf from n .z) after ≡ At y = rw (b, m) at e in rw m (column-on sp r body from n after y f)
-
-      pub looked-met : taken v from noted (edge sp r body from (record { x = centre .x; y = y; z = centre .z })) ≡ Met → lookedIn v from noted (stepsAfter sp r body from n after) ≡ Met
-      looked-met t = ap (lookedIn v from noted) next ∙ ahead-met v from noted (edge sp r body from (record { x = centre .x; y = y; z = centre .z })) (stepsAfter sp r body from n (At y)) t
-
-      pub looked-on : (lower : Bool) → taken v from noted (edge sp r body from (record { x = centre .x; y = y; z = centre .z })) ≡ Passed lower →
-          lookedIn v from noted (stepsAfter sp r body from n after) ≡ lookedIn v from lower (stepsAfter sp r body from n (At y))
-      looked-on lower t = ap (lookedIn v from noted) next ∙ ahead-passed v from noted (edge sp r body from (record { x = centre .x; y = y; z = centre .z })) (stepsAfter sp r body from n (At y)) lower t
+      pub next-ahead : stepsAfter sp r body from n after ≡ ahead (edge sp r body from (record { x = centre .x; y = y; z = centre .z })) (stepsAfter sp r body from n (At y))
+      next-ahead = let f : nextAfter sp (bandOf r body from) (centreOf from n .x) (centreOf from n .z) after ≡ At y = rw (b, m) at e in rw m (column-on sp r body from n after y f)
 
       pub fewer : heightsLeft (At y) < heightsLeft after
       unfolding nextAfter
@@ -167,17 +141,48 @@ module _ (sp : Space) (r : Request) (body : Body) (from : Point) (n : ℕ) (v : 
           let f : nextAfter sp (bandOf r body from) (centreOf from n .x) (centreOf from n .z) after ≡ At y = rw (b, m) at e in
           omega (arith, ap length (kept-next _ (numbers (bandOf r body from) (centreOf from n .x) (centreOf from n .z) sp) after y f))
 
-  -- ---- column after column
+-- ---- column after column
 
-  module _ (h : n < 9) where
-    pub step-met : lookedIn v from false (columnIf sp r body from n) ≡ Met → has (leadsTo v) (columnsFrom sp r body from n) ≡ true
-    step-met e = ap (has (leadsTo v)) (columns-on sp r body from n h) ∙ has-here (leadsTo v) (columnIf sp r body from n) (columnsFrom sp r body from (n + 1)) (column-met v from (columnIf sp r body from n) e)
+-- what the columns before column n have said: a step leads to the record; or none of theirs does, and their side answers
+abbrev pub Tried : Space → Request → Body → Point → Listed → Bool → Sides → ℕ → Type 0
+Tried sp r body from v true s n = has (leadsTo v) (stepsFrom sp r body from) ≡ true
+Tried sp r body from v false s n = (s ≡ sidesBefore sp r body from n) × (has (leadsTo v) (stepsFrom sp r body from) ≡ has (leadsTo v) (columnsFrom sp r body from n))
 
-    pub step-passed : (b : Bool) → lookedIn v from false (columnIf sp r body from n) ≡ Passed b → has (leadsTo v) (columnsFrom sp r body from n) ≡ has (leadsTo v) (columnsFrom sp r body from (n + 1))
-    step-passed b e = ap (has (leadsTo v)) (columns-on sp r body from n h) ∙ has-later (leadsTo v) (columnIf sp r body from n) (columnsFrom sp r body from (n + 1)) (column-passed v from (columnIf sp r body from n) b e .0)
+module _ (sp : Space) (r : Request) (body : Body) (from : Point) (v : Listed) where
+  pub tried-none : (s : Sides) → s ≡ noSides → Tried sp r body from v false s 0
+  tried-none s e = (e ∙ sym (sides-begin sp r body from), ap (has (leadsTo v)) (columns-begin sp r body from))
 
-  pub step-none : 9 ≤ n → has (leadsTo v) (columnsFrom sp r body from n) ≡ false
-  step-none h = ap (has (leadsTo v)) (columns-end sp r body from n h)
+  module _ (met : Bool) (s : Sides) (n : ℕ) (h : Tried sp r body from v met s n) where
+    pub tried-over : (ltb n 9 && not met) ≡ false → met ≡ has (leadsTo v) (stepsFrom sp r body from)
+    tried-over e = go met e h
+      where
+        go : (m : Bool) → (ltb n 9 && not m) ≡ false → Tried sp r body from v m s n → m ≡ has (leadsTo v) (stepsFrom sp r body from)
+        go true e h = sym h
+        go false e h = sym (h .1 ∙ ap (has (leadsTo v)) (columns-end sp r body from n (ltb-false n 9 (sym (and-true (ltb n 9)) ∙ e))))
+
+    module _ (g : (ltb n 9 && not met) ≡ true) where
+      pub in-turn : n < 9
+      in-turn = going (ltb n 9) met g (λ l m. ltb-true n 9 l)
+
+      so-far : Tried sp r body from v false s n
+      so-far = going (ltb n 9) met g (λ l m. rw m at h)
+
+      -- the column is looked at by the answers of the sides before it
+      pub looked-is : lookedBy s n ≡ lookedBy (sidesBefore sp r body from n) n
+      looked-is = ap (λ (t : Sides). lookedBy t n) (so-far .0)
+
+      pub tried-next : (m level : Bool) → Noted v from (columnIf sp r body from n) m level [] → Tried sp r body from v m (answeredBy s n level) (n + 1)
+      tried-next m level k = go m k
+        where
+          on : has (leadsTo v) (stepsFrom sp r body from) ≡ has (leadsTo v) (columnIf sp r body from n ++ columnsFrom sp r body from (n + 1))
+          on = so-far .1 ∙ ap (has (leadsTo v)) (columns-on sp r body from n in-turn)
+
+          go : (m : Bool) → Noted v from (columnIf sp r body from n) m level [] → Tried sp r body from v m (answeredBy s n level) (n + 1)
+          go true k = on ∙ has-here (leadsTo v) (columnIf sp r body from n) (columnsFrom sp r body from (n + 1)) k
+          go false k = (
+            rw (so-far .0, sym (k .1 ∙ noted-none from level)) (sym (sides-on sp r body from n)),
+            on ∙ has-later (leadsTo v) (columnIf sp r body from n) (columnsFrom sp r body from (n + 1)) (k .0),
+          )
 
 -- ---- one pair
 
@@ -186,26 +191,22 @@ abbrev pub labelledBy : EdgeAnswer → Label → Bool
 labelledBy Nowhere l = false
 labelledBy (To step) l = alike (labelOf step) l
 
--- the connector leads from a point to a record that is at the goal
+-- the connector has a record's movement and lift
 unfoldable pub connectorTo : Space → Request → Body → Point → Listed → Bool
-connectorTo sp r body from v = labelledBy (connector sp r body from) (label v) && samePoint (feet v) (feetOf (r .goal))
+connectorTo sp r body from v = labelledBy (connector sp r body from) (label v)
 
 module _ (sp : Space) (r : Request) (body : Body) where
   pub step-is : (p v : Listed) → has (leadsTo v) (stepsFrom sp r body (pointOf (feet p))) ≡ hasStep (graph sp r body) (feet p) (entry v)
   unfolding graph stepOf leadsTo
   step-is p v = has-of (λ (u : Feet × Label). samePoint (u .0) (feet v) && alike (u .1) (label v)) stepOf (stepsFrom sp r body (pointOf (feet p)))
 
-  pub connector-is : (p v : Listed) → connectorTo sp r body (pointOf (feet p)) v ≡ (connects (graph sp r body) (feet p) (entry v) && (graph sp r body) .same (feet v) ((graph sp r body) .goal))
+  pub connector-is : (p v : Listed) → connectorTo sp r body (pointOf (feet p)) v ≡ connects (graph sp r body) (feet p) (entry v)
   unfolding graph connectorTo
-  connector-is p v = ap (λ (b : Bool). b && samePoint (feet v) (feetOf (r .goal))) (go (connector sp r body (pointOf (feet p))))
+  connector-is p v = go (connector sp r body (pointOf (feet p)))
     where
       go : (e : EdgeAnswer) → labelledBy e (label v) ≡ labelled (graph sp r body) (labelIf e) (label v)
       go Nowhere = refl
       go (To step) = refl
-
-  pub not-goal : (from : Point) (v : Listed) → samePoint (feet v) (feetOf (r .goal)) ≡ false → connectorTo sp r body from v ≡ false
-  unfolding connectorTo
-  not-goal from v e = rw e (and-false (labelledBy (connector sp r body from) (label v)))
 
 -- ---- the ways through a list
 
@@ -265,20 +266,34 @@ module _ (sp : Space) (r : Request) (body : Body) (s : List ℕ) (p : Listed) wh
       pub broken : k + 1 < length s / 40 → wayFrom k ≡ false
       broken l = rw (rest-on s k h, rest-on s (k + 1) l) (way-broken (graph sp r body) (feet p) (entry (listedAt s k)) (entry (listedAt s (k + 1))) (rest s (k + 1 + 1)) missed)
 
-      pub by-connector : length s / 40 ≤ k + 1 → wayFrom k ≡ connectorTo sp r body (pointOf (feet p)) (listedAt s k)
-      by-connector l = rw (rest-on s k h, rest-end s (k + 1) l) (way-last (graph sp r body) (feet p) (entry (listedAt s k)) missed ∙ sym (connector-is sp r body p (listedAt s k)))
+      pub by-connector : length s / 40 ≤ k + 1 → wayFrom k ≡ (connectorTo sp r body (pointOf (feet p)) (listedAt s k) && samePoint (feet (listedAt s k)) (feetOf (r .goal)))
+      unfolding graph
+      by-connector l =
+          rw (rest-on s k h, rest-end s (k + 1) l)
+          (way-last (graph sp r body) (feet p) (entry (listedAt s k)) missed ∙ ap (λ (b : Bool). b && samePoint (feet (listedAt s k)) (feetOf (r .goal))) (sym (connector-is sp r body p (listedAt s k))))
 
 -- one turn of the loop: the record that was read, and the point that was made of the one before it
 module _ (sp : Space) (r : Request) (body : Body) (s : List ℕ) (p : Listed) (k : ℕ) (h : k < length s / 40) (v : Listed) (from : Point) (here : v ≡ listedAt s k) (there : from ≡ pointOf (feet p)) where
   pub pair-on : has (leadsTo v) (stepsFrom sp r body from) ≡ true → wayFrom sp r body s p k ≡ wayFrom sp r body s v (k + 1)
   pair-on e = rw here (goes-on sp r body s p k h (rw (here, there) at e))
 
-  module _ (e : has (leadsTo v) (stepsFrom sp r body from) ≡ false) where
-    pub pair-broken : k + 1 < length s / 40 → wayFrom sp r body s p k ≡ false
-    pair-broken l = broken sp r body s p k h (rw (here, there) at e) l
+  -- the last pair may be the connector
+  pub pair-last : has (leadsTo v) (stepsFrom sp r body from) ≡ false →
+      wayFrom sp r body s p k ≡ ((eqb (k + 1) (length s / 40) && samePoint (feet v) (feetOf (r .goal))) && connectorTo sp r body from v)
+  pair-last e = go (eqb (k + 1) (length s / 40)) refl
+    where
+      f : has (leadsTo (listedAt s k)) (stepsFrom sp r body (pointOf (feet p))) ≡ false
+      f = rw (here, there) at e
 
-    pub pair-last : length s / 40 ≤ k + 1 → wayFrom sp r body s p k ≡ connectorTo sp r body from v
-    pair-last l = rw (here, there) (by-connector sp r body s p k h (rw (here, there) at e) l)
+      swap : (a b : Bool) → (a && b) ≡ (b && a)
+      swap true b = sym (and-true b)
+      swap false b = sym (and-false b)
+
+      go : (b : Bool) → eqb (k + 1) (length s / 40) ≡ b → wayFrom sp r body s p k ≡ ((b && samePoint (feet v) (feetOf (r .goal))) && connectorTo sp r body from v)
+      go true q =
+          let l = eqb-true (k + 1) (length s / 40) q in
+          rw (here, there) (by-connector sp r body s p k h f (omega (arith, l)) ∙ swap (connectorTo sp r body (pointOf (feet p)) (listedAt s k)) (samePoint (feet (listedAt s k)) (feetOf (r .goal))))
+      go false q = broken sp r body s p k h f (omega (arith, eqb-false (k + 1) (length s / 40) q))
 
 -- ---- the tests of a list, in the code's order
 
@@ -294,36 +309,41 @@ unfolding waypoints
 waypoints-are s h = let e : length s / 40 ≡ length s / 40 - 0 = omega arith in ap (entriesFrom s 0) e ∙ rest-on s 0 h
 
 module _ (sp : Space) (r : Request) (body : Body) (s : List ℕ) where
-  pub partial-record : (length s % 40 ≡ 0 → ⊥) → isRouteList sp r body s ≡ false
+  partial-record : eqb (length s % 40) 0 ≡ false → isRouteList sp r body s ≡ false
   unfolding isRouteList
-  partial-record h = rw (ne-eqb (length s % 40) 0 h)
+  partial-record e = rw e
 
-  pub empty-list : length s ≡ 0 → isRouteList sp r body s ≡ false
+  empty-list : length s ≡ 0 → isRouteList sp r body s ≡ false
   unfolding isRouteList isRoute
   empty-list e =
       ap (λ (b : Bool). eqb (length s % 40) 0 && endsGood sp r body && b) (ap (isRoute (graph sp r body)) (no-waypoints s e))
       ∙ and-false (eqb (length s % 40) 0 && endsGood sp r body)
 
-  module _ (whole : length s % 40 ≡ 0) (more : length s ≡ 0 → ⊥) where
-    head : isRouteList sp r body s ≡ (endsGood sp r body && isRoute (graph sp r body) (waypoints s))
-    unfolding isRouteList
-    head = rw (eq-eqb (length s % 40) 0 whole)
+  first-is : (v : Listed) (ws : List (Feet × Label)) → isRoute (graph sp r body) (entry v ∷ ws) ≡ (starts r v && isWay (graph sp r body) (feet v) ws)
+  unfolding isRoute graph
+  first-is v ws = sym (and-assoc (samePoint (feetOf (r .start)) (feet v)) (alike standing (label v)) _)
 
-    first-is : (v : Listed) (ws : List (Feet × Label)) → isRoute (graph sp r body) (entry v ∷ ws) ≡ (starts r v && isWay (graph sp r body) (feet v) ws)
-    unfolding isRoute graph
-    first-is v ws = sym (and-assoc (samePoint (feetOf (r .start)) (feet v)) (alike standing (label v)) _)
+  -- the first record, and those behind it
+  in-order : eqb (length s % 40) 0 ≡ true → 0 < length s → isRouteList sp r body s ≡ (endsGood sp r body && (starts r (listedAt s 0) && isWay (graph sp r body) (feet (listedAt s 0)) (rest s 1)))
+  unfolding isRouteList
+  in-order e l =
+      let whole = eqb-true (length s % 40) 0 e in
+      let h : 0 < length s / 40 = omega (arith, whole) in
+      rw e (ap (λ (b : Bool). endsGood sp r body && b) (ap (isRoute (graph sp r body)) (waypoints-are s h) ∙ first-is (listedAt s 0) (rest s 1)))
 
-    -- the first record, and those behind it
-    in-order : isRouteList sp r body s ≡ (endsGood sp r body && (starts r (listedAt s 0) && isWay (graph sp r body) (feet (listedAt s 0)) (rest s 1)))
-    in-order =
-        let h : 0 < length s / 40 = omega arith in
-        head ∙ ap (λ (b : Bool). endsGood sp r body && b) (ap (isRoute (graph sp r body)) (waypoints-are s h) ∙ first-is (listedAt s 0) (rest s 1))
+  -- whole records, and not none; the start first; good ends; and a way
+  abbrev pub begins : Bool
+  begins = eqb (length s % 40) 0 && ltb 0 (length s) && starts r (listedAt s 0)
 
-    pub bad-start : starts r (listedAt s 0) ≡ false → isRouteList sp r body s ≡ false
-    bad-start e = in-order ∙ rw e (and-false (endsGood sp r body))
+  pub route-is : (begins && endsGood sp r body && isWay (graph sp r body) (feet (listedAt s 0)) (rest s 1)) ≡ isRouteList sp r body s
+  route-is = go (eqb (length s % 40) 0) refl (ltb 0 (length s)) refl
+    where
+      turn : (a b c : Bool) → (a && b && c) ≡ (b && (a && c))
+      turn true b c = refl
+      turn false b c = sym (and-false b)
 
-    pub bad-ends : endsGood sp r body ≡ false → isRouteList sp r body s ≡ false
-    bad-ends e = in-order ∙ rw e
-
-    pub by-way : starts r (listedAt s 0) ≡ true → endsGood sp r body ≡ true → isRouteList sp r body s ≡ isWay (graph sp r body) (feet (listedAt s 0)) (rest s 1)
-    by-way e f = in-order ∙ rw (e, f)
+      go : (a : Bool) → eqb (length s % 40) 0 ≡ a → (b : Bool) → ltb 0 (length s) ≡ b →
+          (a && b && starts r (listedAt s 0) && endsGood sp r body && isWay (graph sp r body) (feet (listedAt s 0)) (rest s 1)) ≡ isRouteList sp r body s
+      go true e true f = turn (starts r (listedAt s 0)) (endsGood sp r body) _ ∙ sym (in-order e (ltb-true 0 (length s) f))
+      go true e false f = sym (empty-list (omega (arith, ltb-false 0 (length s) f)))
+      go false e b f = sym (partial-record e)

@@ -42,17 +42,15 @@ fn leads(
     let mut last = listed::listed_at(list, 0);
     let mut k: usize = 1;
     while k < n {
-        let next = k + 1;
         let from = listed::point_at(last);
         let v = listed::listed_at(list, k);
         if !pairs::has_step(w, cells, perms, shapes, boxes, r, body, from, v) {
-            if next < n {
-                return false;
-            }
-            return pairs::connects(w, cells, perms, shapes, boxes, r, body, from, v);
+            return (k + 1 == n)
+                && listed::is_goal(r.goal, v)
+                && pairs::connects(w, cells, perms, shapes, boxes, r, body, from, v);
         }
         last = v;
-        k = next;
+        k += 1;
     }
     listed::is_goal(r.goal, last)
 }
@@ -70,19 +68,10 @@ fn is_route(
 ) -> bool
     ensures { λ a. ⌜ a ≡ isRouteList (space w (now (cells .entry)) (now (perms .entry)) (now (shapes .entry)) (now (boxes .entry))) r body (now (list .entry)) ⌝ }
 {
-    if list.len() % 40 != 0 {
-        return false;
-    }
-    if list.len() == 0 {
-        return false;
-    }
-    if !listed::is_start(r.start, listed::listed_at(list, 0)) {
-        return false;
-    }
-    if !ends::ends_good(w, cells, perms, shapes, boxes, r, body) {
-        return false;
-    }
-    leads(w, cells, perms, shapes, boxes, r, body, list)
+    ((list.len() % 40 == 0) & (0 < list.len()))
+        && listed::is_start(r.start, listed::listed_at(list, 0))
+        && ends::ends_good(w, cells, perms, shapes, boxes, r, body)
+        && leads(w, cells, perms, shapes, boxes, r, body, list)
 }
 
 // Whether a list is a route: 3, an invalid request (no), 4 without the budget, then yes or no.

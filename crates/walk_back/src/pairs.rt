@@ -3,15 +3,16 @@
 // The columns and their heights are gone through as an expansion goes through them, since diagonals wait for the answers of the sides; the first edge that
 // leads to the record ends it.
 ghost use mathlib.Core.Path.{_≡_};
-ghost use mathlib.Core.Bool.{false};
+ghost use mathlib.Core.List.{[]};
 ghost use Rattle.world.specs.Space.{space};
 ghost use Rattle.exploration.specs.Lists.{has};
-ghost use Rattle.edges.specs.Edges.{edge};
-ghost use Rattle.steps.specs.Columns.{stepsFrom, columnIf};
+ghost use Rattle.sides.specs.Sides.{lookedBy};
+ghost use Rattle.steps.specs.Columns.{bandOf, stepsFrom, columnIf};
 ghost use Rattle.steps.specs.Expansion.{sidesBefore};
-ghost use Rattle.walk_back.specs.Laws.{leadsTo, taken, lookedIn, connectorTo};
+ghost use Rattle.walk_back.specs.Laws.{leadsTo, Noted, connectorTo};
 use crate::listed;
 use crate::listed::Listed;
+use heights::Band;
 use heights::Height;
 use moves::EdgeAnswer;
 use sides::Sides;
@@ -20,38 +21,13 @@ use world::Point;
 use world::Request;
 use world::Window;
 
-// What a column, or a part of it, says: an edge of it leads to the record, or none does and whether one of them is level.
-pub(crate) enum Looked {
-    Met,
-    Passed(bool),
+// What a column says: whether an edge of it leads to the record, and where none does whether one of them is level.
+pub(crate) struct Looked {
+    pub met: bool,
+    pub level: bool,
 }
 
-// What the edge to one height says, after what was passed before it.
-fn look(
-    w: Window,
-    cells: &[u8],
-    perms: &[u8],
-    shapes: &[u8],
-    boxes: &[u8],
-    r: Request,
-    body: Body,
-    from: Point,
-    to: Point,
-    v: Listed,
-    noted: bool,
-) -> Looked
-    ensures { λ a. ⌜ a ≡ taken v from noted (edge (space w (now (cells .entry)) (now (perms .entry)) (now (shapes .entry)) (now (boxes .entry))) r body from to) ⌝ }
-{
-    let EdgeAnswer::To(step) = edges::edge(w, cells, perms, shapes, boxes, r, body, from, to) else {
-        return Looked::Passed(noted);
-    };
-    if listed::leads_to(v, step) {
-        return Looked::Met;
-    }
-    Looked::Passed(noted | sides::is_level(from, step.feet))
-}
-
-// What column n says, with the side answers of the columns before it.
+// What column n says; one that is not looked at has no edges.
 fn look_column(
     w: Window,
     cells: &[u8],
@@ -61,35 +37,31 @@ fn look_column(
     r: Request,
     body: Body,
     from: Point,
-    sides: Sides,
+    band: Band,
+    looked: bool,
     n: usize,
     v: Listed,
 ) -> Looked
-    requires { ⌜ sides ≡ sidesBefore (space w (now cells) (now perms) (now shapes) (now boxes)) r body from n ⌝ }
-    ensures { λ a. ⌜ a ≡ lookedIn v from false (columnIf (space w (now (cells .entry)) (now (perms .entry)) (now (shapes .entry)) (now (boxes .entry))) r body from n) ⌝ }
+    requires { ⌜ band ≡ bandOf r body from ⌝ }
+    requires { ⌜ looked ≡ lookedBy (sidesBefore (space w (now cells) (now perms) (now shapes) (now boxes)) r body from n) n ⌝ }
+    ensures { λ a. ⌜ Noted v from (columnIf (space w (now (cells .entry)) (now (perms .entry)) (now (shapes .entry)) (now (boxes .entry))) r body from n) (a .met) (a .level) [] ⌝ }
 {
-    if !sides.looked(n) {
-        return Looked::Passed(false);
-    }
-    let band = steps::band_of(r, body, from);
     let centre = steps::column_centre(from, n);
-    let mut noted = false;
+    let mut met = false;
+    let mut level = false;
     let mut after = Height::None;
-    loop {
+    while looked & !met {
         let Height::At(y) = heights::next_height(w, cells, perms, shapes, boxes, band, centre.x, centre.z, after) else {
-            return Looked::Passed(noted);
+            break;
         };
-        let to = Point {
-            x: centre.x,
-            y,
-            z: centre.z,
-        };
-        let Looked::Passed(level) = look(w, cells, perms, shapes, boxes, r, body, from, to, v, noted) else {
-            return Looked::Met;
-        };
-        noted = level;
+        let to = Point { x: centre.x, y, z: centre.z };
+        if let EdgeAnswer::To(step) = edges::edge(w, cells, perms, shapes, boxes, r, body, from, to) {
+            met = listed::leads_to(v, step);
+            level = level | sides::is_level(from, step.feet);
+        }
         after = Height::At(y);
     }
+    Looked { met, level }
 }
 
 // Whether a graph step leads from a point to a record.
@@ -106,10 +78,12 @@ pub(crate) fn has_step(
 ) -> bool
     ensures { λ a. ⌜ a ≡ has (leadsTo v) (stepsFrom (space w (now (cells .entry)) (now (perms .entry)) (now (shapes .entry)) (now (boxes .entry))) r body from) ⌝ }
 {
+    let band = steps::band_of(r, body, from);
     let mut sides = Sides::none();
+    let mut met = false;
     let mut n: usize = 0;
-    while n < 9 {
-        let Looked::Passed(level) = look_column(
+    while (n < 9) & !met {
+        let seen = look_column(
             w,
             cells,
             perms,
@@ -118,19 +92,19 @@ pub(crate) fn has_step(
             r,
             body,
             from,
-            sides,
+            band,
+            sides.looked(n),
             n,
             v,
-        ) else {
-            return true;
-        };
-        sides = sides.answered(n, level);
+        );
+        sides = sides.answered(n, seen.level);
+        met = seen.met;
         n += 1;
     }
-    false
+    met
 }
 
-// Whether the connector leads from a point to a record that is at the goal.
+// Whether the connector from a point has a record's movement and lift.
 pub(crate) fn connects(
     w: Window,
     cells: &[u8],
@@ -144,9 +118,6 @@ pub(crate) fn connects(
 ) -> bool
     ensures { λ a. ⌜ a ≡ connectorTo (space w (now (cells .entry)) (now (perms .entry)) (now (shapes .entry)) (now (boxes .entry))) r body from v ⌝ }
 {
-    if !listed::is_goal(r.goal, v) {
-        return false;
-    }
     let EdgeAnswer::To(step) = edges::connector(w, cells, perms, shapes, boxes, r, body, from)
     else {
         return false;

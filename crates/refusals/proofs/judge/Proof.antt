@@ -2,7 +2,7 @@
 use mathlib.Core.Path.{sym, _∙_}
 use denote.Ref.{now}
 use borrow.Author.Tests.{not-true, not-false}
-use Rattle.refusals.specs.Laws.{out-bad-world, out-invalid, out-too-large, out-no-room, out-bad-end, out-budget, out-search}
+use Rattle.refusals.specs.Laws.{room-divided, out-bad-world, out-invalid, out-too-large, out-no-room, out-bad-end, out-budget, out-search}
 use Rattle.refusals.proofs.judge.Statement.{statement}
 use Rattle.refusals.proofs.judge.Tie as tie
 
@@ -36,50 +36,47 @@ returns-3 c =
     (sym (c .before .before .before .valid-request .ensures) ∙ not-false _ (c .before .before .if2 .left))
     (sym (c .before .too-large .ensures) ∙ c .if3 .taken)
 
-no-room-requires : tie.Need-no-room-requires
-no-room-requires c κs = tt
-
 returns-4 : tie.Need-returns-4
 returns-4 c =
-    let a = c .before .before .before .before .before .before .before .before .before .before .before .before .args in
+    let a = c .before .before .before .before .before .before .before .before .before .before .before .args in
     out-no-room (a .w) (now (a .cells)) (now (a .perms)) (now (a .shapes)) (now (a .boxes)) (a .r) (a .body) (a .nodes) (a .front) (a .out)
-    (sym (c .before .before .before .before .before .before .before .bad-world .ensures) ∙ c .before .before .before .before .before .before .if1 .left)
-    (sym (c .before .before .before .before .before .valid-request .ensures) ∙ not-false _ (c .before .before .before .before .if2 .left))
-    (sym (c .before .before .before .too-large .ensures) ∙ c .before .before .if3 .left)
-    (sym (c .before .no-room .ensures) ∙ c .if4 .taken)
+    (sym (c .before .before .before .before .before .before .bad-world .ensures) ∙ c .before .before .before .before .before .if1 .left)
+    (sym (c .before .before .before .before .valid-request .ensures) ∙ not-false _ (c .before .before .before .if2 .left))
+    (sym (c .before .before .too-large .ensures) ∙ c .before .if3 .left)
+    (sym (room-divided (a .r .«node_budget») (a .nodes) (a .front) (a .out)) ∙ c .if4 .taken)
 
 ends-good-requires : tie.Need-ends-good-requires
 ends-good-requires c κs = tt
 
 returns-5 : tie.Need-returns-5
 returns-5 c =
-    let a = c .before .before .before .before .before .before .before .before .before .before .before .before .before .before .args in
+    let a = c .before .before .before .before .before .before .before .before .before .before .before .before .before .args in
     out-bad-end (a .w) (now (a .cells)) (now (a .perms)) (now (a .shapes)) (now (a .boxes)) (a .r) (a .body) (a .nodes) (a .front) (a .out)
-    (sym (c .before .before .before .before .before .before .before .before .before .bad-world .ensures) ∙ c .before .before .before .before .before .before .before .before .if1 .left)
-    (sym (c .before .before .before .before .before .before .before .valid-request .ensures) ∙ not-false _ (c .before .before .before .before .before .before .if2 .left))
-    (sym (c .before .before .before .before .before .too-large .ensures) ∙ c .before .before .before .before .if3 .left)
-    (sym (c .before .before .before .no-room .ensures) ∙ c .before .before .if4 .left)
+    (sym (c .before .before .before .before .before .before .before .before .bad-world .ensures) ∙ c .before .before .before .before .before .before .before .if1 .left)
+    (sym (c .before .before .before .before .before .before .valid-request .ensures) ∙ not-false _ (c .before .before .before .before .before .if2 .left))
+    (sym (c .before .before .before .before .too-large .ensures) ∙ c .before .before .before .if3 .left)
+    (sym (room-divided (a .r .«node_budget») (a .nodes) (a .front) (a .out)) ∙ c .before .before .if4 .left)
     (sym (c .before .ends-good .ensures) ∙ not-true _ (c .if5 .taken))
 
 returns-6 : tie.Need-returns-6
 returns-6 c =
-    let a = c .before .before .before .before .before .before .before .before .before .before .before .before .before .before .before .before .args in
+    let a = c .before .before .before .before .before .before .before .before .before .before .before .before .before .before .before .args in
     out-budget (a .w) (now (a .cells)) (now (a .perms)) (now (a .shapes)) (now (a .boxes)) (a .r) (a .body) (a .nodes) (a .front) (a .out)
-    (sym (c .before .before .before .before .before .before .before .before .before .before .before .bad-world .ensures) ∙ c .before .before .before .before .before .before .before .before .before .before .if1 .left)
-    (sym (c .before .before .before .before .before .before .before .before .before .valid-request .ensures) ∙ not-false _ (c .before .before .before .before .before .before .before .before .if2 .left))
-    (sym (c .before .before .before .before .before .before .before .too-large .ensures) ∙ c .before .before .before .before .before .before .if3 .left)
-    (sym (c .before .before .before .before .before .no-room .ensures) ∙ c .before .before .before .before .if4 .left)
+    (sym (c .before .before .before .before .before .before .before .before .before .before .bad-world .ensures) ∙ c .before .before .before .before .before .before .before .before .before .if1 .left)
+    (sym (c .before .before .before .before .before .before .before .before .valid-request .ensures) ∙ not-false _ (c .before .before .before .before .before .before .before .if2 .left))
+    (sym (c .before .before .before .before .before .before .too-large .ensures) ∙ c .before .before .before .before .before .if3 .left)
+    (sym (room-divided (a .r .«node_budget») (a .nodes) (a .front) (a .out)) ∙ c .before .before .before .before .if4 .left)
     (sym (c .before .before .before .ends-good .ensures) ∙ not-false _ (c .before .before .if5 .left))
     (c .if6 .taken)
 
 returns-7 : tie.Need-returns-7
 returns-7 c =
-    let a = c .before .before .before .before .before .before .before .before .before .before .before .before .before .before .before .before .args in
+    let a = c .before .before .before .before .before .before .before .before .before .before .before .before .before .before .before .args in
     out-search (a .w) (now (a .cells)) (now (a .perms)) (now (a .shapes)) (now (a .boxes)) (a .r) (a .body) (a .nodes) (a .front) (a .out)
-    (sym (c .before .before .before .before .before .before .before .before .before .before .before .bad-world .ensures) ∙ c .before .before .before .before .before .before .before .before .before .before .if1 .left)
-    (sym (c .before .before .before .before .before .before .before .before .before .valid-request .ensures) ∙ not-false _ (c .before .before .before .before .before .before .before .before .if2 .left))
-    (sym (c .before .before .before .before .before .before .before .too-large .ensures) ∙ c .before .before .before .before .before .before .if3 .left)
-    (sym (c .before .before .before .before .before .no-room .ensures) ∙ c .before .before .before .before .if4 .left)
+    (sym (c .before .before .before .before .before .before .before .before .before .before .bad-world .ensures) ∙ c .before .before .before .before .before .before .before .before .before .if1 .left)
+    (sym (c .before .before .before .before .before .before .before .before .valid-request .ensures) ∙ not-false _ (c .before .before .before .before .before .before .before .if2 .left))
+    (sym (c .before .before .before .before .before .before .too-large .ensures) ∙ c .before .before .before .before .before .if3 .left)
+    (sym (room-divided (a .r .«node_budget») (a .nodes) (a .front) (a .out)) ∙ c .before .before .before .before .if4 .left)
     (sym (c .before .before .before .ends-good .ensures) ∙ not-false _ (c .before .before .if5 .left))
     (c .if6 .left)
 
@@ -93,7 +90,6 @@ judge-spec =
     returns-2
     too-large-requires
     returns-3
-    no-room-requires
     returns-4
     ends-good-requires
     returns-5

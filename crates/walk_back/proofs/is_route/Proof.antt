@@ -1,19 +1,31 @@
 -- `walk_back::is_route` meets its contract. Assumes nothing.
-use mathlib.Core.Path.{_≡_, refl, sym, ap, _∙_}
-use borrow.Author.Tests.{not-true, not-false}
+use mathlib.Core.Path.{_≡_, refl, ap, _∙_}
+use mathlib.Core.Bool.{_&&_}
+use mathlib.Core.Logic.{⊎-elim}
 use borrow.Author.Needs.{needs}
 use denote.Ref.{now}
-use Rattle.world.specs.Space.{space}
+use Rattle.world.specs.Space.{Space, space}
+use Rattle.ends.specs.Ends.{endsGood}
+use Rattle.places.specs.Laws.{asked, spared}
 use Rattle.walk_back.specs.declared.listed.Listed.{Listed}
-use Rattle.walk_back.specs.Laws.{starts, partial-record, empty-list, bad-start, bad-ends, by-way}
+use Rattle.walk_back.specs.Laws.{starts, begins, route-is}
 use Rattle.walk_back.proofs.is_route.Statement.{statement}
 use Rattle.walk_back.proofs.is_route.Tie as tie
 
-returns : tie.Need-returns
-returns c = let a = c .before .before .before .before .before .before .args in let sp = space (a .w) (now (a .cells)) (now (a .perms)) (now (a .shapes)) (now (a .boxes)) in sym (partial-record sp (a .r) (a .body) (now (a .list)) (c .if1 .taken))
+abbrev sp : tie.Start → Space
+sp s = let a = s .args in space (a .w) (now (a .cells)) (now (a .perms)) (now (a .shapes)) (now (a .boxes))
 
-returns-2 : tie.Need-returns-2
-returns-2 c = let a = c .before .before .before .before .before .before .before .args in let sp = space (a .w) (now (a .cells)) (now (a .perms)) (now (a .shapes)) (now (a .boxes)) in sym (empty-list sp (a .r) (a .body) (now (a .list)) (c .if2 .taken))
+-- ---- the answer so far, where each test begins
+
+begins-is : (c : tie.Joined1) → let s = c .before .before .before .before .before .before in c .if1 .if2 ≡ begins (sp s) (s .args .r) (s .args .body) (now (s .args .list))
+begins-is c =
+    ⊎-elim (λ t. asked refl (t .0 .taken) (t .3 ∙ t .2 .ensures ∙ ap (λ (v : Listed). starts (c .before .before .before .before .before .before .args .r) v) (t .1 .ensures)))
+    (λ e. spared refl _ (e .0 .left) (e .1)) (c .if1 .came)
+
+ends-are : (c : tie.Joined2) → let s = c .before .before .before .before .before .before .before in c .if2 .if3 ≡ (begins (sp s) (s .args .r) (s .args .body) (now (s .args .list)) && endsGood (sp s) (s .args .r) (s .args .body))
+ends-are c = ⊎-elim (λ t. asked (begins-is (c .before)) (t .0 .taken) (t .2 ∙ t .1 .ensures)) (λ e. spared (begins-is (c .before)) _ (e .0 .left) (e .1)) (c .if2 .came)
+
+-- ---- the needs
 
 listed-at-requires : tie.Need-listed-at-requires
 listed-at-requires c κs = search needs
@@ -21,31 +33,25 @@ listed-at-requires c κs = search needs
 is-start-requires : tie.Need-is-start-requires
 is-start-requires c κs = tt
 
-returns-3 : tie.Need-returns-3
-returns-3 c = let a = c .before .before .before .before .before .before .before .before .before .before .args in let sp = space (a .w) (now (a .cells)) (now (a .perms)) (now (a .shapes)) (now (a .boxes)) in sym (bad-start sp (a .r) (a .body) (now (a .list)) (c .before .before .before .before .if1 .left) (c .before .before .before .if2 .left) (ap (λ (v : Listed). starts (a .r) v) (sym (c .before .before .listed-at .ensures)) ∙ (sym (c .before .is-start .ensures) ∙ not-true _ (c .if3 .taken))))
-
 ends-good-requires : tie.Need-ends-good-requires
 ends-good-requires c κs = tt
-
-returns-4 : tie.Need-returns-4
-returns-4 c = let a = c .before .before .before .before .before .before .before .before .before .before .before .before .args in let sp = space (a .w) (now (a .cells)) (now (a .perms)) (now (a .shapes)) (now (a .boxes)) in sym (bad-ends sp (a .r) (a .body) (now (a .list)) (c .before .before .before .before .before .before .if1 .left) (c .before .before .before .before .before .if2 .left) (sym (c .before .ends-good .ensures) ∙ not-true _ (c .if4 .taken)))
 
 leads-requires : tie.Need-leads-requires
 leads-requires c κs = tt
 
-returns-5 : tie.Need-returns-5
-returns-5 c = let a = c .before .before .before .before .before .before .before .before .before .before .before .before .before .args in let sp = space (a .w) (now (a .cells)) (now (a .perms)) (now (a .shapes)) (now (a .boxes)) in c .leads .ensures ∙ sym (by-way sp (a .r) (a .body) (now (a .list)) (c .before .before .before .before .before .before .before .if1 .left) (c .before .before .before .before .before .before .if2 .left) (ap (λ (v : Listed). starts (a .r) v) (sym (c .before .before .before .before .before .listed-at .ensures)) ∙ (sym (c .before .before .before .before .is-start .ensures) ∙ not-false _ (c .before .before .before .if3 .left))) (sym (c .before .before .ends-good .ensures) ∙ not-false _ (c .before .if4 .left)))
+returns : tie.Need-returns
+returns c = let s = c .before .before .before .before .before .before .before .before .before in asked (ends-are (c .before .before)) (c .before .if3 .taken) (c .leads .ensures) ∙ route-is (sp s) (s .args .r) (s .args .body) (now (s .args .list))
+
+returns-2 : tie.Need-returns-2
+returns-2 c = let s = c .before .before .before .before .before .before .before .before in spared (ends-are (c .before)) _ (c .if3 .left) refl ∙ route-is (sp s) (s .args .r) (s .args .body) (now (s .args .list))
 
 pub is-route-spec : {M : Type 1} → statement M
 is-route-spec =
     tie.close
     (tie.spec
-    returns
-    returns-2
     listed-at-requires
     is-start-requires
-    returns-3
     ends-good-requires
-    returns-4
     leads-requires
-    returns-5)
+    returns
+    returns-2)

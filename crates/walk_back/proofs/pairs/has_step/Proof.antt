@@ -1,60 +1,63 @@
 -- `walk_back::pairs::has_step` meets its contract. Assumes nothing.
-use mathlib.Core.Path.{_≡_, refl, sym, ap, _∙_}
-use Prim.Native.Nat.{_≤_, _-_}
+use mathlib.Core.Path.{_≡_, _∙_}
+use Prim.Native.Nat.{_-_}
 use native.Mathlib.Omega.{arith}
-use mathlib.Core.Bool.{false}
-use borrow.Author.Needs.{needs}
 use denote.Ref.{now}
-use Rattle.world.specs.Space.{space}
-use Rattle.exploration.specs.Lists.{has}
-use Rattle.steps.specs.Columns.{stepsFrom}
-use Rattle.steps.specs.Expansion.{columnsFrom, columns-begin, sidesBefore, sides-begin}
-use Rattle.walk_back.specs.Laws.{leadsTo, sides-next, step-met, step-passed, step-none}
+use Rattle.world.specs.Space.{Space, space}
+use Rattle.walk_back.specs.Laws.{Tried, tried-none, tried-over, in-turn, looked-is, tried-next}
 use Rattle.walk_back.proofs.pairs.has_step.Statement.{statement}
 use Rattle.walk_back.proofs.pairs.has_step.Tie as tie
 
 abbrev Inv-loop : tie.InvT-loop
-Inv-loop w cells perms shapes boxes r body from v sides₀ n₀ sides n =
-    let sp = space w cells perms shapes boxes in
-    (n ≤ 9) × ((sides ≡ sidesBefore sp r body from n) × (has (leadsTo v) (stepsFrom sp r body from) ≡ has (leadsTo v) (columnsFrom sp r body from n)))
+Inv-loop w cells perms shapes boxes r body from v band sides₀ met₀ n₀ sides met n =
+    Tried (space w cells perms shapes boxes) r body from v met sides n
 
 abbrev μ-loop : tie.MeasureT-loop
-μ-loop w cells perms shapes boxes r body from v sides₀ n₀ sides n = 9 - n
+μ-loop w cells perms shapes boxes r body from v band sides₀ met₀ n₀ sides met n = 9 - n
+
+abbrev sp : tie.Start Inv-loop μ-loop → Space
+sp s = let a = s .args in space (a .w) (now (a .cells)) (now (a .perms)) (now (a .shapes)) (now (a .boxes))
+
+band-of-requires : tie.Need-band-of-requires Inv-loop μ-loop
+band-of-requires c κs = tt
 
 none-requires : tie.Need-none-requires Inv-loop μ-loop
 none-requires c κs = tt
 
 loop-holds : tie.Need-loop-holds Inv-loop μ-loop
-loop-holds c = let a = c .before .before .before .before .before .args in let sp = space (a .w) (now (a .cells)) (now (a .perms)) (now (a .shapes)) (now (a .boxes)) in (omega arith, (c .none .ensures ∙ sym (sides-begin sp (a .r) (a .body) (a .from)), ap (has (leadsTo (a .v))) (columns-begin sp (a .r) (a .body) (a .from))))
+loop-holds c = let s = c .before .before .before .before .before .before in tried-none (sp s) (s .args .r) (s .args .body) (s .args .from) (s .args .v) _ (c .none .ensures)
+
+looked-requires : tie.Need-looked-requires Inv-loop μ-loop
+looked-requires c κs = tt
 
 look-column-requires : tie.Need-look-column-requires Inv-loop μ-loop
-look-column-requires c κs = c .before .loop .inv .1 .0
-
-enum-known-level : tie.Need-enum-known-level Inv-loop μ-loop
-enum-known-level c = search needs
-
-enum-told : tie.Need-enum-told Inv-loop μ-loop
-enum-told c = search needs
-
-returns : tie.Need-returns Inv-loop μ-loop
-returns c = let a = c .before .before .before .before .before .before .before .before .before .before .args in let sp = space (a .w) (now (a .cells)) (now (a .perms)) (now (a .shapes)) (now (a .boxes)) in sym (c .before .before .before .before .loop .inv .1 .1 ∙ step-met sp (a .r) (a .body) (a .from) (c .before .before .before .before .loop .n) (a .v) (c .before .before .before .loop-test .taken) (sym (c .before .before .look-column .ensures) ∙ c .enum-told .given .1))
+look-column-requires c κs =
+    let s = c .before .before .before .before .before .before .before .before .before in
+    (c .before .before .before .before .band-of .ensures, c .looked .ensures ∙ looked-is (sp s) (s .args .r) (s .args .body) (s .args .from) (s .args .v) (c .before .before .loop .met) (c .before .before .loop .sides) (c .before .before .loop .n) (c .before .before .loop .inv) (c .before .loop-test .taken))
 
 answered-requires : tie.Need-answered-requires Inv-loop μ-loop
 answered-requires c κs = tt
 
 add-n : tie.Need-add-n Inv-loop μ-loop
-add-n c = omega (arith, c .before .before .before .before .before .loop-test .taken)
+add-n c =
+    let s = c .before .before .before .before .before .before .before .before .before .before .before in
+    omega (arith, in-turn (sp s) (s .args .r) (s .args .body) (s .args .from) (s .args .v) (c .before .before .before .before .loop .met) (c .before .before .before .before .loop .sides) (c .before .before .before .before .loop .n) (c .before .before .before .before .loop .inv) (c .before .before .before .loop-test .taken))
 
 loop-less : tie.Need-loop-less Inv-loop μ-loop
-loop-less c = omega (arith, c .before .before .before .before .before .loop-test .taken)
+loop-less c =
+    let s = c .before .before .before .before .before .before .before .before .before .before .before in
+    omega (arith, in-turn (sp s) (s .args .r) (s .args .body) (s .args .from) (s .args .v) (c .before .before .before .before .loop .met) (c .before .before .before .before .loop .sides) (c .before .before .before .before .loop .n) (c .before .before .before .before .loop .inv) (c .before .before .before .loop-test .taken))
 
 loop-again : tie.Need-loop-again Inv-loop μ-loop
-loop-again c = let a = c .before .before .before .before .before .before .before .before .before .before .before .before .args in let sp = space (a .w) (now (a .cells)) (now (a .perms)) (now (a .shapes)) (now (a .boxes)) in
-    let p = sym (c .before .before .before .before .look-column .ensures) ∙ c .before .before .level .given .1 in
-    (omega (arith, c .before .before .before .before .before .loop-test .taken), (c .answered .ensures ∙ sides-next sp (a .r) (a .body) (a .from) (c .before .before .before .before .before .before .loop .n) (a .v) _ (c .before .before .before .before .before .before .loop .inv .1 .0) _ p, c .before .before .before .before .before .before .loop .inv .1 .1 ∙ step-passed sp (a .r) (a .body) (a .from) (c .before .before .before .before .before .before .loop .n) (a .v) (c .before .before .before .before .before .loop-test .taken) _ p))
+loop-again c =
+    let s = c .before .before .before .before .before .before .before .before .before .before .before in
+    let seen = c .before .look-column .result in
+    rw (c .answered .ensures) (tried-next (sp s) (s .args .r) (s .args .body) (s .args .from) (s .args .v) (c .before .before .before .before .loop .met) (c .before .before .before .before .loop .sides) (c .before .before .before .before .loop .n) (c .before .before .before .before .loop .inv) (c .before .before .before .loop-test .taken) (seen .met) (seen .level) (c .before .look-column .ensures))
 
-returns-2 : tie.Need-returns-2 Inv-loop μ-loop
-returns-2 c = let a = c .before .before .before .before .before .before .before .args in let sp = space (a .w) (now (a .cells)) (now (a .perms)) (now (a .shapes)) (now (a .boxes)) in sym (c .before .loop .inv .1 .1 ∙ step-none sp (a .r) (a .body) (a .from) (c .before .loop .n) (a .v) (omega arith))
+returns : tie.Need-returns Inv-loop μ-loop
+returns c =
+    let s = c .before .before .before .before .before .before .before .before in
+    tried-over (sp s) (s .args .r) (s .args .body) (s .args .from) (s .args .v) (c .before .loop .met) (c .before .loop .sides) (c .before .loop .n) (c .before .loop .inv) (c .loop-test .left)
 
 pub has-step-spec : {M : Type 1} → statement M
 has-step-spec =
@@ -62,14 +65,13 @@ has-step-spec =
     (tie.spec
     Inv-loop
     μ-loop
+    band-of-requires
     none-requires
     loop-holds
+    looked-requires
     look-column-requires
-    enum-known-level
-    enum-told
-    returns
     answered-requires
     add-n
     loop-less
     loop-again
-    returns-2)
+    returns)
