@@ -1,20 +1,24 @@
 -- The scans, turn by turn.
 use mathlib.Core.Path.{_≡_, refl, sym, ap, _∙_}
-use mathlib.Core.Bool.{Bool, true, false}
+use mathlib.Core.Bool.{Bool, true, false, _||_}
 use mathlib.Core.Option.{Option, none, some}
 use mathlib.Core.List.{List}
-use mathlib.Core.Logic.{_≢_}
-use Prim.Native.Nat.{ℕ, zero, suc, _+_, _-_, _<_}
+use Prim.Native.Nat.{ℕ, zero, suc, _+_, _-_, _*_, _<_}
 use native.Mathlib.Omega.{arith}
-use native.Mathlib.Nat.{zero-add}
+use native.Mathlib.Nat.{zero-add, add-zero}
 use native.Mathlib.Numerals.{add-one}
+use borrow.Author.Tests.{eq-eqb, ne-eqb}
+use lib.Dec.{eqb}
 use Rattle.exploration.specs.Choose.{scan, keep}
 use Rattle.exploration.specs.Laws.Loops.{scan-snoc}
+use Rattle.fields.specs.Little.{field}
 use Rattle.fields.specs.Records.{firsts}
 use Rattle.fields.specs.RecordLaws.{length-firsts}
+use Rattle.rooms.specs.declared.Feet.{Feet}
 use Rattle.rooms.specs.declared.Entry.{Entry}
-use Rattle.rooms.specs.Records.{entryAt}
-use Rattle.rooms.specs.Scans.{firstOf, waits, sooner, indexOr, nextOf}
+use Rattle.rooms.specs.Waypoints.{sameWord, samePoint}
+use Rattle.rooms.specs.Records.{nodeAt, entryAt}
+use Rattle.rooms.specs.Scans.{firstOf, isAt, waits, sooner, indexOr, nextOf}
 
 -- ---- the first that passes a test
 
@@ -31,6 +35,11 @@ module _ (p : ℕ → Bool) where
   pub first-end : (k n : ℕ) → n ≡ 0 → firstOf p k n ≡ k
   first-end k n e = rw e
 
+-- a node with another x is not at the point
+pub apart : (a : List ℕ) (q : Feet) (k : ℕ) → sameWord (field 8 a (56 * k)) (q .x) ≡ false → isAt a q k ≡ false
+unfolding nodeAt samePoint
+apart a q k h = rw (add-zero (56 * k), h)
+
 -- ---- the next of the frontier
 
 module _ (n : ℕ) (f : List ℕ) where
@@ -38,34 +47,39 @@ module _ (n : ℕ) (f : List ℕ) where
   abbrev upTo : ℕ → Option (ℕ × Entry)
   upTo i = scan waits sooner 0 none (firsts i (entryAt f))
 
-  -- `at` is the least of the first i entries, or n where none of them waits
-  pub data Holds : ℕ → ℕ → Type 0 where
-    nothing : {i at : ℕ} → upTo i ≡ none → at ≡ n → Holds i at
-    something : {i at : ℕ} → upTo i ≡ some (at, entryAt f at) → at < n → Holds i at
+  -- node `at` with its entry e is the least of the first i, or `at` is n where none of them waits
+  pub data Holds : ℕ → ℕ → Entry → Type 0 where
+    nothing : {i at : ℕ} {e : Entry} → upTo i ≡ none → at ≡ n → Holds i at e
+    something : {i at : ℕ} {e : Entry} → upTo i ≡ some (at, e) → at < n → Holds i at e
 
-  one-more : (i : ℕ) → upTo (i + 1) ≡ keep waits sooner (waits (entryAt f i)) i (entryAt f i) (upTo i)
-  one-more i = ap (λ (m : ℕ). upTo m) (add-one i) ∙ scan-snoc waits sooner 0 none (firsts i (entryAt f)) (entryAt f i) ∙ rw (zero-add, length-firsts)
+  -- after one more entry
+  one-more : (i : ℕ) {x : Entry} → x ≡ entryAt f i → upTo (i + 1) ≡ keep waits sooner (waits x) i x (upTo i)
+  one-more i q = ap (λ (m : ℕ). upTo m) (add-one i) ∙ scan-snoc waits sooner 0 none (firsts i (entryAt f)) (entryAt f i) ∙ rw (zero-add, length-firsts, q)
 
-  pub begins : Holds 0 n
+  pub begins : {e : Entry} → Holds 0 n e
   begins = nothing refl refl
 
-  pub passes : {i at : ℕ} → waits (entryAt f i) ≡ false → Holds i at → Holds (i + 1) at
-  passes {i} {at} t (nothing e l) = nothing (one-more i ∙ rw (t, e)) l
-  passes {i} {at} t (something e l) = something {at = at} (one-more i ∙ rw (t, e)) l
+  module _ {i at : ℕ} {x e : Entry} (q : x ≡ entryAt f i) where
+    pub passes : waits x ≡ false → Holds i at e → Holds (i + 1) at e
+    passes t (nothing u l) = nothing (one-more i q ∙ rw (t, u)) l
+    passes t (something u l) = something {at = at} {e = e} (one-more i q ∙ rw (t, u)) l
 
-  pub takes-first : {i at : ℕ} → i < n → waits (entryAt f i) ≡ true → at ≡ n → Holds i at → Holds (i + 1) i
-  takes-first {i} {at} h t q (nothing e l) = something {at = i} (one-more i ∙ rw (t, e)) h
-  takes-first {i} {at} h t q (something e l) = absurd (omega arith)
+    pub takes : i < n → waits x ≡ true → eqb at n || sooner x e ≡ true → Holds i at e → Holds (i + 1) i x
+    takes h t b (nothing u l) = something {at = i} {e = x} (one-more i q ∙ rw (t, u)) h
+    takes h t b (something u l) =
+        let s : sooner x e ≡ true = rw (ne-eqb at n (λ y. omega arith)) at b in
+        something {at = i} {e = x} (one-more i q ∙ rw (t, u, keep, s)) h
 
-  pub takes-lower : {i at : ℕ} → i < n → waits (entryAt f i) ≡ true → at ≢ n → sooner (entryAt f i) (entryAt f at) ≡ true → Holds i at → Holds (i + 1) i
-  takes-lower {i} {at} h t q b (nothing e l) = absurd (q l)
-  takes-lower {i} {at} h t q b (something e l) = something {at = i} (one-more i ∙ rw (t, e, keep, b)) h
+    pub stays : waits x ≡ true → eqb at n || sooner x e ≡ false → Holds i at e → Holds (i + 1) at e
+    stays t b (nothing u l) = absurd (apart-from (rw (eq-eqb at n l) at b))
+      where
+        apart-from : true ≡ false → ⊥
+        apart-from y = let z : _≡_ {A = ℕ} 0 1 = cc in omega arith
+    stays t b (something u l) =
+        let s : sooner x e ≡ false = rw (ne-eqb at n (λ y. omega arith)) at b in
+        something {at = at} {e = e} (one-more i q ∙ rw (t, u, keep, s)) l
 
-  pub stays : {i at : ℕ} → waits (entryAt f i) ≡ true → at ≢ n → sooner (entryAt f i) (entryAt f at) ≡ false → Holds i at → Holds (i + 1) at
-  stays {i} {at} t q b (nothing e l) = absurd (q l)
-  stays {i} {at} t q b (something e l) = something {at = at} (one-more i ∙ rw (t, e, keep, b)) l
-
-  pub answers : {at : ℕ} → Holds n at → at ≡ nextOf n f
+  pub answers : {at : ℕ} {e : Entry} → Holds n at e → at ≡ nextOf n f
   unfolding nextOf
-  answers (nothing e l) = l ∙ ap (indexOr n) (sym e)
-  answers (something e l) = ap (indexOr n) (sym e)
+  answers (nothing u l) = l ∙ ap (indexOr n) (sym u)
+  answers (something u l) = ap (indexOr n) (sym u)

@@ -1,19 +1,31 @@
 // Scans of the rooms (01, "Shapes to change": "`HashMap`: a scan of the node room. `BinaryHeap`: one waiting entry a node").
+use equal_points::same_point;
+use equal_points::same_word;
 use rooms::Entry;
 use rooms::Feet;
 use rooms::get_entry;
+use rooms::get_feet;
 ghost use mathlib.Core.Path.{_≡_};
-ghost use Prim.Native.Nat.{_+_, _≤_, _<_};
-ghost use Rattle.rooms.specs.Waypoints.{samePoint};
-ghost use Rattle.rooms.specs.Records.{nodeAt};
-ghost use Rattle.rooms.specs.Scans.{sooner, firstAt, nextOf};
-ghost use Rattle.scans.specs.Laws.{Holds};
+ghost use Prim.Native.Nat.{_-_, _≤_};
+ghost use Rattle.rooms.specs.Scans.{firstOf, isAt, sooner, firstAt, nextOf};
 
-// Whether node i is at a point.
-fn is_at(nodes: &[u8], i: usize, q: Feet) -> bool
-    ensures { λ r. ⌜ r ≡ samePoint (nodeAt (now (nodes .entry)) i .feet) q ⌝ }
+// More nodes than a room can tell apart: a parent's number is a u32.
+const NODES: usize = 4294967296;
+
+// Passes over nodes from `from` on that are not at a point, by their x alone: most nodes differ there. In a room that has not n nodes it passes over none.
+// The room's length is judged once, so that the loop need not.
+fn next_near(nodes: &[u8], from: usize, n: usize, q: Feet) -> usize
+    requires { ⌜ from ≤ n ⌝ }
+    ensures { λ r. ⌜ (from ≤ r) × (r ≤ n) × (firstOf (isAt (now (nodes .entry)) q) from (n - from) ≡ firstOf (isAt (now (nodes .entry)) q) r (n - r)) ⌝ }
 {
-    equal_points::same_point(rooms::get_feet(nodes, i), q)
+    let border = n % NODES;
+    let mut i = from;
+    if 56 * border <= nodes.len() {
+        while i < border && !same_word(fields::u64_at(nodes, 56 * i), q.x) {
+            i += 1;
+        }
+    }
+    i
 }
 
 // The first of n nodes at a point, or n.
@@ -22,10 +34,10 @@ pub fn seek(nodes: &[u8], n: usize, q: Feet) -> usize
 {
     let mut i = 0;
     while i < n {
-        if is_at(nodes, i, q) {
+        if same_point(get_feet(nodes, i), q) {
             return i;
         }
-        i += 1;
+        i = next_near(nodes, i + 1, n, q);
     }
     n
 }
@@ -39,33 +51,24 @@ fn before(a: Entry, b: Entry) -> bool
     (mine < other) | ((mine == other) & (a.order < b.order))
 }
 
-// What a scan keeps after one more entry: `at` is the least of the first i, or n where none of them waits.
-fn kept(front: &[u8], n: usize, at: usize, i: usize) -> usize
-    requires { ⌜ (i < n) × (at ≤ n) ⌝ }
-    ensures { λ r. ⌜ (Holds n (now (front .entry)) i at → Holds n (now (front .entry)) (i + 1) r) × (r ≤ n) ⌝ }
-{
-    let e = get_entry(front, i);
-    if e.waiting != 1 {
-        return at;
-    }
-    if at == n {
-        return i;
-    }
-    let least = get_entry(front, at);
-    if before(e, least) {
-        return i;
-    }
-    at
-}
-
 // The next of n nodes to be closed, or n where none waits.
 pub fn pick(front: &[u8], n: usize) -> usize
     ensures { λ r. ⌜ r ≡ nextOf n (now (front .entry)) ⌝ }
 {
+    // the least entry so far, which is none's while `at` is n
+    let mut least = Entry {
+        estimate: 0,
+        order: 0,
+        waiting: 0,
+    };
     let mut at = n;
     let mut i = 0;
     while i < n {
-        at = kept(front, n, at, i);
+        let e = get_entry(front, i);
+        if e.waiting == 1 && ((at == n) | before(e, least)) {
+            at = i;
+            least = e;
+        }
         i += 1;
     }
     at

@@ -1,6 +1,6 @@
 -- One record written: field by field it is the record of the definition, it is read back, and every other record is as it was.
 use mathlib.Core.Path.{_≡_, refl, sym, ap, subst, _∙_}
-use mathlib.Core.List.{List}
+use mathlib.Core.List.{List, [], _∷_}
 use mathlib.Core.Logic.{_≢_, _⊎_, inl, inr, ⊎-elim}
 use Prim.Native.Nat.{ℕ, zero, suc, _+_, _*_, _/_, _≤_, _<_}
 use native.Mathlib.Omega.{arith}
@@ -14,7 +14,7 @@ use Rattle.rooms.specs.declared.Feet.{Feet}
 use Rattle.rooms.specs.declared.Label.{Label}
 use Rattle.rooms.specs.declared.NodeRecord.{NodeRecord}
 use Rattle.rooms.specs.declared.Entry.{Entry}
-use Rattle.rooms.specs.Records.{waypointLayout, waypointWords, withWaypoint, nodeLayout, nodeWords, nodeFrom, nodeAt, withNode, entryLayout, entryWords, entryFrom, entryAt, withEntry}
+use Rattle.rooms.specs.Records.{withWaypoint, nodeLayout, nodeWords, nodeFrom, nodeAt, withNode, entryLayout, entryWords, entryFrom, entryAt, withEntry}
 use Rattle.rooms.specs.Laws.Writes.{PutNode, PutEntry}
 
 -- ---- field by field
@@ -23,30 +23,35 @@ use Rattle.rooms.specs.Laws.Writes.{PutNode, PutEntry}
 first-put : (a : List ℕ) (at v : ℕ) {b : List ℕ} → b ≡ withField 8 a at v → b ≡ withField 8 a (at + 0) v
 first-put a at v e = e ∙ ap (λ (k : ℕ). withField 8 a k v) (sym (add-zero at))
 
-pub waypoint-put : (a : List ℕ) (at : ℕ) (p : Feet) (l : Label) {b c d e r : List ℕ} → b ≡ withField 8 a at (p .x) → c ≡ withField 8 b (at + 8) (p .y) →
-    d ≡ withField 8 c (at + 16) (p .z) → e ≡ withField 8 d (at + 24) (l .lift) → r ≡ withField 8 e (at + 32) (l .movement) →
-    r ≡ withRecord waypointLayout a at (waypointWords p l)
-waypoint-put a at p l e₁ e₂ e₃ e₄ e₅ =
-    e₅ ∙ ap (λ (s : List ℕ). withField 8 s (at + 32) (l .movement))
-    (e₄ ∙ ap (λ (s : List ℕ). withField 8 s (at + 24) (l .lift))
-    (e₃ ∙ ap (λ (s : List ℕ). withField 8 s (at + 16) (p .z))
-    (e₂ ∙ ap (λ (s : List ℕ). withField 8 s (at + 8) (p .y)) (first-put a at (p .x) e₁))))
+pub three-put : (a : List ℕ) (at x y z : ℕ) {b c r : List ℕ} → b ≡ withField 8 a at x → c ≡ withField 8 b (at + 8) y → r ≡ withField 8 c (at + 16) z →
+    r ≡ withRecord entryLayout a at (x ∷ y ∷ z ∷ [])
+three-put a at x y z e₁ e₂ e₃ =
+    e₃ ∙ ap (λ (s : List ℕ). withField 8 s (at + 16) z) (e₂ ∙ ap (λ (s : List ℕ). withField 8 s (at + 8) y) (first-put a at x e₁))
 
-pub node-put : (a : List ℕ) (k : ℕ) (n : NodeRecord) {b c d r : List ℕ} → b ≡ withRecord waypointLayout a (56 * k) (waypointWords (n .feet) (n .label)) →
-    c ≡ withField 8 b (56 * k + 40) (n .cost) → d ≡ withField 4 c (56 * k + 48) (n .parent) → r ≡ withField 4 d (56 * k + 52) (n .closed) →
-    r ≡ withNode a k n
+-- three words that stand behind three
+next-three : (b : List ℕ) (at x y z : ℕ) → withRecord entryLayout b (at + 24) (x ∷ y ∷ z ∷ []) ≡ withField 8 (withField 8 (withField 8 b (at + 24) x) (at + 32) y) (at + 40) z
+next-three b at x y z =
+    let e₁ : at + 24 + 0 ≡ at + 24 = omega arith in
+    let e₂ : at + 24 + 8 ≡ at + 32 = omega arith in
+    let e₃ : at + 24 + 16 ≡ at + 40 = omega arith in
+    rw (e₁, e₂, e₃)
+
+pub waypoint-put : (a : List ℕ) (k : ℕ) (p : Feet) (l : Label) {b c r : List ℕ} → b ≡ withRecord entryLayout a (40 * k) (p .x ∷ p .y ∷ p .z ∷ []) →
+    c ≡ withField 8 b (40 * k + 24) (l .lift) → r ≡ withField 8 c (40 * k + 32) (l .movement) → r ≡ withWaypoint a k p l
+unfolding withWaypoint
+waypoint-put a k p l e₁ e₂ e₃ =
+    e₃ ∙ ap (λ (s : List ℕ). withField 8 s (40 * k + 32) (l .movement))
+    (e₂ ∙ ap (λ (s : List ℕ). withField 8 s (40 * k + 24) (l .lift)) e₁)
+
+pub node-put : (a : List ℕ) (k : ℕ) (n : NodeRecord) {b c d r : List ℕ} → b ≡ withRecord entryLayout a (56 * k) (n .feet .x ∷ n .feet .y ∷ n .feet .z ∷ []) →
+    c ≡ withRecord entryLayout b (56 * k + 24) (n .label .lift ∷ n .label .movement ∷ n .cost ∷ []) → d ≡ withField 4 c (56 * k + 48) (n .parent) →
+    r ≡ withField 4 d (56 * k + 52) (n .closed) → r ≡ withNode a k n
 unfolding withNode
-node-put a k n e₁ e₂ e₃ e₄ =
+node-put a k n {b} e₁ e₂ e₃ e₄ =
     e₄ ∙ ap (λ (s : List ℕ). withField 4 s (56 * k + 52) (n .closed))
     (e₃ ∙ ap (λ (s : List ℕ). withField 4 s (56 * k + 48) (n .parent))
-    (e₂ ∙ ap (λ (s : List ℕ). withField 8 s (56 * k + 40) (n .cost)) e₁))
-
-pub entry-put : (a : List ℕ) (k : ℕ) (e : Entry) {b c r : List ℕ} → b ≡ withField 8 a (24 * k) (e .estimate) → c ≡ withField 8 b (24 * k + 8) (e .order) →
-    r ≡ withField 8 c (24 * k + 16) (e .waiting) → r ≡ withEntry a k e
-unfolding withEntry
-entry-put a k e e₁ e₂ e₃ =
-    e₃ ∙ ap (λ (s : List ℕ). withField 8 s (24 * k + 16) (e .waiting))
-    (e₂ ∙ ap (λ (s : List ℕ). withField 8 s (24 * k + 8) (e .order)) (first-put a (24 * k) (e .estimate) e₁))
+    (e₂ ∙ next-three b (56 * k) (n .label .lift) (n .label .movement) (n .cost)
+    ∙ ap (λ (s : List ℕ). withField 8 (withField 8 (withField 8 s (56 * k + 24) (n .label .lift)) (56 * k + 32) (n .label .movement)) (56 * k + 40) (n .cost)) e₁))
 
 -- ---- inside the room
 

@@ -1,8 +1,10 @@
 -- `scans::seek` meets its contract. Assumes nothing.
 use native.Mathlib.Omega.{arith}
 use Prim.Native.Nat.{ℕ, _≤_, _-_, _+_}
-use mathlib.Core.Path.{_≡_, refl, sym, ap, _∙_}
+use mathlib.Core.Path.{_≡_, sym, ap, _∙_}
 use denote.Ref.{now}
+use Rattle.rooms.specs.declared.Feet.{Feet}
+use Rattle.rooms.specs.Waypoints.{samePoint}
 use Rattle.rooms.specs.Scans.{firstOf, isAt, firstAt}
 use Rattle.scans.specs.Laws.{first-here, first-later, first-end}
 use Rattle.scans.proofs.seek.Statement.{statement}
@@ -22,32 +24,43 @@ loop-holds c =
     let e : a .n ≡ a .n - 0 = omega arith in
     (omega arith, ap (firstOf (isAt (now (a .nodes)) (a .q)) 0) e)
 
-is-at-requires : tie.Need-is-at-requires Inv-loop μ-loop
-is-at-requires c κs =
-    tt
+get-feet-requires : tie.Need-get-feet-requires Inv-loop μ-loop
+get-feet-requires c κs = tt
+
+same-point-requires : tie.Need-same-point-requires Inv-loop μ-loop
+same-point-requires c κs = tt
+
+-- what the test says of the node at hand
+tested : (s : tie.After-same-point Inv-loop μ-loop) → s .same-point .result ≡ isAt (now (s .before .before .before .before .before .args .nodes)) (s .before .before .before .before .before .args .q) (s .before .before .before .loop .i)
+tested s = s .same-point .ensures ∙ ap (λ (p : Feet). samePoint p (s .before .before .before .before .before .args .q)) (s .before .get-feet .ensures)
 
 returns : tie.Need-returns Inv-loop μ-loop
 unfolding firstAt
 returns c =
-    let a = c .before .before .before .before .before .args in
+    let a = c .before .before .before .before .before .before .args in
     let p = isAt (now (a .nodes)) (a .q) in
-    sym (c .before .before .before .loop .inv .1 ∙ first-here p (c .before .before .before .loop .i) (a .n - c .before .before .before .loop .i) (sym (c .before .is-at .ensures) ∙ c .if1 .taken) (omega arith))
+    let i = c .before .before .before .before .loop .i in
+    sym (c .before .before .before .before .loop .inv .1 ∙ first-here p i (a .n - i) (sym (tested (c .before)) ∙ c .if1 .taken) (omega arith))
 
-add-i : tie.Need-add-i Inv-loop μ-loop
-add-i c =
-    omega arith
+add-next-near : tie.Need-add-next-near Inv-loop μ-loop
+add-next-near c = omega arith
+
+next-near-requires : tie.Need-next-near-requires Inv-loop μ-loop
+next-near-requires c κs = omega arith
 
 loop-less : tie.Need-loop-less Inv-loop μ-loop
-loop-less c =
-    omega arith
+loop-less c = omega arith
 
 loop-again : tie.Need-loop-again Inv-loop μ-loop
 loop-again c =
-    let a = c .before .before .before .before .before .args in
+    let a = c .before .before .before .before .before .before .before .args in
     let p = isAt (now (a .nodes)) (a .q) in
-    let i = c .before .before .before .loop .i in
-    let e : a .n - i - 1 ≡ a .n - (i + 1) = omega arith in
-    (omega arith, c .before .before .before .loop .inv .1 ∙ first-later p i (a .n - i) (sym (c .before .is-at .ensures) ∙ c .if1 .left) (omega arith) ∙ ap (firstOf p (i + 1)) e)
+    let i = c .before .before .before .before .before .loop .i in
+    let e : a .n - i - 1 ≡ a .n - (i + 1) = omega arith in (
+      c .next-near .ensures .1,
+      c .before .before .before .before .before .loop .inv .1 ∙ first-later p i (a .n - i) (sym (tested (c .before .before)) ∙ c .before .if1 .left) (omega arith)
+          ∙ ap (firstOf p (i + 1)) e ∙ c .next-near .ensures .2,
+    )
 
 returns-2 : tie.Need-returns-2 Inv-loop μ-loop
 unfolding firstAt
@@ -64,9 +77,11 @@ seek-spec =
     Inv-loop
     μ-loop
     loop-holds
-    is-at-requires
+    get-feet-requires
+    same-point-requires
     returns
-    add-i
+    add-next-near
+    next-near-requires
     loop-less
     loop-again
     returns-2)

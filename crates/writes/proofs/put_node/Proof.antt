@@ -11,28 +11,24 @@ use Rattle.writes.specs.Laws.{node-put, put-node, put-node-out}
 use Rattle.writes.proofs.put_node.Statement.{statement}
 use Rattle.writes.proofs.put_node.Tie as tie
 
-returns : tie.Need-returns
-returns c =
-    put-node-out (now (c .before .before .args .nodes)) (c .before .before .args .k) (c .before .before .args .r) (omega arith)
-
 -- from the facts at the test alone
-fits : (s : tie.Else1) (j : ℕ) → j ≤ 52 → Fits w64 (56 * s .before .before .args .k + j)
+fits : (s : tie.Then1) (j : ℕ) → j ≤ 52 → Fits w64 (56 * s .before .before .args .k + j)
 fits s j l = omega arith
 
-inside : (s : tie.Else1) → 56 * s .before .before .args .k ≤ length (now (s .before .before .args .nodes))
+inside : (s : tie.Then1) → 56 * s .before .before .args .k ≤ length (now (s .before .before .args .nodes))
 inside s = omega arith
 
 mul-at : tie.Need-mul-at
 mul-at c = omega arith
 
-put-point-requires : tie.Need-put-point-requires
-put-point-requires c κs = inside (c .before)
+put-three-requires : tie.Need-put-three-requires
+put-three-requires c κs = omega (arith, inside (c .before))
 
-add-put-u64 : tie.Need-add-put-u64
-add-put-u64 c = fits (c .before .before .before .before .before) 40 (lit≤ tt)
+add-put-three : tie.Need-add-put-three
+add-put-three c = fits (c .before .before .before .before .before) 24 (lit≤ tt)
 
-put-u64-requires : tie.Need-put-u64-requires
-put-u64-requires c κs = tt
+put-three-requires-2 : tie.Need-put-three-requires-2
+put-three-requires-2 c κs = omega (arith, inside (c .before .before .before .before .before), c .before .before .before .put-three .kept .0)
 
 add-put-u32 : tie.Need-add-put-u32
 add-put-u32 c = fits (c .before .before .before .before .before .before .before .before .before) 48 (lit≤ tt)
@@ -47,32 +43,36 @@ put-u32-requires-2 : tie.Need-put-u32-requires-2
 put-u32-requires-2 c κs = tt
 
 same-length : tie.Need-same-length
-same-length c = c .before .before .put-u322 .kept .0 ∙ c .before .before .before .before .before .before .put-u32 .kept .0 ∙ c .before .before .before .before .before .before .before .before .before .before .put-u64 .kept .0 ∙ c .before .before .before .before .before .before .before .before .before .before .before .before .before .before .put-point .kept .0
+same-length c = c .before .before .put-u322 .kept .0 ∙ c .before .before .before .before .before .before .put-u32 .kept .0 ∙ c .before .before .before .before .before .before .before .before .before .before .put-three2 .kept .0 ∙ c .before .before .before .before .before .before .before .before .before .before .before .before .before .before .put-three .kept .0
 
--- `g`: each field of what is written is in its range
+-- `g`: the last two fields of what is written are in their range
+returns : tie.Need-returns
+returns c =
+    let a = c .before .before .before .before .before .before .before .before .before .before .before .before .before .before .before .before .before .before .args in
+    let e₁ = c .before .before .before .before .before .before .before .before .before .before .before .before .before .before .put-three .ensures in
+    let e₂ = c .before .before .before .before .before .before .before .before .before .before .put-three2 .ensures in
+    let v = e₁ .1 in
+    let w = e₂ .1 in
+    let g = c .before .before .before .before .before .before .before .before .before .before .before .before .before .before .before .before .before .before .good .1 .1 .0 .1 .1 .1 .1 .1 in
+    put-node (now (a .nodes)) (a .k) (a .r) (v .0, (v .1 .0, (v .1 .1 .0, (w .0, (w .1 .0, (w .1 .1 .0, (g .0 .1, (g .1 .0 .1, tt)))))))) (node-put (now (a .nodes)) (a .k) (a .r) (e₁ .0) (e₂ .0) (c .before .before .before .before .before .before .put-u32 .ensures) (c .before .before .put-u322 .ensures))
+
 returns-2 : tie.Need-returns-2
 returns-2 c =
-    let a = c .before .before .before .before .before .before .before .before .before .before .before .before .before .before .before .before .before .before .args in
-    let e₁ = c .before .before .before .before .before .before .before .before .before .before .before .before .before .before .put-point .ensures in
-    let e₂ = c .before .before .before .before .before .before .before .before .before .before .put-u64 .ensures in
-    let e₃ = c .before .before .before .before .before .before .put-u32 .ensures in
-    let e₄ = c .before .before .put-u322 .ensures in
-    let w = e₁ .1 in
-    let g = c .before .before .before .before .before .before .before .before .before .before .before .before .before .before .before .before .before .before .good .1 .1 .0 .1 .1 .1 .1 in
-    put-node (now (a .nodes)) (a .k) (a .r) (w .0, (w .1 .0, (w .1 .1 .0, (w .1 .1 .1 .0, (w .1 .1 .1 .1 .0, (g .0 .1, (g .1 .0 .1, (g .1 .1 .0 .1, tt)))))))) (node-put (now (a .nodes)) (a .k) (a .r) (e₁ .0) e₂ e₃ e₄)
+    let a = c .before .before .args in
+    put-node-out (now (a .nodes)) (a .k) (a .r) (omega arith)
 
 pub put-node-spec : {M : Type 1} → statement M
 put-node-spec =
     tie.close
     (tie.spec
-    returns
     mul-at
-    put-point-requires
-    add-put-u64
-    put-u64-requires
+    put-three-requires
+    add-put-three
+    put-three-requires-2
     add-put-u32
     put-u32-requires
     add-put-u32-2
     put-u32-requires-2
     same-length
+    returns
     returns-2)
