@@ -16,7 +16,7 @@ ghost use Rattle.world.specs.Boxes.{moved};
 ghost use Rattle.world.specs.Space.{run, space};
 ghost use Rattle.heights.specs.Heights.{reaches, topsOf, topsIn, nextAfter};
 ghost use Rattle.heights.specs.Laws.{taken};
-ghost use Rattle.heights.specs.Next.{beyond, lower, better, pass};
+ghost use Rattle.heights.specs.Next.{beyond, pass};
 
 // The tops that a step may go to lie from low to high.
 pub struct Band {
@@ -52,36 +52,21 @@ fn is_beyond(after: Height, top: f64) -> bool
     }
 }
 
-// The lower of the best so far and a top.
-fn lower_of(best: Height, top: f64) -> Height
-    ensures { λ r. ⌜ r ≡ lower best (Height.At top) ⌝ }
-{
-    match best {
-        Height::At(least) => { if top < least { Height::At(top) } else { best } }
-        Height::None => Height::At(top),
-    }
-}
-
-// The best so far, or a top where that is lower and not within E of the last kept.
-fn better_of(after: Height, best: Height, top: f64) -> Height
-    ensures { λ r. ⌜ r ≡ better after best top ⌝ }
-{
-    if is_beyond(after, top) {
-        lower_of(best, top)
-    } else {
-        best
-    }
-}
-
-// What one box makes of the best so far.
+// What one box makes of the best so far: its top, where a step may go there, it is not within E of the last kept, and the best is not as low.
 fn take_box(band: Band, x: f64, z: f64, after: Height, best: Height, b: Aabb) -> Height
     ensures { λ r. ⌜ r ≡ taken band x z after best b ⌝ }
 {
-    if reaches_to(band, x, z, b) {
-        better_of(after, best, b.max.y)
-    } else {
-        best
+    let top = b.max.y;
+    if !reaches_to(band, x, z, b) {
+        return best;
     }
+    if !is_beyond(after, top) {
+        return best;
+    }
+    let Height::At(least) = best else {
+        return Height::At(top);
+    };
+    if top < least { Height::At(top) } else { best }
 }
 
 // The best of so many box records of a part of the table, moved by a point.
