@@ -9,7 +9,8 @@ use walk_back::Walked;
 use world::Aabb;
 use world::Point;
 
-// A kind (oracle/README.md, `store`) and two numbers, mostly places of points in the pool.
+// A kind (oracle/README.md, `store`) and two numbers, mostly places of points in the pool. The word of the pool at a goes to `to` before the question is asked:
+// to b by the kind that copies it, and by any other to where it is.
 struct Question {
     kind: u32,
     a: u32,
@@ -25,9 +26,18 @@ fn next_question() -> Question {
     Question { kind, a, b, to }
 }
 
-// 1 for a route, 0 for none, or 01's number of a refusal.
-fn walked_number(a: Walked) -> u64 {
-    match a {
+// The walk-back of a list: 1 for a route, 0 for none, or 01's number of a refusal.
+fn walked(s: Scene, cells: &[u8], perms: &[u8], shapes: &[u8], boxes: &[u8], list: &[u8]) -> u64 {
+    match walk_back::walk_back(
+        s.window,
+        cells,
+        perms,
+        shapes,
+        boxes,
+        s.request,
+        s.body,
+        list,
+    ) {
         Walked::No => 0,
         Walked::Yes => 1,
         Walked::BadWorld => 3,
@@ -46,12 +56,18 @@ fn is_yes(
     a: Point,
     b: Point,
 ) -> bool {
-    let w = s.window;
     match kind {
         1 => places::in_range(s.request, a),
-        2 => places::standable(w, cells, perms, shapes, boxes, s.body, a),
-        3 => clear::clear_area(w, cells, perms, shapes, boxes, Aabb { min: a, max: b }),
-        _ => segments::supported_segment(w, cells, perms, shapes, boxes, s.body.width, a, b),
+        2 => places::standable(s.window, cells, perms, shapes, boxes, s.body, a),
+        3 => clear::clear_area(
+            s.window,
+            cells,
+            perms,
+            shapes,
+            boxes,
+            Aabb { min: a, max: b },
+        ),
+        _ => segments::supported_segment(s.window, cells, perms, shapes, boxes, s.body.width, a, b),
     }
 }
 
@@ -66,11 +82,9 @@ fn answered(
     q: Question,
     d: u64,
 ) -> u64 {
-    let w = s.window;
-    let r = s.request;
-    let body = s.body;
     let a = scene_records::point_at(pool, q.a);
     let b = scene_records::point_at(pool, q.b);
+    let list = input::part(pool, q.a as usize, q.b as usize);
     let kind = q.kind;
     match kind {
         0 => d,
@@ -78,20 +92,24 @@ fn answered(
         6 => digest::with_edge(
             d,
             a,
-            edges::edge(w, cells, perms, shapes, boxes, r, body, a, b),
+            edges::edge(
+                s.window,
+                cells,
+                perms,
+                shapes,
+                boxes,
+                s.request,
+                s.body,
+                a,
+                b,
+            ),
         ).digest,
         7 => digest::with_edge(
             d,
             a,
-            edges::connector(w, cells, perms, shapes, boxes, r, body, a),
+            edges::connector(s.window, cells, perms, shapes, boxes, s.request, s.body, a),
         ).digest,
-        8 => {
-            let list = input::part(pool, q.a as usize, q.b as usize);
-            digest::with(
-                d,
-                walked_number(walk_back::walk_back(w, cells, perms, shapes, boxes, r, body, list)),
-            )
-        }
+        8 => digest::with(d, walked(s, cells, perms, shapes, boxes, list)),
         9 => trial::tried(s, cells, perms, shapes, boxes, q.a, q.b, d),
         _ => digest::with(d, is_yes(s, cells, perms, shapes, boxes, kind, a, b) as u64),
     }
@@ -103,11 +121,10 @@ fn questions(answer: SceneAnswer, cells: &[u8], perms: &[u8], shapes: &[u8], box
     let SceneAnswer::Whole(s) = answer else {
         return 0;
     };
-    let used = s.in_use;
-    let c = input::part(cells, 0, used.cells);
-    let p = input::part(perms, 0, used.perms);
-    let h = input::part(shapes, 0, used.shapes);
-    let x = input::part(boxes, 0, used.boxes);
+    let c = input::part(cells, 0, s.in_use.cells);
+    let p = input::part(perms, 0, s.in_use.perms);
+    let h = input::part(shapes, 0, s.in_use.shapes);
+    let x = input::part(boxes, 0, s.in_use.boxes);
     let mut pool = [0u8; 8192];
     input::take(0, input::number(), &mut pool);
     let count = input::number();

@@ -39,12 +39,11 @@ pub(crate) fn with_edge(d: u64, from: Point, a: EdgeAnswer) -> Reached {
         };
     };
     let movement = w.movement;
-    let feet = w.feet;
     let e = with(d, moves::movement_number(movement));
-    let f = with_float(with_float(with_float(e, feet.x), feet.y), feet.z);
+    let f = with_float(with_float(with_float(e, w.feet.x), w.feet.y), w.feet.z);
     Reached {
         digest: with_float(f, w.lift),
-        level: sides::is_level(from, feet),
+        level: sides::is_level(from, w.feet),
     }
 }
 
