@@ -26,8 +26,17 @@ fn next_question() -> Question {
     Question { kind, a, b, to }
 }
 
-// The walk-back of a list: 1 for a route, 0 for none, or 01's number of a refusal.
-fn walked(s: Scene, cells: &[u8], perms: &[u8], shapes: &[u8], boxes: &[u8], list: &[u8]) -> u64 {
+// The walk-back of a list in the pool: 1 for a route, 0 for none, or 01's number of a refusal.
+fn walked(
+    s: Scene,
+    cells: &[u8],
+    perms: &[u8],
+    shapes: &[u8],
+    boxes: &[u8],
+    pool: &[u8],
+    q: Question,
+) -> u64 {
+    let list = input::part(pool, q.a as usize, q.b as usize);
     match walk_back::walk_back(
         s.window,
         cells,
@@ -84,15 +93,12 @@ fn answered(
 ) -> u64 {
     let a = scene_records::point_at(pool, q.a);
     let b = scene_records::point_at(pool, q.b);
-    let list = input::part(pool, q.a as usize, q.b as usize);
     let kind = q.kind;
     match kind {
         0 => d,
         5 => columns::columns(s, cells, perms, shapes, boxes, a, d),
-        6 => digest::with_edge(
-            d,
-            a,
-            edges::edge(
+        6 => {
+            let e = edges::edge(
                 s.window,
                 cells,
                 perms,
@@ -102,14 +108,14 @@ fn answered(
                 s.body,
                 a,
                 b,
-            ),
-        ).digest,
-        7 => digest::with_edge(
-            d,
-            a,
-            edges::connector(s.window, cells, perms, shapes, boxes, s.request, s.body, a),
-        ).digest,
-        8 => digest::with(d, walked(s, cells, perms, shapes, boxes, list)),
+            );
+            digest::with_edge(d, a, e).digest
+        }
+        7 => {
+            let e = edges::connector(s.window, cells, perms, shapes, boxes, s.request, s.body, a);
+            digest::with_edge(d, a, e).digest
+        }
+        8 => digest::with(d, walked(s, cells, perms, shapes, boxes, pool, q)),
         9 => trial::tried(s, cells, perms, shapes, boxes, q.a, q.b, d),
         _ => digest::with(d, is_yes(s, cells, perms, shapes, boxes, kind, a, b) as u64),
     }
