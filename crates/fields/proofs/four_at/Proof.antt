@@ -1,47 +1,46 @@
 -- `fields::four_at` meets its contract. Assumes nothing.
 use native.Mathlib.Omega.{arith}
-use mathlib.Core.Path.{_∙_}
-use Rattle.fields.specs.Laws.{four}
+use denote.Ref.{now}
+use borrow.Author.Needs.{needs}
+use Rattle.fields.specs.Laws.{field-parts}
 use Rattle.fields.proofs.four_at.Statement.{statement}
 use Rattle.fields.proofs.four_at.Tie as tie
 
-shared-slice-read-join : tie.Need-shared-slice-read-join
-shared-slice-read-join c = omega arith
+two-at-requires : tie.Need-two-at-requires
+two-at-requires c κs = search needs
 
-add-join : tie.Need-add-join
-add-join c = record { fits = omega arith }
+cast-result : tie.Need-cast-result
+cast-result c = search needs
 
-shared-slice-read-join-2 : tie.Need-shared-slice-read-join-2
-shared-slice-read-join-2 c = omega arith
+add-two-at : tie.Need-add-two-at
+add-two-at c = search needs
 
-add-join-2 : tie.Need-add-join-2
-add-join-2 c = record { fits = omega arith }
+two-at-requires-2 : tie.Need-two-at-requires-2
+two-at-requires-2 c κs = search needs
 
-shared-slice-read-join-3 : tie.Need-shared-slice-read-join-3
-shared-slice-read-join-3 c = omega arith
+cast-result-2 : tie.Need-cast-result-2
+cast-result-2 c = search needs
 
-add-join-3 : tie.Need-add-join-3
-add-join-3 c = record { fits = omega arith }
+mul-result : tie.Need-mul-result
+mul-result c = search needs
 
-shared-slice-read-join-4 : tie.Need-shared-slice-read-join-4
-shared-slice-read-join-4 c = omega arith
-
-join-requires : tie.Need-join-requires
-join-requires c κs = tt
+add-result : tie.Need-add-result
+add-result c = search needs
 
 returns : tie.Need-returns
-returns c = c .join .ensures ∙ four _ _ (omega arith)
+returns c =
+    let a = c .before .before .before .args in
+    omega (arith, field-parts 2 2 (now (a .s)) (a .at) (omega arith), c .before .two-at .ensures, c .two-at2 .ensures)
 
 pub four-at-spec : {M : Type 1} → statement M
 four-at-spec =
     tie.close
     (tie.spec
-    shared-slice-read-join
-    add-join
-    shared-slice-read-join-2
-    add-join-2
-    shared-slice-read-join-3
-    add-join-3
-    shared-slice-read-join-4
-    join-requires
+    two-at-requires
+    cast-result
+    add-two-at
+    two-at-requires-2
+    cast-result-2
+    mul-result
+    add-result
     returns)
