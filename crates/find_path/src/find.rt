@@ -38,18 +38,7 @@ pub fn find_path(
         Filled::BadTable => Path::BadTable,
         Filled::Whole => {
             let r = mob_request::request_of(policy, start, goal, body);
-            let answer = search::find_walk_path(
-                w,
-                cells,
-                perms,
-                shapes,
-                boxes,
-                r,
-                body,
-                nodes,
-                front,
-                out,
-            );
+            let answer = search::find_walk_path(w, cells, perms, shapes, boxes, r, body, nodes, front, out);
             Path::Searched(answer)
         }
     }

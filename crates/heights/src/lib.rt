@@ -178,21 +178,7 @@ fn column_next(
     let mut k: usize = 0;
     while k < n {
         let y = low + (k as i64);
-        best = cell_next(
-            w,
-            cells,
-            perms,
-            shapes,
-            boxes,
-            band,
-            x,
-            z,
-            cx,
-            y,
-            cz,
-            after,
-            best,
-        );
+        best = cell_next(w, cells, perms, shapes, boxes, band, x, z, cx, y, cz, after, best);
         k += 1;
     }
     best

@@ -17,11 +17,7 @@ use world::Window;
 fn empty() -> Reading
     ensures { λ r. ⌜ r ≡ empty ⌝ }
 {
-    let zero = Point {
-        x: 0.0,
-        y: 0.0,
-        z: 0.0,
-    };
+    let zero = Point { x: 0.0, y: 0.0, z: 0.0 };
     Reading {
         number: 0,
         kind: 0,
@@ -34,26 +30,9 @@ fn empty() -> Reading
             jump_height: 0.0,
             max_drop: 0.0,
         },
-        body: Body {
-            width: 0.0,
-            height: 0.0,
-            step_height: 0.0,
-        },
-        window: Window {
-            x: 0,
-            y: 0,
-            z: 0,
-            sx: 0,
-            sy: 0,
-            sz: 0,
-        },
-        counts: Counts {
-            cells: 0,
-            states: 0,
-            shapes: 0,
-            boxes: 0,
-            last: 0,
-        },
+        body: Body { width: 0.0, height: 0.0, step_height: 0.0 },
+        window: Window { x: 0, y: 0, z: 0, sx: 0, sy: 0, sz: 0 },
+        counts: Counts { cells: 0, states: 0, shapes: 0, boxes: 0, last: 0 },
     }
 }
 

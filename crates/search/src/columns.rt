@@ -59,19 +59,9 @@ fn step_to(
 
 // Column n, where it is looked at: its heights upwards.
 fn column(
-    w: Window,
-    cells: &[u8],
-    perms: &[u8],
-    shapes: &[u8],
-    boxes: &[u8],
-    r: Request,
-    body: Body,
-    nodes: &mut [u8],
-    front: &mut [u8],
-    aim: Aim,
-    at: Place,
-    n: usize,
-    c: Around,
+    w: Window, cells: &[u8], perms: &[u8], shapes: &[u8], boxes: &[u8],
+    r: Request, body: Body, nodes: &mut [u8], front: &mut [u8],
+    aim: Aim, at: Place, n: usize, c: Around,
 ) -> Around
     requires { ⌜ Ready (now nodes) (now front) (aim .budget) (length (columnIf (space w (now cells) (now perms) (now shapes) (now boxes)) r body (at .point) n) + 1) (c .counts) × (at .number < c .counts .retained) ⌝ }
     requires { ⌜ c .sides ≡ sidesBefore (space w (now cells) (now perms) (now shapes) (now boxes)) r body (at .point) n ⌝ }

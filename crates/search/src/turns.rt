@@ -17,17 +17,9 @@ ghost use Rattle.search.specs.Turns.{mostSteps, Bounded, Turned};
 
 // One expansion, of whatever state the rooms are.
 pub(crate) fn expand(
-    w: Window,
-    cells: &[u8],
-    perms: &[u8],
-    shapes: &[u8],
-    boxes: &[u8],
-    r: Request,
-    body: Body,
-    nodes: &mut [u8],
-    front: &mut [u8],
-    aim: Aim,
-    c: Counts,
+    w: Window, cells: &[u8], perms: &[u8], shapes: &[u8], boxes: &[u8],
+    r: Request, body: Body, nodes: &mut [u8], front: &mut [u8],
+    aim: Aim, c: Counts,
 ) -> Turn
     requires { ⌜ Ready (now nodes) (now front) (aim .budget) (mostSteps + 2) c ⌝ }
     requires { ⌜ (aim .goal ≡ feetOf (r .goal)) × Bounded (space w (now cells) (now perms) (now shapes) (now boxes)) r body ⌝ }

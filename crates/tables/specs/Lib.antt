@@ -1,4 +1,3 @@
 pub mod BadWorld
 pub mod Laws
 pub mod Good
-pub mod Examples

@@ -83,20 +83,7 @@ pub(crate) fn has_step(
     let mut met = false;
     let mut n: usize = 0;
     while (n < 9) & !met {
-        let seen = look_column(
-            w,
-            cells,
-            perms,
-            shapes,
-            boxes,
-            r,
-            body,
-            from,
-            band,
-            sides.looked(n),
-            n,
-            v,
-        );
+        let seen = look_column(w, cells, perms, shapes, boxes, r, body, from, band, sides.looked(n), n, v);
         sides = sides.answered(n, seen.level);
         met = seen.met;
         n += 1;

@@ -38,16 +38,6 @@ pub extern "C" fn walkprint_edge(
         y: to_y,
         z: to_z,
     };
-    let a = edges::edge(
-        q.window,
-        cells,
-        permissions,
-        shapes,
-        boxes,
-        q.request,
-        q.body,
-        from,
-        to,
-    );
+    let a = edges::edge(q.window, cells, permissions, shapes, boxes, q.request, q.body, from, to);
     edge_number(a)
 }

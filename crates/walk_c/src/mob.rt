@@ -36,21 +36,6 @@ pub extern "C" fn walkprint_find_path(
     ensures answer { λ _. ⌜ now (answer .exit) ≡ pathWritten (path (policyIn policy «jump_height») (inWater policy) (now (flags .entry)) (windowIn (now (window .entry))) (now (cells .entry)) (now (permissions .entry)) (now (shapes .entry)) (now (boxes .entry)) (pointAt (now (ends .entry)) 0) (pointAt (now (ends .entry)) 24) (bodyIn (now (body .entry))) (length (now (nodes .entry))) (length (now (front .entry))) (length (now (out .entry)))) (now (answer .entry)) ⌝ }
 {
     let m = mob_in(policy, jump_height, window, ends, body);
-    let a = find_path::find_path(
-        m.policy,
-        m.in_water,
-        flags,
-        m.window,
-        cells,
-        permissions,
-        shapes,
-        boxes,
-        m.start,
-        m.goal,
-        m.body,
-        nodes,
-        front,
-        out,
-    );
+    let a = find_path::find_path(m.policy, m.in_water, flags, m.window, cells, permissions, shapes, boxes, m.start, m.goal, m.body, nodes, front, out);
     put_path(a, answer)
 }
