@@ -7,9 +7,8 @@ use mathlib.Core.Bool.{Bool, true, false, not, _&&_, _||_}
 use mathlib.Core.List.{List, map}
 use lib.IntN.{ℤ, pos, _+ℤ_}
 use lib.Dec.{ltb}
-use lib.ListN.{length, drop}
+use lib.ListN.{drop}
 use borrow.Author.Tests.{ltb-true, ltb-false}
-use Rattle.world.specs.Laws.{run-past}
 use Rattle.cells.specs.declared.ranges.Range.{Range}
 use Rattle.world.specs.declared.Point.{Point}
 use Rattle.world.specs.declared.Aabb.{Aabb}
@@ -61,11 +60,6 @@ module _ (area : Aabb) (by : Point) (s : List ℕ) (at : ℕ) where
       go u p true t = refl
       go false p false t = none left (ltb-false 0 left p)
       go true p false t = cc
-
--- past its end a table has no boxes
-pub past : (area : Aabb) (by : Point) (s : List ℕ) (n left : ℕ) → length s < n → runHits area by (drop n s) left 0 ≡ false
-unfolding hits
-past area by s n left h = rw (run-past s n left h)
 
 -- ---- a cell, by the tests on it
 

@@ -1,8 +1,6 @@
 // Clear areas (01, The graph): whether a body fits into an area, by the boxes and the permissions of the cells that it reaches.
 ghost use mathlib.Core.Path.{_≡_};
 ghost use mathlib.Core.List.{map};
-ghost use Prim.Native.Nat.{_*_};
-ghost use lib.ListN.{drop};
 ghost use Rattle.cells.specs.RangeLaws.{Near};
 ghost use Rattle.world.specs.declared.Aabb.{Aabb};
 ghost use Rattle.world.specs.Boxes.{moved, corner};
@@ -33,18 +31,6 @@ fn run_hits(part: &[u8], boxes: u32, by: Point, area: Aabb) -> bool
     hit
 }
 
-// The same of a run of the whole table: the part that starts at the first record is handed on.
-fn table_hits(table: &[u8], first: u32, boxes: u32, by: Point, area: Aabb) -> bool
-    ensures { λ r. ⌜ r ≡ hits area (map (λ (b : Aabb). moved b by) (run boxes (drop (48 * first) (now (table .entry))) 0)) ⌝ }
-{
-    let from = 48 * (first as usize);
-    if from <= table.len() {
-        run_hits(&table[from..], boxes, by, area)
-    } else {
-        false
-    }
-}
-
 // Whether a cell is free for an area.
 fn cell_free(
     w: Window,
@@ -72,7 +58,7 @@ fn cell_free(
             if meets & !occupied {
                 return false;
             }
-            !table_hits(boxes, first, count, p, area)
+            !run_hits(world::boxes_from(boxes, first), count, p, area)
         }
     }
 }

@@ -4,7 +4,7 @@ use native.Mathlib.Omega.{arith}
 use mathlib.Core.Path.{_≡_, refl, sym, ap, _∙_}
 use mathlib.Core.Bool.{Bool, true, false, not, _&&_, cond}
 use mathlib.Core.List.{List, [], _∷_, map}
-use lib.ListN.{length, drop, drop-of-length-le}
+use lib.ListN.{drop}
 use lib.Ieee.{Float, binary64, le, add, sub, isNan}
 use Rattle.floats.specs.Floats.{E}
 use Rattle.floats.specs.Order.{le-left}
@@ -19,7 +19,6 @@ use Rattle.world.specs.declared.Cell.{Cell}
 use Rattle.world.specs.declared.Cell.the-variants.{Unknown, Known}
 use Rattle.world.specs.Boxes.{moved}
 use Rattle.world.specs.Space.{Space, Block, run, boxHere, blockOf}
-use Rattle.world.specs.Laws.{no-box}
 use Rattle.heights.specs.declared.Band.{Band}
 use Rattle.heights.specs.declared.Height.{Height}
 use Rattle.heights.specs.Heights.{reaches, topsOf, topsIn, tops}
@@ -61,15 +60,6 @@ module _ (band : Band) (x z : Float) (after : Height) where
     unfolding run topsOf
     run-none zero h = refl
     run-none (suc n) h = absurd (omega arith)
-
-  -- past its end a table has no boxes
-  pub past : (by : Point) (best : Height) (s : List ℕ) (n left : ℕ) → length s < n → runPass by best (drop n s) left 0 ≡ best
-  unfolding run topsOf
-  past by best s n left h = rw (drop-of-length-le s {i = n} (omega arith)) (empty left)
-    where
-      empty : (k : ℕ) → runPass by best [] k 0 ≡ best
-      empty zero = refl
-      empty (suc k) = rw (no-box [] 0 (omega arith))
 
   -- ---- a cell, by the tests on it
 

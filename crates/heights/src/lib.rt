@@ -7,8 +7,6 @@ use world::Point;
 use world::Window;
 ghost use mathlib.Core.Path.{_≡_};
 ghost use mathlib.Core.List.{map};
-ghost use Prim.Native.Nat.{_*_};
-ghost use lib.ListN.{drop};
 ghost use Rattle.cells.specs.Ranges.{across};
 ghost use Rattle.cells.specs.RangeLaws.{Near};
 ghost use Rattle.world.specs.declared.Aabb.{Aabb};
@@ -96,28 +94,6 @@ fn run_next(
     least
 }
 
-// The same of a run of the whole table: the part that starts at the first record is handed on.
-fn table_next(
-    table: &[u8],
-    first: u32,
-    boxes: u32,
-    by: Point,
-    band: Band,
-    x: f64,
-    z: f64,
-    after: Height,
-    best: Height,
-) -> Height
-    ensures { λ r. ⌜ r ≡ pass after best (topsOf band x z (map (λ (b : Aabb). moved b by) (run boxes (drop (48 * first) (now (table .entry))) 0))) ⌝ }
-{
-    let from = 48 * (first as usize);
-    if from <= table.len() {
-        run_next(&table[from..], boxes, by, band, x, z, after, best)
-    } else {
-        best
-    }
-}
-
 // The best of a cell of the column.
 fn cell_next(
     w: Window,
@@ -146,7 +122,8 @@ fn cell_next(
         } => {
             if support {
                 let by = points::corner_of(cx, y, cz);
-                table_next(boxes, first, count, by, band, x, z, after, best)
+                let part = world::boxes_from(boxes, first);
+                run_next(part, count, by, band, x, z, after, best)
             } else {
                 best
             }

@@ -2,8 +2,6 @@
 //
 // A shape that counts and is no support refuses the way, and the pass ends there.
 ghost use mathlib.Core.Path.{_≡_};
-ghost use Prim.Native.Nat.{_*_};
-ghost use lib.ListN.{drop};
 ghost use Rattle.cells.specs.RangeLaws.{Near};
 ghost use Rattle.world.specs.Space.{space};
 ghost use Rattle.support.specs.Support.{shapesOf, rowShapes, layerShapes, allShapes};
@@ -35,29 +33,6 @@ fn reach_run(part: &[u8], boxes: u32, by: Point, support: bool, way: Way, covere
         at += 48;
     }
     reach
-}
-
-// The same of a run of the whole table: the part that starts at the first record is handed on.
-fn reach_table(
-    table: &[u8],
-    first: u32,
-    boxes: u32,
-    by: Point,
-    support: bool,
-    way: Way,
-    covered: f64,
-) -> Reach
-    ensures { λ r. ⌜ r ≡ pass way (reached covered) (runShapes support by (drop (48 * first) (now (table .entry))) boxes 0) ⌝ }
-{
-    let from = 48 * (first as usize);
-    if from <= table.len() {
-        reach_run(&table[from..], boxes, by, support, way, covered)
-    } else {
-        Reach {
-            to: covered,
-            refused: false,
-        }
-    }
 }
 
 // The shapes of a cell. Most cells have none: their place is not worked out.
@@ -93,7 +68,7 @@ fn reach_cell(
                 };
             }
             let by = points::corner_of(x, y, z);
-            reach_table(boxes, first, count, by, support, way, covered)
+            reach_run(world::boxes_from(boxes, first), count, by, support, way, covered)
         }
     }
 }

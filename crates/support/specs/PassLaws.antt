@@ -7,7 +7,7 @@ use mathlib.Core.Option.{Option, none, some}
 use mathlib.Core.List.{List, [], _∷_}
 use lib.IntN.{ℤ, pos, _+ℤ_}
 use lib.Dec.{ltb}
-use lib.ListN.{length, drop}
+use lib.ListN.{drop}
 use lib.Ieee.{Float, binary64, lt, le, add}
 use Rattle.floats.specs.Floats.{E, nought, larger}
 use Rattle.cells.specs.Ranges.{gather, across}
@@ -19,7 +19,7 @@ use Rattle.world.specs.declared.Aabb.{Aabb}
 use Rattle.world.specs.declared.Found.the-variants.{Here, End}
 use Rattle.world.specs.declared.Cell.the-variants.{Unknown, Known}
 use Rattle.world.specs.Boxes.{moved, cube}
-use Rattle.world.specs.Laws.{run-none as boxes-none, run-end as boxes-end, run-more as boxes-more, run-past as boxes-past, unknown-block, known-block}
+use Rattle.world.specs.Laws.{run-none as boxes-none, run-end as boxes-end, run-more as boxes-more, unknown-block, known-block}
 use Rattle.world.specs.Space.{Space, boxHere, blockOf}
 use Rattle.support.specs.declared.Interval.{Interval}
 use Rattle.support.specs.declared.Reach.{Reach}
@@ -152,10 +152,6 @@ module _ (w : Way) (support : Bool) (by : Point) (s : List ℕ) (at : ℕ) where
       go false p b q e = run-none r left (ltb-false 0 left p)
       go true p true q e = refused-stays w r (runShapes support by s left at) q
       go true p false q e = cc
-
--- past its end a table has no boxes
-pub past : (w : Way) (support : Bool) (by : Point) (s : List ℕ) (n left : ℕ) (r : Reach) → length s < n → pass w r (runShapes support by (drop n s) left 0) ≡ r
-past w support by s n left r h = rw (boxes-past s n left h)
 
 -- ---- a cell
 

@@ -28,13 +28,9 @@ use Rattle.world.specs.declared.Found.the-variants.{Here, End}
 use Rattle.world.specs.declared.Entry.{Entry}
 use Rattle.world.specs.declared.Entry.the-variants.{Of, Missing}
 use Rattle.world.specs.Boxes.{moved, cube, corner}
-use Rattle.world.specs.Space.{Place, At, Out, place, far, onward, recordOf, entryAt, entryIn, mayOccupy, maySupport, collides, ofParts, known, knownBy, cellIn, cellAt, pointAt, boxAt, boxHere, run, blockOf, space}
+use Rattle.world.specs.Space.{Place, At, Out, place, onward, recordOf, entryAt, entryIn, mayOccupy, maySupport, collides, ofParts, known, knownBy, cellIn, cellAt, pointAt, boxAt, boxHere, run, blockOf, space}
 
 -- ---- a box record, where there is one
-
-pub no-box : (s : List ℕ) (at : ℕ) → length s < at + 48 → boxHere s at ≡ End
-unfolding boxHere
-no-box s at h = rw (lt-leb (at + 48) (length s) h)
 
 pub a-box : (s : List ℕ) (at : ℕ) → at + 48 ≤ length s → boxHere s at ≡ Here (boxAt s at)
 unfolding boxHere
@@ -139,8 +135,8 @@ module _ (s : List ℕ) (at : ℕ) where
 pub part-is : (n : ℕ) (s : List ℕ) → take (length s - n) (drop n s) ≡ drop n s
 part-is n s = take-all (length s - n) (drop n s) (omega (arith, length-drop n s))
 
-pub run-past : (s : List ℕ) (from n : ℕ) → length s < from → run n (drop from s) 0 ≡ []
-run-past s from n h = rw (drop-of-length-le s {i = from} (omega arith)) (run-end [] 0 n (no-box [] 0 (omega arith)))
+pub part-past : (n : ℕ) (s : List ℕ) → length s < n → take (length s - length s) (drop (length s) s) ≡ drop n s
+part-past n s h = part-is (length s) s ∙ drop-of-length-le s {i = length s} (omega arith) ∙ sym (drop-of-length-le s {i = n} (omega arith))
 
 -- ---- `place`, by the parts of a number
 
@@ -175,7 +171,11 @@ place-wide (negsuc d) n a = refl
 
 -- ---- as the code goes: a number at against an origin o and n cells
 
--- a place as one number, where there is none
+-- a place as one number: none in a row is 256
+unfoldable pub far : Place → ℕ
+far (At d) = d
+far Out = 256
+
 far-out : {p : Place} → p ≡ Out → 256 ≡ far p
 unfolding far
 far-out e = rw e

@@ -5,6 +5,7 @@
 pub mod space;
 
 pub use space::box_at;
+pub use space::boxes_from;
 pub use space::cell_at;
 pub use space::entry_at;
 

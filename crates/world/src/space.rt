@@ -1,10 +1,11 @@
 // The space that the tables are (01, "Tables, little-endian records"): which record of the cell table a cell is, what its state and its shape
 // make of it, and the box records. Each record is read once, and nothing is divided but by a power of two.
 ghost use mathlib.Core.Path.{_≡_};
-ghost use Prim.Native.Nat.{_+_, _≤_};
+ghost use Prim.Native.Nat.{_+_, _*_, _≤_};
 ghost use lib.IntN.{_-ℤ_};
-ghost use lib.ListN.{length};
-ghost use Rattle.world.specs.Space.{place, far, recordOf, entryAt, entryIn, ofParts, known, cellAt, pointAt, boxHere};
+ghost use lib.ListN.{length, drop};
+ghost use Rattle.world.specs.Space.{place, recordOf, entryAt, entryIn, ofParts, known, cellAt, pointAt, boxHere};
+ghost use Rattle.world.specs.Laws.{far};
 use crate::Aabb;
 use crate::Cell;
 use crate::Entry;
@@ -88,6 +89,19 @@ pub fn cell_at(w: Window, cells: &[u8], perms: &[u8], shapes: &[u8], x: i64, y: 
     known_cell(perms, shapes, state, shape)
 }
 
+// The part of the box table that starts at a shape's first record; where the table ends before it, the part is empty.
+pub fn boxes_from(boxes: &[u8], first: u32) -> &[u8]
+    ensures { λ r. ⌜ now r ≡ drop (48 * first) (now (boxes .entry)) ⌝ }
+{
+    let from = 48 * (first as usize);
+    let end = boxes.len();
+    if from <= end {
+        &boxes[from..]
+    } else {
+        &boxes[end..]
+    }
+}
+
 // The point whose three numbers stand from an offset on.
 fn point_at(s: &[u8], at: usize) -> Point
     requires { ⌜ at + 24 ≤ length (now s) ⌝ }
@@ -104,15 +118,12 @@ fn point_at(s: &[u8], at: usize) -> Point
 pub fn box_at(s: &[u8], at: usize) -> Found
     ensures { λ r. ⌜ r ≡ boxHere (now (s .entry)) at ⌝ }
 {
-    let n = s.len();
-    if n < 48 {
-        return Found::End;
+    if fields::fits(s.len(), at, 48) {
+        Found::Here(Aabb {
+            min: point_at(s, at),
+            max: point_at(s, at + 24),
+        })
+    } else {
+        Found::End
     }
-    if n - 48 < at {
-        return Found::End;
-    }
-    Found::Here(Aabb {
-        min: point_at(s, at),
-        max: point_at(s, at + 24),
-    })
 }

@@ -62,8 +62,11 @@ returns : tie.Need-returns
 unfolding space
 returns c = rw (cell (c .before .before .before .before) ∙ c .before .before .occupied .given .1) (sym (may-not _ _ _ (met (c .before .before .before .before .before)) _ _ _ _ (c .if1 .taken)))
 
-table-hits-requires : tie.Need-table-hits-requires
-table-hits-requires c κs = tt
+boxes-from-requires : tie.Need-boxes-from-requires
+boxes-from-requires c κs = tt
+
+run-hits-requires : tie.Need-run-hits-requires
+run-hits-requires c κs = tt
 
 returns-2 : tie.Need-returns-2
 unfolding space
@@ -72,8 +75,8 @@ returns-2 c = rw (cell (c .before .before .before .before .before) ∙ c .before
 
 returns-3 : tie.Need-returns-3
 unfolding space
-returns-3 c = rw (cell (c .before .before .before .before .before) ∙ c .before .before .before .occupied .given .1)
-    (ap not (rw (point (c .before .before .before .before .before .before .before .before)) at (c .table-hits .ensures)) ∙ sym (may-be _ _ _ (met (c .before .before .before .before .before .before)) _ _ _ _ (c .before .if1 .left)))
+returns-3 c = rw (cell (c .before .before .before .before .before .before) ∙ c .before .before .before .before .occupied .given .1)
+    (ap not (rw (c .before .boxes-from .ensures, point (c .before .before .before .before .before .before .before .before .before)) at (c .run-hits .ensures)) ∙ sym (may-be _ _ _ (met (c .before .before .before .before .before .before .before)) _ _ _ _ (c .before .before .if1 .left)))
 
 pub cell-free-spec : {M : Type 1} → statement M
 cell-free-spec =
@@ -89,6 +92,7 @@ cell-free-spec =
     intersects-requires-2
     enum-known-occupied
     returns
-    table-hits-requires
+    boxes-from-requires
+    run-hits-requires
     returns-2
     returns-3)

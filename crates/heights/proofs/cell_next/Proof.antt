@@ -38,8 +38,11 @@ enum-known-support c = search needs
 corner-of-requires : tie.Need-corner-of-requires
 corner-of-requires c κs = tt
 
-table-next-requires : tie.Need-table-next-requires
-table-next-requires c κs = tt
+boxes-from-requires : tie.Need-boxes-from-requires
+boxes-from-requires c κs = tt
+
+run-next-requires : tie.Need-run-next-requires
+run-next-requires c κs = tt
 
 returns : tie.Need-returns
 unfolding space
@@ -47,7 +50,7 @@ returns c = rw (cell (c .before .before) ∙ c .enum-told .given .1) (sym (unkno
 
 returns-2 : tie.Need-returns-2
 unfolding space
-returns-2 c = rw (cell (c .before .before .before .before .before .before) ∙ c .before .before .before .before .support .given .1) (rw (point (c .before)) at (c .table-next .ensures) ∙ sym (supports _ _ _ _ _ _ _ _ _ _ _ (c .before .before .if1 .taken)))
+returns-2 c = rw (cell (c .before .before .before .before .before .before .before) ∙ c .before .before .before .before .before .support .given .1) (rw (c .before .boxes-from .ensures, point (c .before .before)) at (c .run-next .ensures) ∙ sym (supports _ _ _ _ _ _ _ _ _ _ _ (c .before .before .before .if1 .taken)))
 
 returns-3 : tie.Need-returns-3
 unfolding space
@@ -61,7 +64,8 @@ cell-next-spec =
     enum-told
     enum-known-support
     corner-of-requires
-    table-next-requires
+    boxes-from-requires
+    run-next-requires
     returns
     returns-2
     returns-3)

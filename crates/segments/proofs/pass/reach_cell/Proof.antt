@@ -61,8 +61,11 @@ returns c = rw (cell (c .before .before .before .before) ∙ c .before .before .
 corner-of-requires-2 : tie.Need-corner-of-requires-2
 corner-of-requires-2 c κs = tt
 
-reach-table-requires : tie.Need-reach-table-requires
-reach-table-requires c κs = tt
+boxes-from-requires : tie.Need-boxes-from-requires
+boxes-from-requires c κs = tt
+
+reach-run-requires : tie.Need-reach-run-requires
+reach-run-requires c κs = tt
 
 returns-2 : tie.Need-returns-2
 unfolding space
@@ -70,7 +73,7 @@ returns-2 c = rw (cell (c .before .before .before .before .before .before) ∙ c
 
 returns-3 : tie.Need-returns-3
 unfolding space
-returns-3 c = rw (cell (c .before .before .before .before .before .before) ∙ c .before .before .before .before .support .given .1) ((rw (known-point (c .before)) at (c .reach-table .ensures)) ∙ sym (pass-known _ _ _ _ _ _ _ _))
+returns-3 c = rw (cell (c .before .before .before .before .before .before .before) ∙ c .before .before .before .before .before .support .given .1) ((rw (c .before .boxes-from .ensures, known-point (c .before .before)) at (c .reach-run .ensures)) ∙ sym (pass-known _ _ _ _ _ _ _ _))
 
 pub reach-cell-spec : {M : Type 1} → statement M
 reach-cell-spec =
@@ -85,6 +88,7 @@ reach-cell-spec =
     enum-known-support
     returns
     corner-of-requires-2
-    reach-table-requires
+    boxes-from-requires
+    reach-run-requires
     returns-2
     returns-3)

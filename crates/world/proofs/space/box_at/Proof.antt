@@ -1,34 +1,42 @@
 -- `world::space::box_at` meets its contract. Assumes nothing.
 use denote.Ref.{now}
 use native.Mathlib.Omega.{arith}
-use mathlib.Core.Path.{sym, ap, _∙_}
+use Prim.Native.Nat.{_+_, _≤_}
+use mathlib.Core.Path.{_≡_, sym, ap, _∙_}
+use lib.ListN.{length}
+use borrow.Author.Tests.{leb-true}
+use Rattle.world.specs.Space.{boxHere}
 use Rattle.world.specs.declared.Found.the-variants.{Here}
-use Rattle.world.specs.Laws.{no-box, a-box, two-corners}
+use Rattle.world.specs.Laws.{a-box, two-corners}
 use Rattle.world.proofs.space.box_at.Statement.{statement}
 use Rattle.world.proofs.space.box_at.Tie as tie
 
-returns : tie.Need-returns
-returns c = sym (no-box _ _ (omega arith))
+room : (c : tie.Then1) → let s = c .before .before .before in s .args .at + 48 ≤ length (now (s .args .s))
+room c = leb-true _ _ (sym (c .before .fits2 .ensures) ∙ c .if1 .taken)
 
-returns-2 : tie.Need-returns-2
-returns-2 c = sym (no-box _ _ (omega arith))
+fits-requires : tie.Need-fits-requires
+fits-requires c κs = tt
 
 point-at-requires : tie.Need-point-at-requires
-point-at-requires c κs = omega arith
+point-at-requires c κs = omega (arith, room c)
 
 add-point-at : tie.Need-add-point-at
-add-point-at c = record { fits = omega arith }
+add-point-at c = record { fits = omega (arith, room (c .before)) }
 
 point-at-requires-2 : tie.Need-point-at-requires-2
-point-at-requires-2 c κs = omega arith
+point-at-requires-2 c κs = omega (arith, room (c .before))
 
-returns-3 : tie.Need-returns-3
-returns-3 c =
+returns : tie.Need-returns
+returns c =
     let s = c .before .before .before .before .before in
     rw (c .before .point-at .ensures, c .point-at2 .ensures)
-    (ap Here (two-corners (now (s .args .s)) (s .args .at)) ∙ sym (a-box (now (s .args .s)) (s .args .at) (omega arith)))
+    (ap Here (two-corners (now (s .args .s)) (s .args .at)) ∙ sym (a-box (now (s .args .s)) (s .args .at) (room (c .before .before))))
+
+returns-2 : tie.Need-returns-2
+unfolding boxHere
+returns-2 c = rw (sym (c .before .fits2 .ensures) ∙ c .if1 .left)
 
 pub box-at-spec : {M : Type 1} → statement M
 box-at-spec =
     tie.close
-    (tie.spec returns returns-2 point-at-requires add-point-at point-at-requires-2 returns-3)
+    (tie.spec fits-requires point-at-requires add-point-at point-at-requires-2 returns returns-2)

@@ -6,8 +6,8 @@ use mir.Syntax.{w32, w64}
 use mir.Val.{SFits}
 use mir.Facts.{toZ-ofZ}
 use borrow.Author.Needs.{needs}
-use Rattle.world.specs.Space.{place, far, entryIn}
-use Rattle.world.specs.Laws.{record-else, record-then, plane, deep, whole}
+use Rattle.world.specs.Space.{place, entryIn}
+use Rattle.world.specs.Laws.{far, record-else, record-then, plane, deep, whole}
 use Rattle.world.proofs.space.entry_of.Statement.{statement}
 use Rattle.world.proofs.space.entry_of.Tie as tie
 
