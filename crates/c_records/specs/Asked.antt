@@ -2,7 +2,7 @@
 use Prim.Native.Nat.{ℕ}
 use mathlib.Core.List.{List}
 use lib.Ieee.{Float}
-use Rattle.scene_records.specs.Layout.{pointAt}
+use Rattle.world.specs.Space.{pointAt}
 use Rattle.c_records.specs.declared.question.Question.{Question}
 use Rattle.c_records.specs.declared.mob.Mob.{Mob}
 use Rattle.c_records.specs.Records.{windowIn, requestIn, bodyIn, policyIn, inWater}

@@ -3,24 +3,18 @@ use Prim.Native.Nat.{ℕ}
 use mathlib.Core.Bool.{Bool}
 use mathlib.Core.List.{List}
 use lib.Ieee.{Float}
-use Rattle.fields.specs.Little.{field, signedField, floatField}
+use Rattle.fields.specs.Little.{field, floatField}
 use Rattle.world.specs.declared.Body.{Body}
 use Rattle.world.specs.declared.Request.{Request}
 use Rattle.world.specs.declared.Window.{Window}
+use Rattle.world.specs.Space.{pointAt}
 use Rattle.policy.specs.declared.policy.WalkPolicy.{WalkPolicy}
 use Rattle.policy.specs.Flags.{has}
-use Rattle.scene_records.specs.Layout.{pointAt}
+use Rattle.scene_records.specs.Layout.{windowAt, bodyAt}
 
 -- "Window: origin three i32, sizes three u32": 24 bytes
-unfoldable pub windowIn : List ℕ → Window
-windowIn s = record {
-  x = signedField s 0;
-  y = signedField s 4;
-  z = signedField s 8;
-  sx = field 4 s 12;
-  sy = field 4 s 16;
-  sz = field 4 s 20;
-}
+abbrev pub windowIn : List ℕ → Window
+windowIn s = windowAt s 0
 
 -- a request, 88 bytes: start, goal, max_range, step_height, jump_height and max_drop, ten f64, and node_budget, u64
 unfoldable pub requestIn : List ℕ → Request
@@ -35,8 +29,8 @@ requestIn s = record {
 }
 
 -- a body, 24 bytes: width, height and step_height, three f64
-unfoldable pub bodyIn : List ℕ → Body
-bodyIn s = record { width = floatField s 0; height = floatField s 8; «step_height» = floatField s 16 }
+abbrev pub bodyIn : List ℕ → Body
+bodyIn s = bodyAt s 0
 
 -- a policy: a bit for each wish, and the lift of one jump
 unfoldable pub policyIn : ℕ → Float → WalkPolicy

@@ -1,10 +1,9 @@
 // What a call from another language hands over (01, "Tables, little-endian records"), as the values that the proved calls take. `walk_c` has the calls.
 //
-// `question` is what is asked of a world: its window, the request and the body. `mob` is the same of a mob's search, whose policy is a number. `records` and
-// `wishes` read the parts.
+// `question` is what is asked of a world: its window, the request and the body. `mob` is the same of a mob's search, whose policy is a number, which
+// `wishes` reads.
 pub mod mob;
 pub mod question;
-pub(crate) mod records;
 pub(crate) mod wishes;
 
 pub use mob::Mob;

@@ -1,12 +1,12 @@
 // What a mob's search is asked, beside the tables: `ends` is the start and the goal, two points.
 ghost use mathlib.Core.Path.{_≡_};
 ghost use Rattle.c_records.specs.Asked.{mobIn};
-use crate::records::body_in;
-use crate::records::window_in;
-use crate::wishes::in_water;
+use crate::wishes::has_bit;
 use crate::wishes::policy_in;
 use policy::WalkPolicy;
+use scene_records::body_at;
 use scene_records::point_at;
+use scene_records::window_at;
 use world::Body;
 use world::Point;
 use world::Window;
@@ -25,10 +25,10 @@ pub fn mob_in(policy: u64, jump_height: f64, window: &[u8], ends: &[u8], body: &
 {
     Mob {
         policy: policy_in(policy, jump_height),
-        in_water: in_water(policy),
-        window: window_in(window),
+        in_water: has_bit(policy, 128),
+        window: window_at(window, 0),
         start: point_at(ends, 0),
         goal: point_at(ends, 24),
-        body: body_in(body),
+        body: body_at(body, 0),
     }
 }

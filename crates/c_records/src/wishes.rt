@@ -1,12 +1,12 @@
-// A mob's policy as one number: a bit for each wish, and one for a body in water.
+// A mob's policy as one number: a bit for each wish, and one, of weight 128, for a body in water.
 ghost use mathlib.Core.Path.{_≡_};
 ghost use Prim.Native.Nat.{_<_};
 ghost use Rattle.policy.specs.Flags.{has};
-ghost use Rattle.c_records.specs.Records.{policyIn, inWater};
+ghost use Rattle.c_records.specs.Records.{policyIn};
 use policy::WalkPolicy;
 
 // Whether a number has the bit of a weight.
-fn has_bit(bits: u64, weight: u64) -> bool
+pub(crate) fn has_bit(bits: u64, weight: u64) -> bool
     requires { ⌜ 0 < weight ⌝ }
     ensures { λ r. ⌜ r ≡ has weight bits ⌝ }
 {
@@ -26,10 +26,4 @@ pub(crate) fn policy_in(bits: u64, jump_height: f64) -> WalkPolicy
         can_open_iron_doors: has_bit(bits, 32),
         door_breaker: has_bit(bits, 64),
     }
-}
-
-pub(crate) fn in_water(bits: u64) -> bool
-    ensures { λ r. ⌜ r ≡ inWater bits ⌝ }
-{
-    has_bit(bits, 128)
 }

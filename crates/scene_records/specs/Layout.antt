@@ -11,7 +11,7 @@ use Rattle.world.specs.declared.Point.{Point}
 use Rattle.world.specs.declared.Aabb.{Aabb}
 use Rattle.world.specs.declared.Body.{Body}
 use Rattle.world.specs.declared.Window.{Window}
-use Rattle.world.specs.Space.{boxAt}
+use Rattle.world.specs.Space.{pointAt, boxAt}
 use Rattle.tables.specs.BadWorld.{sizeAbove}
 
 -- ---- every kind
@@ -41,11 +41,24 @@ unfoldable pub zeros : List ℕ → Bool
 zeros [] = true
 zeros (b ∷ bs) = eqb b 0 && zeros bs
 
--- ---- the payloads
+-- ---- a body and a window from an offset on, as these records have them and those that a C call is handed
 
--- three f64 from an offset on
-unfoldable pub pointAt : List ℕ → ℕ → Point
-pointAt s at = record { x = floatField s at; y = floatField s (at + 8); z = floatField s (at + 16) }
+-- width, height and step, three f64
+unfoldable pub bodyAt : List ℕ → ℕ → Body
+bodyAt s at = record { width = floatField s at; height = floatField s (at + 8); «step_height» = floatField s (at + 16) }
+
+-- "Window: origin three i32, sizes three u32"
+unfoldable pub windowAt : List ℕ → ℕ → Window
+windowAt s at = record {
+  x = signedField s at;
+  y = signedField s (at + 4);
+  z = signedField s (at + 8);
+  sx = field 4 s (at + 12);
+  sy = field 4 s (at + 16);
+  sz = field 4 s (at + 20);
+}
+
+-- ---- the payloads
 
 -- kind 1: "start, goal, max_range; n the budget"
 abbrev pub startOf : List ℕ → Point
@@ -58,19 +71,12 @@ abbrev pub rangeOf : List ℕ → Float
 rangeOf s = floatField s 56
 
 -- kind 2: "step, jump, drop, width, height, body step"; the first three are the request's
-unfoldable pub bodyOf : List ℕ → Body
-bodyOf s = record { width = floatField s 32; height = floatField s 40; «step_height» = floatField s 48 }
+abbrev pub bodyOf : List ℕ → Body
+bodyOf s = bodyAt s 32
 
 -- kind 3: "window origin, sizes"
-unfoldable pub windowOf : List ℕ → Window
-windowOf s = record {
-  x = signedField s 8;
-  y = signedField s 12;
-  z = signedField s 16;
-  sx = field 4 s 20;
-  sy = field 4 s 24;
-  sz = field 4 s 28;
-}
+abbrev pub windowOf : List ℕ → Window
+windowOf s = windowAt s 8
 
 -- a window's cells; one with a size above 256, which no scene has, has none
 abbrev pub volume : Window → ℕ

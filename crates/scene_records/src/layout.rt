@@ -2,7 +2,8 @@
 ghost use mathlib.Core.Path.{_≡_};
 ghost use lib.ListN.{getD};
 ghost use Rattle.tables.specs.BadWorld.{sizeAbove};
-ghost use Rattle.scene_records.specs.Layout.{numberOf, pointAt, bodyOf, windowOf, cellCount};
+ghost use Rattle.world.specs.Space.{pointAt};
+ghost use Rattle.scene_records.specs.Layout.{numberOf, bodyAt, windowAt, cellCount};
 use world::Body;
 use world::Point;
 use world::Window;
@@ -11,10 +12,7 @@ use world::Window;
 pub fn byte_at(bytes: &[u8], at: usize) -> u8
     ensures { λ r. ⌜ r ≡ getD (now (bytes .entry)) at 0 ⌝ }
 {
-    if bytes.len() <= at {
-        return 0;
-    }
-    bytes[at]
+    if at < bytes.len() { bytes[at] } else { 0 }
 }
 
 // The number n.
@@ -36,11 +34,11 @@ pub fn point_at(bytes: &[u8], at: u32) -> Point
     }
 }
 
-// The body of kind 2.
-pub fn body_of(bytes: &[u8]) -> Body
-    ensures { λ r. ⌜ r ≡ bodyOf (now (bytes .entry)) ⌝ }
+// A body from an offset on.
+pub fn body_at(bytes: &[u8], at: u32) -> Body
+    ensures { λ r. ⌜ r ≡ bodyAt (now (bytes .entry)) at ⌝ }
 {
-    let three = point_at(bytes, 32);
+    let three = point_at(bytes, at);
     Body {
         width: three.x,
         height: three.y,
@@ -48,17 +46,18 @@ pub fn body_of(bytes: &[u8]) -> Body
     }
 }
 
-// The window of kind 3.
-pub fn window_of(bytes: &[u8]) -> Window
-    ensures { λ r. ⌜ r ≡ windowOf (now (bytes .entry)) ⌝ }
+// A window from an offset on.
+pub fn window_at(bytes: &[u8], at: u32) -> Window
+    ensures { λ r. ⌜ r ≡ windowAt (now (bytes .entry)) at ⌝ }
 {
+    let x = at as usize;
     Window {
-        x: fields::i32_at(bytes, 8),
-        y: fields::i32_at(bytes, 12),
-        z: fields::i32_at(bytes, 16),
-        sx: fields::u32_at(bytes, 20),
-        sy: fields::u32_at(bytes, 24),
-        sz: fields::u32_at(bytes, 28),
+        x: fields::i32_at(bytes, x),
+        y: fields::i32_at(bytes, x + 4),
+        z: fields::i32_at(bytes, x + 8),
+        sx: fields::u32_at(bytes, x + 12),
+        sy: fields::u32_at(bytes, x + 16),
+        sz: fields::u32_at(bytes, x + 20),
     }
 }
 
@@ -74,7 +73,8 @@ pub fn cell_count(w: Window) -> u32
     ensures { λ r. ⌜ r ≡ cellCount w ⌝ }
 {
     if size_above(w) {
-        return 0;
+        0
+    } else {
+        w.sx * w.sy * w.sz
     }
-    w.sx * w.sy * w.sz
 }

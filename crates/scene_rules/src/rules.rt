@@ -9,7 +9,7 @@ use scene_records::cell_count;
 use scene_records::number_of;
 use scene_records::point_at;
 use scene_records::size_above;
-use scene_records::window_of;
+use scene_records::window_at;
 use world::Aabb;
 
 // Whether a kind may come after the last one, of which 0 is none.
@@ -45,7 +45,7 @@ fn rule_kept(counts: Counts, bytes: &[u8], kind: u8) -> bool
     match kind {
         1 => n <= 512,
         3 => {
-            let w = window_of(bytes);
+            let w = window_at(bytes, 8);
             let above = size_above(w);
             let cells = cell_count(w);
             (n == 0) & !above & (cells <= 4096)

@@ -1,11 +1,11 @@
 // What a good record of a kind makes of each part of the state.
 ghost use mathlib.Core.Path.{_≡_};
 ghost use Rattle.scene_step.specs.Next.{Allowed, ShapeFits, requestAfter, bodyAfter, windowAfter, countAfter, withBoxCounted, countsAfter, next};
-use scene_records::body_of;
+use scene_records::body_at;
 use scene_records::cell_count;
 use scene_records::number_of;
 use scene_records::point_at;
-use scene_records::window_of;
+use scene_records::window_at;
 use scene_rules::Counts;
 use scene_state::Reading;
 use world::Body;
@@ -47,7 +47,7 @@ fn body_after(b: Body, bytes: &[u8], kind: u8) -> Body
     ensures { λ r. ⌜ r ≡ bodyAfter kind b (now (bytes .entry)) ⌝ }
 {
     if kind == 2 {
-        return body_of(bytes);
+        return body_at(bytes, 32);
     }
     b
 }
@@ -56,7 +56,7 @@ fn window_after(w: Window, bytes: &[u8], kind: u8) -> Window
     ensures { λ r. ⌜ r ≡ windowAfter kind w (now (bytes .entry)) ⌝ }
 {
     if kind == 3 {
-        return window_of(bytes);
+        return window_at(bytes, 8);
     }
     w
 }
@@ -89,7 +89,7 @@ fn counts_after(c: Counts, bytes: &[u8], kind: u8) -> Counts
 {
     match kind {
         3 => Counts {
-            cells: cell_count(window_of(bytes)),
+            cells: cell_count(window_at(bytes, 8)),
             states: c.states,
             shapes: c.shapes,
             boxes: c.boxes,

@@ -2,7 +2,7 @@
 ghost use mathlib.Core.Path.{_≡_};
 ghost use lib.ListN.{length};
 ghost use Rattle.policy.specs.Permission.{permissionTable};
-ghost use Rattle.scene_records.specs.Layout.{pointAt};
+ghost use Rattle.world.specs.Space.{pointAt};
 ghost use Rattle.outcomes.specs.Outcomes.{pathNumber};
 ghost use Rattle.find_path.specs.FindPath.{path, nodesAfterPath, frontAfterPath, outAfterPath};
 ghost use Rattle.c_records.specs.Records.{windowIn, bodyIn, policyIn, inWater};

@@ -1,32 +1,27 @@
 -- `c_records::question::question_in` meets its contract. Assumes nothing.
+use Rattle.world.specs.Space.{pointAt}
+use Rattle.c_records.specs.Records.{requestIn}
 use Rattle.c_records.specs.Asked.{questionIn}
-use borrow.Author.Needs.{needs}
 use Rattle.c_records.proofs.question.question_in.Statement.{statement}
 use Rattle.c_records.proofs.question.question_in.Tie as tie
 
-window-in-requires : tie.Need-window-in-requires
-window-in-requires c κs = search needs
-
-request-in-requires : tie.Need-request-in-requires
-request-in-requires c κs = search needs
-
-body-in-requires : tie.Need-body-in-requires
-body-in-requires c κs = search needs
-
 returns : tie.Need-returns
-unfolding questionIn
-returns c =
-    rw (
-      c .before .before .window-in .ensures,
-      c .before .request-in .ensures,
-      c .body-in .ensures,
-    )
+unfolding questionIn requestIn pointAt
+returns c = λ i.
+    let heights = c .before .before .before .before .before .before .point-at .ensures i in
+    record {
+      window = c .before .before .before .before .before .window-at .ensures i;
+      request = record {
+        start = c .before .before .before .before .point-at2 .ensures i;
+        goal = c .before .before .before .point-at3 .ensures i;
+        «max_range» = c .before .before .f64-at .ensures i;
+        «node_budget» = c .before .u64-at .ensures i;
+        «step_height» = heights .x;
+        «jump_height» = heights .y;
+        «max_drop» = heights .z;
+      };
+      body = c .body-at .ensures i;
+    }
 
 pub question-in-spec : {M : Type 1} → statement M
-question-in-spec =
-    tie.close
-    (tie.spec
-    window-in-requires
-    request-in-requires
-    body-in-requires
-    returns)
+question-in-spec = tie.close (tie.spec (λ c κs. tt) (λ c κs. tt) (λ c κs. tt) (λ c κs. tt) (λ c κs. tt) (λ c κs. tt) (λ c κs. tt) returns)

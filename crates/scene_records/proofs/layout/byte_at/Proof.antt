@@ -6,14 +6,8 @@ use borrow.Author.Needs.{needs}
 use Rattle.scene_records.proofs.layout.byte_at.Statement.{statement}
 use Rattle.scene_records.proofs.layout.byte_at.Tie as tie
 
-returns : tie.Need-returns
-returns c = sym (List·getD-eq-default (now (c .before .args .bytes)) 0 (c .if1 .taken))
-
-shared-slice-read-result : tie.Need-shared-slice-read-result
-shared-slice-read-result c = search needs
-
-returns-2 : tie.Need-returns-2
-returns-2 c = search needs
+past-the-end : tie.Need-returns-2
+past-the-end c = sym (List·getD-eq-default (now (c .before .args .bytes)) 0 (c .if1 .left))
 
 pub byte-at-spec : {M : Type 1} → statement M
-byte-at-spec = tie.close (tie.spec returns shared-slice-read-result returns-2)
+byte-at-spec = tie.close (tie.spec (λ c. search needs) (λ c. search needs) past-the-end)

@@ -12,8 +12,8 @@ use Rattle.scene_rules.proofs.rules.rule_kept.Tie as tie
 number-of-requires : tie.Need-number-of-requires
 number-of-requires c κs = tt
 
-window-of-requires : tie.Need-window-of-requires
-window-of-requires c κs = tt
+window-at-requires : tie.Need-window-at-requires
+window-at-requires c κs = tt
 
 size-above-requires : tie.Need-size-above-requires
 size-above-requires c κs = tt
@@ -34,8 +34,8 @@ returns c = rw (c .before .number-of .ensures) (sym (kind-1 _ _ _ _ _ _ _ (c .ma
 returns-2 : tie.Need-returns-2
 unfolding rule windowRule
 returns-2 c =
-    let above = c .before .size-above .ensures ∙ ap sizeAbove (c .before .before .window-of .ensures) in
-    let cells = c .cell-count .ensures ∙ ap cellCount (c .before .before .window-of .ensures) in
+    let above = c .before .size-above .ensures ∙ ap sizeAbove (c .before .before .window-at .ensures) in
+    let cells = c .cell-count .ensures ∙ ap cellCount (c .before .before .window-at .ensures) in
     (λ i. eqb (c .before .before .before .before .number-of .ensures i) 0 && not (above i) && leb (cells i) 4096) ∙ sym (kind-3 _ _ _ _ _ _ _ (c .before .before .before .match .keys2))
 
 returns-3 : tie.Need-returns-3
@@ -59,7 +59,7 @@ rule-kept-spec =
     tie.close
     (tie.spec
     number-of-requires
-    window-of-requires
+    window-at-requires
     size-above-requires
     cell-count-requires
     shape-good-requires

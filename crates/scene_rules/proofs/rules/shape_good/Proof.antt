@@ -2,8 +2,8 @@
 use mathlib.Core.Path.{ap, _∙_}
 use denote.Ref.{now}
 use Rattle.tables.specs.BadWorld.{boxRule}
-use Rattle.world.specs.Space.{boxAt}
-use Rattle.scene_records.specs.Layout.{boxOf, pointAt}
+use Rattle.world.specs.Space.{pointAt, boxAt}
+use Rattle.scene_records.specs.Layout.{boxOf}
 use Rattle.scene_rules.specs.Laws.{shape-is}
 use borrow.Author.Needs.{needs}
 use Rattle.scene_rules.proofs.rules.shape_good.Statement.{statement}

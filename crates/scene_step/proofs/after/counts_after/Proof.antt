@@ -5,8 +5,8 @@ use native.Mathlib.Omega.{arith}
 use Rattle.scene_step.proofs.after.counts_after.Statement.{statement}
 use Rattle.scene_step.proofs.after.counts_after.Tie as tie
 
-window-of-requires : tie.Need-window-of-requires
-window-of-requires c κs = tt
+window-at-requires : tie.Need-window-at-requires
+window-at-requires c κs = tt
 
 cell-count-requires : tie.Need-cell-count-requires
 cell-count-requires c κs = tt
@@ -25,7 +25,7 @@ add-t9 c = record { fits = omega (arith, c .number-of2 .ensures, c .before .befo
 
 returns : tie.Need-returns
 unfolding countsAfter
-returns c = rw (c .before .before .match .keys1, c .cell-count .ensures, c .before .window-of .ensures)
+returns c = rw (c .before .before .match .keys1, c .cell-count .ensures, c .before .window-at .ensures)
 
 returns-2 : tie.Need-returns-2
 unfolding countsAfter
@@ -43,7 +43,7 @@ pub counts-after-spec : {M : Type 1} → statement M
 counts-after-spec =
     tie.close
     (tie.spec
-    window-of-requires
+    window-at-requires
     cell-count-requires
     number-of-requires
     with-box-counted-requires

@@ -1,5 +1,5 @@
 -- `scene_step::after::request_after` meets its contract. Assumes nothing.
-use Rattle.scene_records.specs.Layout.{pointAt}
+use Rattle.world.specs.Space.{pointAt}
 use Rattle.scene_step.specs.Next.{requestAfter}
 use borrow.Author.Tests.{ne-eqb}
 use borrow.Author.Needs.{needs}
