@@ -1,4 +1,5 @@
 // The public call (01, "Numbers given back": "Search order"): the start, as many expansions as the budget, the list, and the frontier room all zero.
+use crate::Task;
 use crate::turns::expand;
 use outcomes::Answer;
 use outcomes::Turn;
@@ -33,21 +34,20 @@ pub fn find_walk_path(
     if let Judged::Refused(outcome) = judged {
         return outcomes::without_search(outcome);
     }
-    let start = words::feet_of(r.start);
-    let goal = words::feet_of(r.goal);
     let budget = r.node_budget as usize;
+    let goal = words::feet_of(r.goal);
     let aim = Aim { budget, goal };
-    let begun = visits::begin(nodes, front, budget, start);
-    let mut turn = Turn::Going(begun);
+    let task = Task { w, r, body, aim };
+    let mut turn = Turn::Going(visits::begin(nodes, front, budget, words::feet_of(r.start)));
     let mut t: usize = 0;
     while t < budget {
         let Turn::Going(c) = turn else {
             break;
         };
-        turn = expand(w, cells, perms, shapes, boxes, r, body, nodes, front, aim, c);
+        turn = expand(task, cells, perms, shapes, boxes, nodes, front, c);
         t += 1;
     }
-    let answer = outcomes::conclude(nodes, goal, turn, out);
+    let answer = outcomes::conclude(nodes, task.aim.goal, turn, out);
     writes::zero(front);
     answer
 }

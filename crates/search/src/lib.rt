@@ -11,7 +11,19 @@ pub use find::find_walk_path;
 use rooms::Counts;
 use rooms::NodeRecord;
 use sides::Sides;
+use visits::Aim;
+use world::Body;
 use world::Point;
+use world::Request;
+use world::Window;
+
+// What is searched: in the window of a world, for a request, by a body; and for which goal, with how many nodes.
+pub struct Task {
+    pub w: Window,
+    pub r: Request,
+    pub body: Body,
+    pub aim: Aim,
+}
 
 // The node that is expanded: its number, its record, and the point that its feet are read as.
 pub struct Place {

@@ -1,13 +1,10 @@
 // One expansion (01, "Search": "Pop, close, try the connector (a start equal to the goal needs none: its list is the start alone), then the columns").
 use crate::Place;
+use crate::Task;
 use crate::columns::columns;
 use moves::EdgeAnswer;
 use outcomes::Turn;
 use rooms::Counts;
-use visits::Aim;
-use world::Body;
-use world::Request;
-use world::Window;
 ghost use mathlib.Core.Path.{_≡_};
 ghost use Prim.Native.Nat.{_+_};
 ghost use Rattle.world.specs.Space.{space};
@@ -17,37 +14,32 @@ ghost use Rattle.search.specs.Turns.{mostSteps, Bounded, Turned};
 
 // One expansion, of whatever state the rooms are.
 pub(crate) fn expand(
-    w: Window, cells: &[u8], perms: &[u8], shapes: &[u8], boxes: &[u8],
-    r: Request, body: Body, nodes: &mut [u8], front: &mut [u8],
-    aim: Aim, c: Counts,
+    task: Task, cells: &[u8], perms: &[u8], shapes: &[u8], boxes: &[u8],
+    nodes: &mut [u8], front: &mut [u8], c: Counts,
 ) -> Turn
-    requires { ⌜ Ready (now nodes) (now front) (aim .budget) (mostSteps + 2) c ⌝ }
-    requires { ⌜ (aim .goal ≡ feetOf (r .goal)) × Bounded (space w (now cells) (now perms) (now shapes) (now boxes)) r body ⌝ }
-    ensures { λ t. ⌜ Turned aim (space w (now (cells .entry)) (now (perms .entry)) (now (shapes .entry)) (now (boxes .entry))) r body c t (now (nodes .entry)) (now (front .entry)) (now (nodes .exit)) (now (front .exit)) ⌝ }
+    requires { ⌜ Ready (now nodes) (now front) (task .aim .budget) (mostSteps + 2) c ⌝ }
+    requires { ⌜ (task .aim .goal ≡ feetOf (task .r .goal)) × Bounded (space (task .w) (now cells) (now perms) (now shapes) (now boxes)) (task .r) (task .body) ⌝ }
+    ensures { λ t. ⌜ Turned (task .aim) (space (task .w) (now (cells .entry)) (now (perms .entry)) (now (shapes .entry)) (now (boxes .entry))) (task .r) (task .body) c t (now (nodes .entry)) (now (front .entry)) (now (nodes .exit)) (now (front .exit)) ⌝ }
 {
-    let n = c.retained;
-    let k = scans::pick(front, n);
-    if n <= k {
+    let k = scans::pick(front, c.retained);
+    if c.retained <= k {
         return Turn::Rest(c);
     }
-    let closing = visits::close(nodes, front, aim, k, c);
+    let closing = visits::close(nodes, front, task.aim, k, c);
     let node = closing.node;
     let shut = closing.counts;
-    let feet = node.feet;
-    let goal = aim.goal;
-    let arrived = equal_points::same_point(feet, goal);
-    if arrived {
+    if equal_points::same_point(node.feet, task.aim.goal) {
         return Turn::At(shut, k);
     }
-    let point = words::point_of(feet);
-    match edges::connector(w, cells, perms, shapes, boxes, r, body, point) {
+    let point = words::point_of(node.feet);
+    match edges::connector(task.w, cells, perms, shapes, boxes, task.r, task.body, point) {
         EdgeAnswer::To(way) => {
             let label = words::label_of(way);
             Turn::By(shut, k, label)
         }
         EdgeAnswer::Nowhere => {
             let at = Place { number: k, node, point };
-            let counts = columns(w, cells, perms, shapes, boxes, r, body, nodes, front, aim, at, shut);
+            let counts = columns(task, cells, perms, shapes, boxes, nodes, front, at, shut);
             Turn::Going(counts)
         }
     }

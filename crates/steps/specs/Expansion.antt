@@ -3,27 +3,29 @@ use Prim.Native.Nat.{ℕ, zero, suc, _+_, _-_, _≤_, _<_}
 use native.Mathlib.Omega.{arith}
 use native.Mathlib.Numerals.{add-one}
 use mathlib.Core.Path.{_≡_, refl, sym, ap, _∙_}
-use mathlib.Core.Bool.{Bool, true, false, _||_, cond}
+use mathlib.Core.Bool.{Bool, true, false, _||_}
 use mathlib.Core.List.{List, [], _∷_, _++_}
 use borrow.Author.Tests.{ltb-true, ltb-false}
 use lib.Dec.{ltb}
 use lib.Ieee.{Float}
+use lib.ListN.{length}
 use Rattle.cells.specs.Ranges.{gather}
 use Rattle.world.specs.declared.Point.{Point}
 use Rattle.world.specs.declared.Body.{Body}
 use Rattle.world.specs.declared.Request.{Request}
 use Rattle.world.specs.Space.{Space}
+use Rattle.heights.specs.declared.Band.{Band}
 use Rattle.heights.specs.declared.Height.{Height}
 use Rattle.heights.specs.declared.Height.the-variants.{At, None}
 use Rattle.heights.specs.Heights.{tops, sorted, heights, keptAfter, nextAfter}
 use Rattle.heights.specs.Next.{kept-next, kept-end}
 use Rattle.heights.specs.Laws.{numbers}
 use Rattle.moves.specs.declared.answer.Waypoint.{Waypoint}
-use Rattle.moves.specs.declared.answer.EdgeAnswer.the-variants.{To, Nowhere}
 use Rattle.edges.specs.Edges.{edge}
 use Rattle.sides.specs.declared.Sides.{Sides}
 use Rattle.sides.specs.Sides.{levelTo, lookedBy, noSides, answeredBy}
 use Rattle.sides.specs.Laws.{always, a-diagonal}
+use Rattle.steps.specs.declared.columns.Centre.{Centre}
 use Rattle.steps.specs.Columns.{centreOf, bandOf, target, ahead, level, edgesAt, columnSteps, sides, columnIf, stepsFrom}
 
 module _ (sp : Space) (r : Request) (body : Body) (from : Point) where
@@ -109,6 +111,25 @@ module _ (sp : Space) (r : Request) (body : Body) (from : Point) where
           stepsAfter after ≡ ahead (edge sp r body from (target (centreOf from n) y)) (stepsAfter (At y))
       unfolding nextAfter stepsAfter edgesAt
       column-on y e = ap (edgesAt sp r body from (centreOf from n)) (kept-next _ (numbers (bandOf r body from) (centreOf from n .x) (centreOf from n .z) sp) after y e)
+
+    -- how many heights are left behind one
+    unfoldable pub heightsLeft : Height → ℕ
+    heightsLeft after = length (keptAfter after (sorted (tops sp (bandOf r body from) (centreOf from n .x) (centreOf from n .z))))
+
+    -- what the code asked for and what it was told: the next height after one
+    module _ {band : Band} {centre : Centre} {next : Height} (after : Height) (b : band ≡ bandOf r body from) (m : centre ≡ centreOf from n) (e : next ≡ nextAfter sp band (centre .x) (centre .z) after) where
+      told : (h : Height) → next ≡ h → nextAfter sp (bandOf r body from) (centreOf from n .x) (centreOf from n .z) after ≡ h
+      told h i = rw (← b, ← m) (sym e ∙ i)
+
+      pub none-left : next ≡ None → stepsAfter after ≡ []
+      none-left i = column-ends after (told None i)
+
+      pub next-ahead : (y : Float) → next ≡ At y → stepsAfter after ≡ ahead (edge sp r body from (target centre y)) (stepsAfter (At y))
+      next-ahead y i = rw m (column-on after y (told (At y) i))
+
+      pub fewer : (y : Float) → next ≡ At y → heightsLeft (At y) < heightsLeft after
+      unfolding heightsLeft nextAfter
+      fewer y i = omega (arith, ap length (kept-next _ (numbers (bandOf r body from) (centreOf from n .x) (centreOf from n .z) sp) after y (told (At y) i)))
 
 -- ---- whether a column is level, noted edge by edge
 

@@ -2,44 +2,32 @@
 use mathlib.Core.Path.{_≡_, refl, sym, ap, subst, _∙_}
 use mathlib.Core.Bool.{Bool, true, false, _||_}
 use mathlib.Core.List.{List, [], _∷_, _++_, map, append-nil, append-assoc}
-use Prim.Native.Nat.{ℕ, zero, suc, _+_, _≤_, _<_}
+use Prim.Native.Nat.{ℕ, _+_, _≤_, _<_}
 use native.Mathlib.Omega.{arith}
 use lib.ListN.{length, length-append}
-use lib.Ieee.{Float}
-use Rattle.exploration.specs.Graph.{Graph}
-use Rattle.exploration.specs.Policy.{Node}
 use Rattle.exploration.specs.Explore.{State, visits}
 use Rattle.exploration.specs.Laws.Loops.{visits-append}
 use Rattle.world.specs.declared.Point.{Point}
 use Rattle.world.specs.declared.Body.{Body}
 use Rattle.world.specs.declared.Request.{Request}
 use Rattle.world.specs.Space.{Space}
-use Rattle.heights.specs.declared.Band.{Band}
-use Rattle.heights.specs.declared.Height.{Height}
-use Rattle.heights.specs.declared.Height.the-variants.{At, None}
-use Rattle.heights.specs.Heights.{tops, sorted, heights, keptAfter, nextAfter}
-use Rattle.heights.specs.Next.{kept-next}
-use Rattle.heights.specs.Laws.{numbers}
 use Rattle.moves.specs.declared.answer.Waypoint.{Waypoint}
 use Rattle.moves.specs.declared.answer.EdgeAnswer.{EdgeAnswer}
 use Rattle.moves.specs.declared.answer.EdgeAnswer.the-variants.{To, Nowhere}
-use Rattle.edges.specs.Edges.{edge}
-use Rattle.steps.specs.declared.columns.Centre.{Centre}
 use Rattle.sides.specs.declared.Sides.{Sides}
 use Rattle.sides.specs.Sides.{lookedBy, answeredBy, levelTo}
-use Rattle.steps.specs.Columns.{centreOf, bandOf, target, ahead, level, columnSteps, columnIf, stepsFrom}
-use Rattle.steps.specs.Expansion.{columnsFrom, columns-begin, columns-on, columns-end, sidesBefore, sides-on, looked-before, skipped, sides-skipped, stepsAfter, column-ends, column-on}
+use Rattle.steps.specs.Columns.{ahead, level, columnIf}
+use Rattle.steps.specs.Expansion.{sidesBefore, sides-on, skipped, sides-skipped}
 use Rattle.words.specs.Words.{feetOf, labelOf, stepOf}
 use Rattle.rooms.specs.declared.Feet.{Feet}
 use Rattle.rooms.specs.declared.Label.{Label}
 use Rattle.rooms.specs.declared.Counts.{Counts}
 use Rattle.rooms.specs.Rooms.{Note, stateOf}
-use Rattle.rooms.specs.Laws.Rooms.{BySamePoint}
 use Rattle.visits.specs.declared.Aim.{Aim}
 use Rattle.visits.specs.Best.{best}
 use Rattle.visits.specs.declared.Visit.{Visit}
-use Rattle.visits.specs.Visits.{Ready, Kept, Near, countsBy, Visited, VisitedIf}
-use Rattle.visits.specs.Laws.Visits.{kept-none, kept-trans, near-none, near-trans, near-le, is-ready}
+use Rattle.visits.specs.Visits.{Ready, Near, countsBy, Visited, VisitedIf}
+use Rattle.visits.specs.Laws.Visits.{kept-none, kept-trans, near-none, near-trans, is-ready}
 use Rattle.search.specs.declared.Place.{Place}
 use Rattle.search.specs.declared.Column.{Column}
 use Rattle.search.specs.declared.Around.{Around}
@@ -131,39 +119,10 @@ module _ {R : List Waypoint → Type 0} {whole rest : List Waypoint} where
   pub along-short : (u : Along R whole rest) → length (u .gone) + length rest ≤ length whole
   along-short u = omega (arith, ap length (u .split), length-append (u .gone) rest)
 
--- ---- a column
-
-ahead-split : (x : EdgeAnswer) (ws : List Waypoint) → ahead x ws ≡ ahead x [] ++ ws
+-- an edge, then what comes behind it
+pub ahead-split : (x : EdgeAnswer) (ws : List Waypoint) → ahead x ws ≡ ahead x [] ++ ws
 ahead-split Nowhere ws = refl
 ahead-split (To w) ws = refl
-
-module _ (sp : Space) (r : Request) (body : Body) (from : Point) (n : ℕ) where
-  pub column-starts : columnSteps sp r body from n ≡ stepsAfter sp r body from n None
-  unfolding columnSteps heights keptAfter stepsAfter
-  column-starts = refl
-
-  -- how many heights are left
-  unfoldable pub left : Height → ℕ
-  left after = length (keptAfter after (sorted (tops sp (bandOf r body from) (centreOf from n .x) (centreOf from n .z))))
-
-  -- what the code asked for and what it was told: the next height after one
-  module _ {band : Band} {centre : Centre} {next : Height} (after : Height) (p : band ≡ bandOf r body from) (q : centre ≡ centreOf from n) (e : next ≡ nextAfter sp band (centre .x) (centre .z) after) where
-    told : (h : Height) → next ≡ h → nextAfter sp (bandOf r body from) (centreOf from n .x) (centreOf from n .z) after ≡ h
-    told h i = rw (← p, ← q) (sym e ∙ i)
-
-    pub ends : next ≡ None → stepsAfter sp r body from n after ≡ []
-    ends i = column-ends sp r body from n after (told None i)
-
-    pub goes-on : (y : Float) → next ≡ At y → stepsAfter sp r body from n after ≡ ahead (edge sp r body from (target centre y)) [] ++ stepsAfter sp r body from n (At y)
-    goes-on y i = rw q (column-on sp r body from n after y (told (At y) i) ∙ ahead-split (edge sp r body from (target (centreOf from n) y)) (stepsAfter sp r body from n (At y)))
-
-    pub fewer : (y : Float) → next ≡ At y → left (At y) < left after
-    unfolding left nextAfter
-    fewer y i = omega (arith, ap length (kept-next _ (numbers (bandOf r body from) (centreOf from n .x) (centreOf from n .z) sp) after y (told (At y) i)))
-
-  pub looked-column : (s : Sides) → s ≡ sidesBefore sp r body from n → lookedBy s n ≡ true → columnIf sp r body from n ≡ columnSteps sp r body from n
-  unfolding columnIf
-  looked-column s b e = rw (sym (looked-before sp r body from n) ∙ ap (λ (x : Sides). lookedBy x n) (sym b) ∙ e)
 
 -- ---- a column that is looked at, and one that is not
 

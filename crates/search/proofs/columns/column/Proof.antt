@@ -1,29 +1,35 @@
 -- `search::columns::column` meets its contract. The loop's invariant: the steps of the heights gone have been visited, and the column's steps are those and the
 -- ones behind the last height. The measure is how many heights are left. Assumes nothing.
-use mathlib.Core.Path.{_≡_, refl, sym, _∙_}
+use mathlib.Core.Path.{_≡_, refl, sym, ap, _∙_}
 use mathlib.Core.List.{[]}
 use native.Mathlib.Omega.{arith}
 use borrow.Author.Needs.{needs}
 use borrow.Author.Tests.{not-true, not-false}
 use denote.Ref.{now}
 use lib.ListN.{length}
-use Rattle.world.specs.Space.{space}
+use Rattle.world.specs.Space.{Space, space}
+use Rattle.heights.specs.declared.Height.the-variants.{At}
 use Rattle.edges.specs.Edges.{edge}
 use Rattle.steps.specs.Columns.{target, ahead, columnIf}
-use Rattle.steps.specs.Expansion.{stepsAfter}
+use Rattle.sides.specs.declared.Sides.{Sides}
+use Rattle.sides.specs.Sides.{lookedBy}
+use Rattle.steps.specs.Expansion.{stepsAfter, column-begins, heightsLeft, none-left, next-ahead, fewer}
 use Rattle.search.specs.Steps.{Went}
-use Rattle.search.specs.Laws.Steps.{ready-after, went-none, went-more, Along, along-none, along-on, along-end, along-short, column-starts, left, ends, goes-on, fewer, looked-column, looked-not, looked-on}
+use Rattle.search.specs.Laws.Steps.{ready-after, went-none, went-more, Along, along-none, along-on, along-end, along-short, ahead-split, looked-not, looked-on}
 use Rattle.search.proofs.columns.column.Statement.{statement}
 use Rattle.search.proofs.columns.column.Tie as tie
 
 abbrev Inv-loop : tie.InvT-loop
-Inv-loop w cells perms shapes boxes r body nodes₀ front₀ aim at n sides looked band x z gone₀ after₀ nodes front gone after =
+Inv-loop task cells perms shapes boxes nodes₀ front₀ at n sides centre band gone₀ after₀ nodes front gone after =
     (length nodes ≡ length nodes₀) × (length front ≡ length front₀)
-    × Along (λ ws. Went aim at ws gone₀ gone nodes₀ front₀ nodes front) (columnIf (space w cells perms shapes boxes) r body (at .point) n) (stepsAfter (space w cells perms shapes boxes) r body (at .point) n after)
+    × Along (λ ws. Went (task .aim) at ws gone₀ gone nodes₀ front₀ nodes front) (columnIf (space (task .w) cells perms shapes boxes) (task .r) (task .body) (at .point) n) (stepsAfter (space (task .w) cells perms shapes boxes) (task .r) (task .body) (at .point) n after)
 
 abbrev μ-loop : tie.MeasureT-loop
-μ-loop w cells perms shapes boxes r body nodes₀ front₀ aim at n sides looked band x z gone₀ after₀ nodes front gone after =
-    left (space w cells perms shapes boxes) r body (at .point) n after
+μ-loop task cells perms shapes boxes nodes₀ front₀ at n sides centre band gone₀ after₀ nodes front gone after =
+    heightsLeft (space (task .w) cells perms shapes boxes) (task .r) (task .body) (at .point) n after
+
+abbrev sp : tie.Start Inv-loop μ-loop → Space
+sp s = let a = s .args in space (a .task .w) (now (a .cells)) (now (a .perms)) (now (a .shapes)) (now (a .boxes))
 
 looked-requires : tie.Need-looked-requires Inv-loop μ-loop
 looked-requires c κs = tt
@@ -39,15 +45,15 @@ band-of-requires c κs = tt
 
 loop-holds : tie.Need-loop-holds Inv-loop μ-loop
 loop-holds c =
-    let a = c .before .before .before .before .before .before .before .before .before .before .before .before .before .args in
-    let z = looked-column (space (a .w) (now (a .cells)) (now (a .perms)) (now (a .shapes)) (now (a .boxes))) (a .r) (a .body) (a .at .point) (a .n) (a .c .sides) (c .before .before .before .before .before .before .before .before .before .before .before .before .before .pre .1) (sym (c .before .before .before .before .before .looked .ensures) ∙ not-false _ (c .before .before .before .before .if1 .left)) in
-    (refl, refl, along-none (z ∙ column-starts (space (a .w) (now (a .cells)) (now (a .perms)) (now (a .shapes)) (now (a .boxes))) (a .r) (a .body) (a .at .point) (a .n)) (went-none (now (a .nodes)) (now (a .front)) (c .before .before .before .before .before .before .before .before .before .before .before .before .before .pre .0 .0 .few)))
+    let s = c .before .before .before .before .before .before .before .before .before .before .before .before in
+    let z = ap (λ (x : Sides). lookedBy x (s .args .n)) (sym (s .pre .1)) ∙ sym (c .before .before .before .before .looked .ensures) ∙ not-false _ (c .before .before .before .if1 .left) in
+    (refl, refl, along-none (column-begins (sp s) (s .args .task .r) (s .args .task .body) (s .args .at .point) (s .args .n) z) (went-none (now (s .args .nodes)) (now (s .args .front)) (c .before .before .before .before .before .before .before .before .before .before .before .before .pre .0 .0 .few)))
 
 next-height-requires : tie.Need-next-height-requires Inv-loop μ-loop
 next-height-requires c κs = tt
 
-enum-known-next : tie.Need-enum-known-next Inv-loop μ-loop
-enum-known-next c = search needs
+enum-known-y : tie.Need-enum-known-y Inv-loop μ-loop
+enum-known-y c = search needs
 
 enum-told : tie.Need-enum-told Inv-loop μ-loop
 enum-told c = search needs
@@ -63,24 +69,32 @@ same-length-2 c = c .before .before .before .before .before .loop .inv .1
 
 returns-2 : tie.Need-returns-2 Inv-loop μ-loop
 returns-2 c =
-    let a = c .before .before .before .before .before .before .before .before .before .before .before .before .before .before .before .before .before .before .before .args in
-    let g = along-end (c .before .before .before .before .before .loop .inv .2) (ends (space (a .w) (now (a .cells)) (now (a .perms)) (now (a .shapes)) (now (a .boxes))) (a .r) (a .body) (a .at .point) (a .n) (c .before .before .before .before .before .loop .after) (c .before .before .before .before .before .before .before .band-of .ensures) (c .before .before .before .before .before .before .before .before .column-centre .ensures) (c .before .before .before .before .next-height .ensures) (c .before .before .enum-told .given .1)) in
-    looked-on (a .n) (c .before .before .before .before .before .before .before .before .before .before .before .before .before .before .before .before .before .before .before .pre .1) (c .before .before .before .before .before .loop .gone) (c .answered .result) (c .answered .ensures) g
+    let s = c .before .before .before .before .before .before .before .before .before .before .before .before .before .before .before .before .before .before in
+    let g = along-end (c .before .before .before .before .before .loop .inv .2) (none-left (sp s) (s .args .task .r) (s .args .task .body) (s .args .at .point) (s .args .n) (c .before .before .before .before .before .loop .after) (c .before .before .before .before .before .before .before .band-of .ensures) (c .before .before .before .before .before .before .before .before .column-centre .ensures) (c .before .before .before .before .next-height .ensures) (c .before .before .enum-told .given .1)) in
+    looked-on (s .args .n) (c .before .before .before .before .before .before .before .before .before .before .before .before .before .before .before .before .before .before .pre .1) (c .before .before .before .before .before .loop .gone) (c .answered .result) (c .answered .ensures) g
+
+edge-requires : tie.Need-edge-requires Inv-loop μ-loop
+edge-requires c κs = tt
 
 step-to-requires : tie.Need-step-to-requires Inv-loop μ-loop
 step-to-requires c κs =
-    let u = c .before .before .before .before .before .before .loop .inv .2 in
-    (ready-after (c .before .before .before .before .before .before .before .before .before .before .before .before .before .before .before .before .before .before .before .before .pre .0 .0) (u .went .steps .near) (omega (arith, along-short u)) (c .before .before .before .before .before .before .loop .inv .0) (c .before .before .before .before .before .before .loop .inv .1), omega (arith, c .before .before .before .before .before .before .before .before .before .before .before .before .before .before .before .before .before .before .before .before .pre .0 .1, u .went .steps .near .more))
+    let u = c .before .before .before .before .before .before .before .loop .inv .2 in
+    (ready-after (c .before .before .before .before .before .before .before .before .before .before .before .before .before .before .before .before .before .before .before .before .pre .0 .0) (u .went .steps .near) (omega (arith, along-short u)) (c .before .before .before .before .before .before .before .loop .inv .0) (c .before .before .before .before .before .before .before .loop .inv .1), omega (arith, c .before .before .before .before .before .before .before .before .before .before .before .before .before .before .before .before .before .before .before .before .pre .0 .1, u .went .steps .near .more))
 
 loop-less : tie.Need-loop-less Inv-loop μ-loop
 loop-less c =
-    let a = c .before .before .before .before .before .before .before .before .before .before .before .before .before .before .before .before .before .before .before .before .before .before .before .before .before .args in
-    fewer (space (a .w) (now (a .cells)) (now (a .perms)) (now (a .shapes)) (now (a .boxes))) (a .r) (a .body) (a .at .point) (a .n) (c .before .before .before .before .before .before .before .before .before .before .before .loop .after) (c .before .before .before .before .before .before .before .before .before .before .before .before .before .band-of .ensures) (c .before .before .before .before .before .before .before .before .before .before .before .before .before .before .column-centre .ensures) (c .before .before .before .before .before .before .before .before .before .before .next-height .ensures) _ (c .before .before .before .before .before .before .before .before .next .given .1)
+    let s = c .before .before .before .before .before .before .before .before .before .before .before .before .before .before .before .before .before .before .before .before .before .before .before .before .before in
+    fewer (sp s) (s .args .task .r) (s .args .task .body) (s .args .at .point) (s .args .n) (c .before .before .before .before .before .before .before .before .before .before .before .before .loop .after) (c .before .before .before .before .before .before .before .before .before .before .before .before .before .before .band-of .ensures) (c .before .before .before .before .before .before .before .before .before .before .before .before .before .before .before .column-centre .ensures) (c .before .before .before .before .before .before .before .before .before .before .before .next-height .ensures) _ (c .before .before .before .before .before .before .before .before .before .y .given .1)
 
 loop-again : tie.Need-loop-again Inv-loop μ-loop
 loop-again c =
-    let a = c .before .before .before .before .before .before .before .before .before .before .before .before .before .before .before .before .before .before .before .before .before .before .before .before .before .args in
-    (c .before .before .before .before .step-to .kept .1 .1 .1 .1 .1 .1 .1 .0 ∙ c .before .before .before .before .before .before .before .before .before .before .before .loop .inv .0, c .before .before .before .before .step-to .kept .1 .1 .1 .1 .1 .1 .1 .1 .0 ∙ c .before .before .before .before .before .before .before .before .before .before .before .loop .inv .1, along-on (ahead (edge (space (a .w) (now (a .cells)) (now (a .perms)) (now (a .shapes)) (now (a .boxes))) (a .r) (a .body) (a .at .point) (target (c .before .before .before .before .before .before .before .before .before .before .before .before .before .before .column-centre .result) (c .before .before .before .before .before .before .before .before .next .given .0 .0))) []) (c .before .before .before .before .before .before .before .before .before .before .before .loop .inv .2) (goes-on (space (a .w) (now (a .cells)) (now (a .perms)) (now (a .shapes)) (now (a .boxes))) (a .r) (a .body) (a .at .point) (a .n) (c .before .before .before .before .before .before .before .before .before .before .before .loop .after) (c .before .before .before .before .before .before .before .before .before .before .before .before .before .band-of .ensures) (c .before .before .before .before .before .before .before .before .before .before .before .before .before .before .column-centre .ensures) (c .before .before .before .before .before .before .before .before .before .before .next-height .ensures) _ (c .before .before .before .before .before .before .before .before .next .given .1)) (λ vs g. went-more g (c .before .before .before .before .step-to .ensures)))
+    let s = c .before .before .before .before .before .before .before .before .before .before .before .before .before .before .before .before .before .before .before .before .before .before .before .before .before in
+    let i = c .before .before .before .before .before .before .before .before .before .before .before .before .loop in
+    let y = c .before .before .before .before .before .before .before .before .before .y .given .0 .0 in
+    let e = edge (sp s) (s .args .task .r) (s .args .task .body) (s .args .at .point) (target (c .before .before .before .before .before .before .before .before .before .before .before .before .before .before .before .column-centre .result) y) in
+    let rest = next-ahead (sp s) (s .args .task .r) (s .args .task .body) (s .args .at .point) (s .args .n) (i .after) (c .before .before .before .before .before .before .before .before .before .before .before .before .before .before .band-of .ensures) (c .before .before .before .before .before .before .before .before .before .before .before .before .before .before .before .column-centre .ensures) (c .before .before .before .before .before .before .before .before .before .before .before .next-height .ensures) y (c .before .before .before .before .before .before .before .before .before .y .given .1) in
+    (c .before .before .before .before .step-to .kept .0 ∙ i .inv .0, c .before .before .before .before .step-to .kept .1 .0 ∙ i .inv .1,
+    along-on (ahead e []) (i .inv .2) (rest ∙ ahead-split e (stepsAfter (sp s) (s .args .task .r) (s .args .task .body) (s .args .at .point) (s .args .n) (At y))) (λ vs g. went-more g (rw (c .before .before .before .before .before .before .before .edge .ensures) at (c .before .before .before .before .step-to .ensures))))
 
 pub column-spec : {M : Type 1} → statement M
 column-spec =
@@ -94,12 +108,13 @@ column-spec =
     band-of-requires
     loop-holds
     next-height-requires
-    enum-known-next
+    enum-known-y
     enum-told
     answered-requires
     same-length
     same-length-2
     returns-2
+    edge-requires
     step-to-requires
     loop-less
     loop-again)

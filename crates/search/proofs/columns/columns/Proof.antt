@@ -5,7 +5,7 @@ use mathlib.Core.Path.{_≡_, refl, sym, ap, _∙_}
 use native.Mathlib.Omega.{arith}
 use denote.Ref.{now}
 use lib.ListN.{length, length-append}
-use Rattle.world.specs.Space.{space}
+use Rattle.world.specs.Space.{Space, space}
 use Rattle.steps.specs.Columns.{columnIf, stepsFrom}
 use Rattle.steps.specs.Expansion.{columnsFrom, columns-begin, columns-on, columns-end, sidesBefore, sides-begin}
 use Rattle.search.specs.Steps.{Stepped}
@@ -14,29 +14,32 @@ use Rattle.search.proofs.columns.columns.Statement.{statement}
 use Rattle.search.proofs.columns.columns.Tie as tie
 
 abbrev Inv-loop : tie.InvT-loop
-Inv-loop w cells perms shapes boxes r body nodes₀ front₀ aim at gone₀ n₀ nodes front gone n =
-    (n ≤ 9) × (length nodes ≡ length nodes₀) × (length front ≡ length front₀) × (gone .sides ≡ sidesBefore (space w cells perms shapes boxes) r body (at .point) n)
-    × Along (λ ws. Stepped aim at ws (gone₀ .counts) (gone .counts) nodes₀ front₀ nodes front) (stepsFrom (space w cells perms shapes boxes) r body (at .point)) (columnsFrom (space w cells perms shapes boxes) r body (at .point) n)
+Inv-loop task cells perms shapes boxes nodes₀ front₀ at gone₀ n₀ nodes front gone n =
+    (n ≤ 9) × (length nodes ≡ length nodes₀) × (length front ≡ length front₀) × (gone .sides ≡ sidesBefore (space (task .w) cells perms shapes boxes) (task .r) (task .body) (at .point) n)
+    × Along (λ ws. Stepped (task .aim) at ws (gone₀ .counts) (gone .counts) nodes₀ front₀ nodes front) (stepsFrom (space (task .w) cells perms shapes boxes) (task .r) (task .body) (at .point)) (columnsFrom (space (task .w) cells perms shapes boxes) (task .r) (task .body) (at .point) n)
 
 abbrev μ-loop : tie.MeasureT-loop
-μ-loop w cells perms shapes boxes r body nodes₀ front₀ aim at gone₀ n₀ nodes front gone n = 9 - n
+μ-loop task cells perms shapes boxes nodes₀ front₀ at gone₀ n₀ nodes front gone n = 9 - n
+
+abbrev sp : tie.Start Inv-loop μ-loop → Space
+sp s = let a = s .args in space (a .task .w) (now (a .cells)) (now (a .perms)) (now (a .shapes)) (now (a .boxes))
 
 none-requires : tie.Need-none-requires Inv-loop μ-loop
 none-requires c κs = tt
 
 loop-holds : tie.Need-loop-holds Inv-loop μ-loop
 loop-holds c =
-    let a = c .before .before .before .before .before .before .before .args in
-    (omega arith, refl, refl, c .none .ensures ∙ sym (sides-begin (space (a .w) (now (a .cells)) (now (a .perms)) (now (a .shapes)) (now (a .boxes))) (a .r) (a .body) (a .at .point)), along-none (columns-begin (space (a .w) (now (a .cells)) (now (a .perms)) (now (a .shapes)) (now (a .boxes))) (a .r) (a .body) (a .at .point)) (stepped-none (now (a .nodes)) (now (a .front)) (c .before .before .before .before .before .before .before .pre .0 .few)))
+    let s = c .before .before .before .before .before .before .before in
+    (omega arith, refl, refl, c .none .ensures ∙ sym (sides-begin (sp s) (s .args .task .r) (s .args .task .body) (s .args .at .point)), along-none (columns-begin (sp s) (s .args .task .r) (s .args .task .body) (s .args .at .point)) (stepped-none (now (s .args .nodes)) (now (s .args .front)) (c .before .before .before .before .before .before .before .pre .0 .few)))
 
 column-requires : tie.Need-column-requires Inv-loop μ-loop
 column-requires c κs =
-    let a = c .before .before .before .before .before .before .before .before .before .before .before .args in
+    let s = c .before .before .before .before .before .before .before .before .before .before .before in
     let n = c .before .before .before .loop .n in
     let u = c .before .before .before .loop .inv .4 in
-    let s = along-short u in
-    let e = ap length (columns-on (space (a .w) (now (a .cells)) (now (a .perms)) (now (a .shapes)) (now (a .boxes))) (a .r) (a .body) (a .at .point) n (c .before .before .loop-test .taken)) in
-    let l = length-append (columnIf (space (a .w) (now (a .cells)) (now (a .perms)) (now (a .shapes)) (now (a .boxes))) (a .r) (a .body) (a .at .point) n) (columnsFrom (space (a .w) (now (a .cells)) (now (a .perms)) (now (a .shapes)) (now (a .boxes))) (a .r) (a .body) (a .at .point) (n + 1)) in
+    let short = along-short u in
+    let e = ap length (columns-on (sp s) (s .args .task .r) (s .args .task .body) (s .args .at .point) n (c .before .before .loop-test .taken)) in
+    let l = length-append (columnIf (sp s) (s .args .task .r) (s .args .task .body) (s .args .at .point) n) (columnsFrom (sp s) (s .args .task .r) (s .args .task .body) (s .args .at .point) (n + 1)) in
     ((ready-after (c .before .before .before .before .before .before .before .before .before .before .before .pre .0) (u .went .near) (omega arith) (c .before .before .before .loop .inv .1) (c .before .before .before .loop .inv .2), omega (arith, c .before .before .before .before .before .before .before .before .before .before .before .pre .1, u .went .near .more)), c .before .before .before .loop .inv .3)
 
 add-n : tie.Need-add-n Inv-loop μ-loop
@@ -47,9 +50,9 @@ loop-less c = omega (arith, c .before .before .before .before .before .before .b
 
 loop-again : tie.Need-loop-again Inv-loop μ-loop
 loop-again c =
-    let a = c .before .before .before .before .before .before .before .before .before .before .before .before .before .before .before .before .args in
+    let s = c .before .before .before .before .before .before .before .before .before .before .before .before .before .before .before .before in
     let n = c .before .before .before .before .before .before .before .before .loop .n in
-    (omega (arith, c .before .before .before .before .before .before .before .loop-test .taken), c .before .before .before .before .column .kept .1 .1 .1 .1 .1 .1 .1 .0 ∙ c .before .before .before .before .before .before .before .before .loop .inv .1, c .before .before .before .before .column .kept .1 .1 .1 .1 .1 .1 .1 .1 .0 ∙ c .before .before .before .before .before .before .before .before .loop .inv .2, c .before .before .before .before .column .ensures .answered, along-on (columnIf (space (a .w) (now (a .cells)) (now (a .perms)) (now (a .shapes)) (now (a .boxes))) (a .r) (a .body) (a .at .point) n) (c .before .before .before .before .before .before .before .before .loop .inv .4) (columns-on (space (a .w) (now (a .cells)) (now (a .perms)) (now (a .shapes)) (now (a .boxes))) (a .r) (a .body) (a .at .point) n (c .before .before .before .before .before .before .before .loop-test .taken)) (λ vs g. stepped-more g (c .before .before .before .before .column .ensures .steps)))
+    (omega (arith, c .before .before .before .before .before .before .before .loop-test .taken), c .before .before .before .before .column .kept .1 .1 .1 .1 .1 .0 ∙ c .before .before .before .before .before .before .before .before .loop .inv .1, c .before .before .before .before .column .kept .1 .1 .1 .1 .1 .1 .0 ∙ c .before .before .before .before .before .before .before .before .loop .inv .2, c .before .before .before .before .column .ensures .answered, along-on (columnIf (sp s) (s .args .task .r) (s .args .task .body) (s .args .at .point) n) (c .before .before .before .before .before .before .before .before .loop .inv .4) (columns-on (sp s) (s .args .task .r) (s .args .task .body) (s .args .at .point) n (c .before .before .before .before .before .before .before .loop-test .taken)) (λ vs g. stepped-more g (c .before .before .before .before .column .ensures .steps)))
 
 same-length : tie.Need-same-length Inv-loop μ-loop
 same-length c = c .before .before .loop .inv .1
@@ -59,8 +62,8 @@ same-length-2 c = c .before .before .loop .inv .2
 
 returns : tie.Need-returns Inv-loop μ-loop
 returns c =
-    let a = c .before .before .before .before .before .before .before .before .before .before .args in
-    along-end (c .before .before .loop .inv .4) (columns-end (space (a .w) (now (a .cells)) (now (a .perms)) (now (a .shapes)) (now (a .boxes))) (a .r) (a .body) (a .at .point) (c .before .before .loop .n) (omega (arith, c .before .loop-test .left)))
+    let s = c .before .before .before .before .before .before .before .before .before .before in
+    along-end (c .before .before .loop .inv .4) (columns-end (sp s) (s .args .task .r) (s .args .task .body) (s .args .at .point) (c .before .before .loop .n) (omega (arith, c .before .loop-test .left)))
 
 pub columns-spec : {M : Type 1} → statement M
 columns-spec =

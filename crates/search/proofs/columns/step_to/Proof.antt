@@ -1,22 +1,32 @@
 -- `search::columns::step_to` meets its contract. Assumes nothing.
-use mathlib.Core.Path.{_≡_, sym, ap, _∙_}
+use mathlib.Core.Path.{_≡_, sym, ap}
+use mathlib.Core.Bool.{_||_}
+use mathlib.Core.List.{[]}
 use borrow.Author.Needs.{needs}
+use denote.Ref.{now}
+use Rattle.steps.specs.Columns.{ahead}
+use Rattle.rooms.specs.declared.Counts.{Counts}
 use Rattle.visits.specs.Visits.{countsBy}
+use Rattle.search.specs.Steps.{Went}
 use Rattle.search.specs.Laws.Steps.{went-nowhere, went-to}
 use Rattle.search.proofs.columns.step_to.Statement.{statement}
 use Rattle.search.proofs.columns.step_to.Tie as tie
 
-edge-requires : tie.Need-edge-requires
-edge-requires c κs = tt
+-- an edge that was visited, whatever the visit answers
+visited : (c : tie.After-visit) {r : Counts} → let a = c .before .before .before .before .before .before .before .before .before .before .before .before .args in countsBy (a .c .counts) (c .visit .result) ≡ r →
+    Went (a .aim) (a .at) (ahead (a .edge) []) (a .c) (record { counts = r; level = a .c .level || c .before .before .before .before .before .before .is-level .result }) (now (a .nodes)) (now (a .front)) (c .visit .last .0) (c .visit .last .1 .0)
+visited c e =
+    let s = c .before .before .before .before .before .before .before .before .before .before .before .before in
+    went-to _ (c .before .before .before .before .before .before .before .before .edge .given .0 .0) (c .before .before .feet-of .result) (c .before .label-of .result) (c .before .before .before .before .before .before .is-level .result) (sym (c .before .before .before .before .before .before .before .before .edge .given .1)) (c .before .before .feet-of .ensures) (c .before .label-of .ensures) (c .before .before .before .before .before .before .is-level .ensures) (s .pre .0) (s .pre .1) (c .visit .ensures) e
 
-enum-known-way : tie.Need-enum-known-way
-enum-known-way c = search needs
+enum-known-edge : tie.Need-enum-known-edge
+enum-known-edge c = search needs
 
 enum-told : tie.Need-enum-told
 enum-told c = search needs
 
 returns : tie.Need-returns
-returns c = went-nowhere _ (sym (c .enum-told .given .1) ∙ c .before .before .edge .ensures) (c .before .before .before .before .before .before .before .before .before .pre .0 .few)
+returns c = went-nowhere _ (sym (c .enum-told .given .1)) (c .before .before .before .before .pre .0 .few)
 
 feet-of-requires : tie.Need-feet-of-requires
 feet-of-requires c κs = tt
@@ -43,9 +53,7 @@ same-length-2 : tie.Need-same-length-2
 same-length-2 c = c .before .before .before .before .before .before .before .visit .kept .1 .0
 
 returns-2 : tie.Need-returns-2
-returns-2 c =
-    let w = went-to {c = c .before .before .before .before .before .before .before .before .before .before .before .before .before .before .before .before .before .before .before .before .before .before .before .before .args .c} _ (c .before .before .before .before .before .before .before .before .before .before .before .before .before .before .before .way .given .0 .0) (c .before .before .before .before .before .before .before .before .before .before .before .before .before .feet-of .result) (c .before .before .before .before .before .before .before .before .before .before .before .before .label-of .result) (c .before .before .before .before .before .before .before .before .before .before .before .is-level .result) (sym (c .before .before .before .before .before .before .before .before .before .before .before .before .before .before .before .way .given .1) ∙ c .before .before .before .before .before .before .before .before .before .before .before .before .before .before .before .before .before .edge .ensures) (c .before .before .before .before .before .before .before .before .before .before .before .before .before .feet-of .ensures) (c .before .before .before .before .before .before .before .before .before .before .before .before .label-of .ensures) (c .before .before .before .before .before .before .before .before .before .before .before .is-level .ensures) (c .before .before .before .before .before .before .before .before .before .before .before .before .before .before .before .before .before .before .before .before .before .before .before .before .pre .0) (c .before .before .before .before .before .before .before .before .before .before .before .before .before .before .before .before .before .before .before .before .before .before .before .before .pre .1) (c .before .before .before .before .before .before .before .visit .ensures) (ap (countsBy (c .before .before .before .before .before .before .before .before .before .before .before .before .before .before .before .before .before .before .before .before .before .before .before .before .args .c .counts)) (c .before .enum-told2 .given .1)) in
-    record { steps = w .steps; noted = w .noted }
+returns-2 c = let w = visited (c .before .before .before .before .before .before .before) (ap (countsBy (c .before .before .before .before .before .before .before .before .before .before .before .before .before .before .before .before .before .before .before .args .c .counts)) (c .before .enum-told2 .given .1)) in record { steps = w .steps; noted = w .noted }
 
 same-length-3 : tie.Need-same-length-3
 same-length-3 c = c .before .before .before .before .before .before .before .visit .kept .0
@@ -54,21 +62,18 @@ same-length-4 : tie.Need-same-length-4
 same-length-4 c = c .before .before .before .before .before .before .before .visit .kept .1 .0
 
 returns-3 : tie.Need-returns-3
-returns-3 c =
-    let w = went-to {c = c .before .before .before .before .before .before .before .before .before .before .before .before .before .before .before .before .before .before .before .before .before .before .before .before .args .c} _ (c .before .before .before .before .before .before .before .before .before .before .before .before .before .before .before .way .given .0 .0) (c .before .before .before .before .before .before .before .before .before .before .before .before .before .feet-of .result) (c .before .before .before .before .before .before .before .before .before .before .before .before .label-of .result) (c .before .before .before .before .before .before .before .before .before .before .before .is-level .result) (sym (c .before .before .before .before .before .before .before .before .before .before .before .before .before .before .before .way .given .1) ∙ c .before .before .before .before .before .before .before .before .before .before .before .before .before .before .before .before .before .edge .ensures) (c .before .before .before .before .before .before .before .before .before .before .before .before .before .feet-of .ensures) (c .before .before .before .before .before .before .before .before .before .before .before .before .label-of .ensures) (c .before .before .before .before .before .before .before .before .before .before .before .is-level .ensures) (c .before .before .before .before .before .before .before .before .before .before .before .before .before .before .before .before .before .before .before .before .before .before .before .before .pre .0) (c .before .before .before .before .before .before .before .before .before .before .before .before .before .before .before .before .before .before .before .before .before .before .before .before .pre .1) (c .before .before .before .before .before .before .before .visit .ensures) (ap (countsBy (c .before .before .before .before .before .before .before .before .before .before .before .before .before .before .before .before .before .before .before .before .before .before .before .before .args .c .counts)) (c .before .visit2 .given .1)) in
-    record { steps = w .steps; noted = w .noted }
+returns-3 c = let w = visited (c .before .before .before .before .before .before .before) (ap (countsBy (c .before .before .before .before .before .before .before .before .before .before .before .before .before .before .before .before .before .before .before .args .c .counts)) (c .before .visit2 .given .1)) in record { steps = w .steps; noted = w .noted }
 
 pub step-to-spec : {M : Type 1} → statement M
 step-to-spec =
     tie.close
     (tie.spec
-    edge-requires
-    enum-known-way
+    enum-known-edge
     enum-told
     returns
+    is-level-requires
     feet-of-requires
     label-of-requires
-    is-level-requires
     visit-requires
     enum-known-visit
     enum-told-2

@@ -1,6 +1,6 @@
 -- `search::find::find_walk_path` meets its contract. The loop's invariant: the rooms are the state after so many expansions, with what the last of them came to.
 -- Assumes nothing.
-use Prim.Native.Nat.{_+_, _-_, _≤_}
+use Prim.Native.Nat.{_-_, _≤_}
 use mathlib.Core.Path.{_≡_, refl, sym, ap, _∙_}
 use mathlib.Core.Logic.{inl, inr}
 use mathlib.Core.List.{[], _∷_}
@@ -15,7 +15,7 @@ use Rattle.world.specs.Space.{space}
 use Rattle.fields.specs.Pieces.{Bytes}
 use Rattle.bounds.specs.Bounds.{steps-bounded}
 use Rattle.refusals.specs.Refusals.{told}
-use Rattle.refusals.specs.Laws.{begins}
+use Rattle.refusals.specs.Laws.{Begun, begins}
 use Rattle.outcomes.proofs.Turn.{the-type}
 use Rattle.outcomes.specs.declared.Turn.{Turn}
 use Rattle.outcomes.specs.declared.Turn.the-variants.{Rest, Going, At, By}
@@ -24,18 +24,18 @@ use Rattle.search.specs.Turns.{Bounded}
 use Rattle.search.specs.Runs.{Spun}
 use Rattle.search.specs.Laws.Steps.{ready-after}
 use Rattle.search.specs.Laws.Runs.{Ended, spun-none, spun-next, spun-over}
-use Rattle.search.specs.Laws.Whole.{Roomy, ready-spin, searched}
+use Rattle.search.specs.Laws.Whole.{aimTo, Roomy, ready-spin, searched}
 use Rattle.search.specs.Laws.Find.{leaves}
 use Rattle.search.proofs.find.find_walk_path.Statement.{statement}
 use Rattle.search.proofs.find.find_walk_path.Tie as tie
 
 abbrev Inv-loop : tie.InvT-loop
-Inv-loop w cells perms shapes boxes r body nodes₀ front₀ out goal budget aim turn₀ t₀ nodes front turn t =
+Inv-loop cells perms shapes boxes nodes₀ front₀ out budget task turn₀ t₀ nodes front turn t =
     (t ≤ budget) × (length nodes ≡ length nodes₀) × (length front ≡ length front₀) × Bytes nodes
-    × Spun aim (space w cells perms shapes boxes) r body (countsOf turn₀) t turn nodes₀ front₀ nodes front
+    × Spun (task .aim) (space (task .w) cells perms shapes boxes) (task .r) (task .body) (countsOf turn₀) t turn nodes₀ front₀ nodes front
 
 abbrev μ-loop : tie.MeasureT-loop
-μ-loop w cells perms shapes boxes r body nodes₀ front₀ out goal budget aim turn₀ t₀ nodes front turn t = budget - t
+μ-loop cells perms shapes boxes nodes₀ front₀ out budget task turn₀ t₀ nodes front turn t = budget - t
 
 -- a turn that is not `Going`
 ended : (t : Turn) → OneOf (0 ∷ 2 ∷ 3 ∷ []) (tagOf the-type t) → Ended t
@@ -47,17 +47,14 @@ ended (At c k) h = tt
 ended (By c k l) h = tt
 
 -- what `judge` says where the search begins
-roomy : (s : tie.After-begin Inv-loop μ-loop) → Roomy (s .before .before .before .before .before .before .before .before .before .before .before .before .before .before .before .args .r) (now (s .before .before .before .before .before .before .before .before .before .before .before .before .before .before .before .args .nodes)) (now (s .before .before .before .before .before .before .before .before .before .before .before .before .before .before .before .args .front)) (now (s .before .before .before .before .before .before .before .before .before .before .before .before .before .before .before .args .out))
-roomy s =
-    let a = s .before .before .before .before .before .before .before .before .before .before .before .before .before .before .before .args in
-    let b = begins (a .w) (now (a .cells)) (now (a .perms)) (now (a .shapes)) (now (a .boxes)) (a .r) (a .body) (length (now (a .nodes))) (length (now (a .front))) (length (now (a .out))) (sym (s .before .before .before .before .before .before .before .judge .ensures) ∙ ap told (s .before .before .before .before .before .enum-told .given .1)) in
-    record { few = b .few-nodes; node-room = b .node-room; front-room = b .front-room; out-room = b .out-room }
+begun-by : (s : tie.After-begin Inv-loop μ-loop) → let a = s .before .before .before .before .before .before .before .before .before .before .before .before .before .before .before .args in Begun (a .w) (now (a .cells)) (now (a .perms)) (now (a .shapes)) (now (a .boxes)) (a .r) (a .body) (length (now (a .nodes))) (length (now (a .front))) (length (now (a .out)))
+begun-by s = begins _ _ _ _ _ _ _ _ _ _ (sym (s .before .before .before .before .before .before .before .judge .ensures) ∙ ap told (s .before .before .before .before .before .enum-told .given .1))
 
-bounded : (s : tie.After-begin Inv-loop μ-loop) → Bounded (space (s .before .before .before .before .before .before .before .before .before .before .before .before .before .before .before .args .w) (now (s .before .before .before .before .before .before .before .before .before .before .before .before .before .before .before .args .cells)) (now (s .before .before .before .before .before .before .before .before .before .before .before .before .before .before .before .args .perms)) (now (s .before .before .before .before .before .before .before .before .before .before .before .before .before .before .before .args .shapes)) (now (s .before .before .before .before .before .before .before .before .before .before .before .before .before .before .before .args .boxes))) (s .before .before .before .before .before .before .before .before .before .before .before .before .before .before .before .args .r) (s .before .before .before .before .before .before .before .before .before .before .before .before .before .before .before .args .body)
-bounded s =
-    let a = s .before .before .before .before .before .before .before .before .before .before .before .before .before .before .before .args in
-    let b = begins (a .w) (now (a .cells)) (now (a .perms)) (now (a .shapes)) (now (a .boxes)) (a .r) (a .body) (length (now (a .nodes))) (length (now (a .front))) (length (now (a .out))) (sym (s .before .before .before .before .before .before .before .judge .ensures) ∙ ap told (s .before .before .before .before .before .enum-told .given .1)) in
-    steps-bounded (a .w) (now (a .cells)) (now (a .perms)) (now (a .shapes)) (now (a .boxes)) (a .r) (a .body) (b .world)
+roomy : (s : tie.After-begin Inv-loop μ-loop) → let a = s .before .before .before .before .before .before .before .before .before .before .before .before .before .before .before .args in Roomy (a .r) (now (a .nodes)) (now (a .front)) (now (a .out))
+roomy s = let b = begun-by s in record { few = b .few-nodes; node-room = b .node-room; front-room = b .front-room; out-room = b .out-room }
+
+bounded : (s : tie.After-begin Inv-loop μ-loop) → let a = s .before .before .before .before .before .before .before .before .before .before .before .before .before .before .before .args in Bounded (space (a .w) (now (a .cells)) (now (a .perms)) (now (a .shapes)) (now (a .boxes))) (a .r) (a .body)
+bounded s = steps-bounded _ _ _ _ _ _ _ (begun-by s .world)
 
 judge-requires : tie.Need-judge-requires Inv-loop μ-loop
 judge-requires c κs = tt
@@ -87,7 +84,7 @@ begin-requires c κs = tt
 
 loop-holds : tie.Need-loop-holds Inv-loop μ-loop
 loop-holds c =
-    let h = ready-spin (c .before .before .before .before .before .before .before .before .before .before .before .before .before .before .before .before .before .before .before .args .r) (roomy (c .before .before .before .before)) (c .before .before .before .before .before .before .before .before .feet-of .ensures) (c .before .before .before .before .begin .ensures) (c .before .before .before .before .begin .kept .0) (c .before .before .before .before .begin .kept .1 .0) in
+    let h = ready-spin (c .before .before .before .before .before .before .before .before .before .before .before .before .before .before .before .before .before .before .before .args .r) (roomy (c .before .before .before .before)) (c .before .before .before .before .before .feet-of2 .ensures) (c .before .before .before .before .begin .ensures) (c .before .before .before .before .begin .kept .0) (c .before .before .before .before .begin .kept .1 .0) in
     (omega arith, refl, refl, (λ i. omega (arith, c .before .before .slice-known4 .given i)), spun-none _ _ (h .few))
 
 enum-known-turn : tie.Need-enum-known-turn Inv-loop μ-loop
@@ -95,9 +92,9 @@ enum-known-turn c = search needs
 
 expand-requires : tie.Need-expand-requires Inv-loop μ-loop
 expand-requires c κs =
-    let h = ready-spin (c .before .before .before .before .before .before .before .before .before .before .before .before .before .before .before .before .before .before .before .before .before .before .before .before .before .before .args .r) (roomy (c .before .before .before .before .before .before .before .before .before .before .before)) (c .before .before .before .before .before .before .before .before .before .before .before .before .before .before .before .feet-of .ensures) (c .before .before .before .before .before .before .before .before .before .before .before .begin .ensures) (c .before .before .before .before .before .before .before .before .before .before .before .begin .kept .0) (c .before .before .before .before .before .before .before .before .before .before .before .begin .kept .1 .0) in
+    let h = ready-spin (c .before .before .before .before .before .before .before .before .before .before .before .before .before .before .before .before .before .before .before .before .before .before .before .before .before .before .args .r) (roomy (c .before .before .before .before .before .before .before .before .before .before .before)) (c .before .before .before .before .before .before .before .before .before .before .before .before .feet-of2 .ensures) (c .before .before .before .before .before .before .before .before .before .before .before .begin .ensures) (c .before .before .before .before .before .before .before .before .before .before .before .begin .kept .0) (c .before .before .before .before .before .before .before .before .before .before .before .begin .kept .1 .0) in
     let u = rw (c .before .before .before .turn .given .1) at (c .before .before .before .before .before .before .loop .inv .4) in
-    (ready-after h (u .near) (omega (arith, c .before .before .before .before .before .loop-test .taken)) (c .before .before .before .before .before .before .loop .inv .1) (c .before .before .before .before .before .before .loop .inv .2), (c .before .before .before .before .before .before .before .before .before .before .before .before .before .before .feet-of2 .ensures, bounded (c .before .before .before .before .before .before .before .before .before .before .before)))
+    (ready-after h (u .near) (omega (arith, c .before .before .before .before .before .loop-test .taken)) (c .before .before .before .before .before .before .loop .inv .1) (c .before .before .before .before .before .before .loop .inv .2), (c .before .before .before .before .before .before .before .before .before .before .before .before .before .before .before .feet-of .ensures, bounded (c .before .before .before .before .before .before .before .before .before .before .before)))
 
 add-t : tie.Need-add-t Inv-loop μ-loop
 add-t c = omega (arith, c .before .before .before .before .before .before .before .before .before .before .loop-test .taken, roomy (c .before .before .before .before .before .before .before .before .before .before .before .before .before .before .before .before) .few)
@@ -108,7 +105,7 @@ loop-less c = omega (arith, c .before .before .before .before .before .before .b
 loop-again : tie.Need-loop-again Inv-loop μ-loop
 loop-again c =
     let u = rw (c .before .before .before .before .before .before .before .before .turn .given .1) at (c .before .before .before .before .before .before .before .before .before .before .before .loop .inv .4) in
-    (omega (arith, c .before .before .before .before .before .before .before .before .before .before .loop-test .taken), c .before .before .before .before .expand .kept .1 .1 .1 .1 .1 .1 .1 .0 ∙ c .before .before .before .before .before .before .before .before .before .before .before .loop .inv .1, c .before .before .before .before .expand .kept .1 .1 .1 .1 .1 .1 .1 .1 .0 ∙ c .before .before .before .before .before .before .before .before .before .before .before .loop .inv .2, (λ i. omega (arith, c .before .before .slice-known6 .given i)), spun-next (c .before .before .before .before .before .before .before .before .before .before .before .loop .t) u (c .before .before .before .before .expand .ensures))
+    (omega (arith, c .before .before .before .before .before .before .before .before .before .before .loop-test .taken), c .before .before .before .before .expand .kept .1 .1 .1 .1 .1 .0 ∙ c .before .before .before .before .before .before .before .before .before .before .before .loop .inv .1, c .before .before .before .before .expand .kept .1 .1 .1 .1 .1 .1 .0 ∙ c .before .before .before .before .before .before .before .before .before .before .before .loop .inv .2, (λ i. omega (arith, c .before .before .slice-known6 .given i)), spun-next (c .before .before .before .before .before .before .before .before .before .before .before .loop .t) u (c .before .before .before .before .expand .ensures))
 
 conclude-requires : tie.Need-conclude-requires Inv-loop μ-loop
 conclude-requires c κs = tt
@@ -126,15 +123,19 @@ same-length-3 : tie.Need-same-length-3 Inv-loop μ-loop
 same-length-3 c = c .before .before .before .before .before .before .conclude .kept .1 .1 .1 .0
 
 -- as many expansions as the budget, or the search has ended before
-spun : (s : tie.Left-loop Inv-loop μ-loop) → Spun (record { budget = s .before .before .before .before .before .before .before .before .before .before .before .before .before .before .before .before .before .before .before .before .before .args .r .«node_budget»; goal = s .before .before .before .before .before .before .before .before .before .feet-of2 .result }) (space (s .before .before .before .before .before .before .before .before .before .before .before .before .before .before .before .before .before .before .before .before .before .args .w) (now (s .before .before .before .before .before .before .before .before .before .before .before .before .before .before .before .before .before .before .before .before .before .args .cells)) (now (s .before .before .before .before .before .before .before .before .before .before .before .before .before .before .before .before .before .before .before .before .before .args .perms)) (now (s .before .before .before .before .before .before .before .before .before .before .before .before .before .before .before .before .before .before .before .before .before .args .shapes)) (now (s .before .before .before .before .before .before .before .before .before .before .before .before .before .before .before .before .before .before .before .before .before .args .boxes))) (s .before .before .before .before .before .before .before .before .before .before .before .before .before .before .before .before .before .before .before .before .before .args .r) (s .before .before .before .before .before .before .before .before .before .before .before .before .before .before .before .before .before .before .before .before .before .args .body) (s .before .before .before .before .before .before .begin .result) (s .before .before .before .before .before .before .before .before .before .before .before .before .before .before .before .before .before .before .before .before .before .args .r .«node_budget») (s .before .loop .turn) (s .before .before .before .before .before .before .begin .last .0) (s .before .before .before .before .before .before .begin .last .1 .0) (s .before .loop .nodes) (s .before .loop .front)
-spun s = elim (s .loop-test .came) [
-    inl x ↦ (let e : s .before .loop .t ≡ s .before .before .before .before .before .before .before .before .before .before .before .before .before .before .before .before .before .before .before .before .before .args .r .«node_budget» = omega (arith, x .left, s .before .loop .inv .0) in rw e at (s .before .loop .inv .4))
-  | inr x ↦ spun-over (s .before .loop .turn) (s .before .loop .t) (s .before .before .before .before .before .before .before .before .before .before .before .before .before .before .before .before .before .before .before .before .before .args .r .«node_budget») (s .before .loop .inv .0) (ended (s .before .loop .turn) (x .1 .keys2)) (s .before .loop .inv .4) ]
+spun : (s : tie.Left-loop Inv-loop μ-loop) → let a = s .before .before .before .before .before .before .before .before .before .before .before .before .before .before .before .before .before .before .before .before .before .args in
+    Spun (aimTo (a .r) (s .before .before .before .before .before .before .before .before .before .before .feet-of .result)) (space (a .w) (now (a .cells)) (now (a .perms)) (now (a .shapes)) (now (a .boxes))) (a .r) (a .body) (s .before .before .before .before .before .before .begin .result) (a .r .«node_budget»)
+    (s .before .loop .turn) (s .before .before .before .before .before .before .begin .last .0) (s .before .before .before .before .before .before .begin .last .1 .0) (s .before .loop .nodes) (s .before .loop .front)
+spun s =
+    let n = s .before .before .before .before .before .before .before .before .before .before .before .before .before .before .before .before .before .before .before .before .before .args .r .«node_budget» in
+    elim (s .loop-test .came) [
+      inl x ↦ (let e : s .before .loop .t ≡ n = omega (arith, x .left, s .before .loop .inv .0) in rw e at (s .before .loop .inv .4))
+    | inr x ↦ spun-over (s .before .loop .turn) (s .before .loop .t) n (s .before .loop .inv .0) (ended (s .before .loop .turn) (x .1 .keys2)) (s .before .loop .inv .4) ]
 
 returns-2 : tie.Need-returns-2 Inv-loop μ-loop
 returns-2 c =
     let a = c .before .before .before .before .before .before .before .before .before .before .before .before .before .before .before .before .before .before .before .before .before .before .before .before .before .before .before .before .before .before .args in
-    let s = searched (a .r) (roomy (c .before .before .before .before .before .before .before .before .before .before .before .before .before .before .before)) (c .before .before .before .before .before .before .before .before .before .before .before .before .before .before .before .before .before .before .before .feet-of .ensures) (c .before .before .before .before .before .before .before .before .before .before .before .before .before .before .before .begin .ensures) (a .w) (now (a .cells)) (now (a .perms)) (now (a .shapes)) (now (a .boxes)) (a .body) (c .before .before .before .before .before .before .before .before .before .before .before .before .before .before .before .before .before .before .feet-of2 .ensures) (spun (c .before .before .before .before .before .before .before .before .before)) (c .before .before .before .before .before .before .before .before .before .before .loop .inv .3) (c .before .before .before .before .before .before .before .before .before .before .loop .inv .1 ∙ c .before .before .before .before .before .before .before .before .before .before .before .before .before .before .before .begin .kept .0) (c .before .before .before .before .before .before .before .before .before .before .loop .inv .2 ∙ c .before .before .before .before .before .before .before .before .before .before .before .before .before .before .before .begin .kept .1 .0) (c .before .before .before .before .before .before .conclude .ensures) (c .before .before .zero .ensures) in
+    let s = searched (a .r) (roomy (c .before .before .before .before .before .before .before .before .before .before .before .before .before .before .before)) (c .before .before .before .before .before .before .before .before .before .before .before .before .before .before .before .before .feet-of2 .ensures) (c .before .before .before .before .before .before .before .before .before .before .before .before .before .before .before .begin .ensures) (a .w) (now (a .cells)) (now (a .perms)) (now (a .shapes)) (now (a .boxes)) (a .body) (c .before .before .before .before .before .before .before .before .before .before .before .before .before .before .before .before .before .before .before .feet-of .ensures) (spun (c .before .before .before .before .before .before .before .before .before)) (c .before .before .before .before .before .before .before .before .before .before .loop .inv .3) (c .before .before .before .before .before .before .before .before .before .before .loop .inv .1 ∙ c .before .before .before .before .before .before .before .before .before .before .before .before .before .before .before .begin .kept .0) (c .before .before .before .before .before .before .before .before .before .before .loop .inv .2 ∙ c .before .before .before .before .before .before .before .before .before .before .before .before .before .before .before .begin .kept .1 .0) (c .before .before .before .before .before .before .conclude .ensures) (c .before .before .zero .ensures) in
     leaves (a .w) (now (a .cells)) (now (a .perms)) (now (a .shapes)) (now (a .boxes)) (a .r) (a .body) (now (a .nodes)) (now (a .front)) (now (a .out)) none (sym (ap told (c .before .before .before .before .before .before .before .before .before .before .before .before .before .before .before .before .before .before .before .before .enum-told .given .1)) ∙ c .before .before .before .before .before .before .before .before .before .before .before .before .before .before .before .before .before .before .before .before .before .before .judge .ensures) (s .0) (s .1) (s .2) (s .3)
 
 pub find-walk-path-spec : {M : Type 1} → statement M

@@ -1,11 +1,11 @@
 -- `search::turns::expand` meets its contract. Assumes nothing.
-use Prim.Native.Nat.{_≤_, _<_}
+use Prim.Native.Nat.{_≤_}
 use native.Mathlib.Omega.{arith}
 use mathlib.Core.Path.{_≡_, refl, sym, _∙_}
 use mathlib.Core.Bool.{true, false}
 use borrow.Author.Needs.{needs}
 use denote.Ref.{now}
-use Rattle.world.specs.Space.{space}
+use Rattle.world.specs.Space.{Space, space}
 use Rattle.moves.specs.declared.answer.EdgeAnswer.the-variants.{To, Nowhere}
 use Rattle.edges.specs.Edges.{connector}
 use Rattle.words.specs.Words.{pointOf}
@@ -17,6 +17,9 @@ use Rattle.search.specs.Laws.Turns.{is-closed, turned-rest, turned-at, t
 use Rattle.search.proofs.turns.expand.Statement.{statement}
 use Rattle.search.proofs.turns.expand.Tie as tie
 
+abbrev sp : tie.Start → Space
+sp s = let a = s .args in space (a .task .w) (now (a .cells)) (now (a .perms)) (now (a .shapes)) (now (a .boxes))
+
 pick-requires : tie.Need-pick-requires
 pick-requires c κs = tt
 
@@ -25,9 +28,9 @@ same-length c = search needs
 
 returns : tie.Need-returns
 returns c =
-    let a = c .before .before .before .before .before .before .before .before .before .args in
-    let h : a .c .retained ≤ nextOf (a .c .retained) (now (a .front)) = rw (← (c .before .pick .ensures)) (c .if1 .taken) in
-    turned-rest (a .aim) (space (a .w) (now (a .cells)) (now (a .perms)) (now (a .shapes)) (now (a .boxes))) (a .r) (a .body) (a .c) (now (a .nodes)) (now (a .front)) (c .before .before .before .before .before .before .before .before .before .pre .0 .few) h
+    let s = c .before .before .before .before .before .before .before .before .before .before in
+    let h : s .args .c .retained ≤ nextOf (s .args .c .retained) (now (s .args .front)) = rw (← (c .before .before .pick .ensures)) (c .if1 .taken) in
+    turned-rest (s .args .task .aim) (sp s) (s .args .task .r) (s .args .task .body) (s .args .c) (now (s .args .nodes)) (now (s .args .front)) (c .before .before .before .before .before .before .before .before .before .before .pre .0 .few) h
 
 close-requires : tie.Need-close-requires
 close-requires c κs = tt
@@ -36,18 +39,18 @@ same-point-requires : tie.Need-same-point-requires
 same-point-requires c κs = tt
 
 same-length-2 : tie.Need-same-length-2
-same-length-2 c = c .before .before .before .before .before .before .before .before .before .before .close .kept .0
+same-length-2 c = c .before .before .before .before .before .before .before .before .close .kept .0
 
 same-length-3 : tie.Need-same-length-3
-same-length-3 c = c .before .before .before .before .before .before .before .before .before .before .close .kept .1 .0
+same-length-3 c = c .before .before .before .before .before .before .before .before .close .kept .1 .0
 
 returns-2 : tie.Need-returns-2
 returns-2 c =
-    let a = c .before .before .before .before .before .before .before .before .before .before .before .before .before .before .before .before .before .before .before .before .before .before .args in
-    let k = c .before .before .before .before .before .before .before .before .before .before .before .before .before .before .pick .result in
-    let shut = is-closed (c .before .before .before .before .before .before .before .before .before .before .before .before .before .before .before .before .before .before .before .before .before .before .pre .0) (c .before .before .before .before .before .before .before .before .before .before .before .before .before .if1 .left) (c .before .before .before .before .before .before .before .before .before .before .close .ensures) in
-    let i : samePoint (nodeAt (now (a .nodes)) k .feet) (a .aim .goal) ≡ true = rw (← (c .before .before .before .before .before .before .before .before .before .before .close .ensures .node)) (sym (c .before .same-point .ensures) ∙ c .if2 .taken) in
-    turned-at (a .aim) (space (a .w) (now (a .cells)) (now (a .perms)) (now (a .shapes)) (now (a .boxes))) (a .r) (a .body) (a .c) (now (a .nodes)) (now (a .front)) (c .before .before .before .before .before .before .before .before .before .before .before .before .before .before .before .before .before .before .before .before .before .before .pre .1 .0) k (c .before .before .before .before .before .before .before .before .before .before .before .before .before .before .pick .ensures) (c .before .before .before .before .before .before .before .before .before .before .before .before .before .if1 .left) shut i
+    let s = c .before .before .before .before .before .before .before .before .before .before .before .before .before .before .before .before .before .before .before .before .before in
+    let k = c .before .before .before .before .before .before .before .before .before .before .before .before .before .pick .result in
+    let shut = is-closed (c .before .before .before .before .before .before .before .before .before .before .before .before .before .before .before .before .before .before .before .before .before .pre .0) (c .before .before .before .before .before .before .before .before .before .before .before .if1 .left) (c .before .before .before .before .before .before .before .before .close .ensures) in
+    let i : samePoint (nodeAt (now (s .args .nodes)) k .feet) (s .args .task .aim .goal) ≡ true = rw (← (c .before .before .before .before .before .before .before .before .close .ensures .node)) (sym (c .before .same-point .ensures) ∙ c .if2 .taken) in
+    turned-at (s .args .task .aim) (sp s) (s .args .task .r) (s .args .task .body) (s .args .c) (now (s .args .nodes)) (now (s .args .front)) (c .before .before .before .before .before .before .before .before .before .before .before .before .before .before .before .before .before .before .before .before .before .pre .1 .0) k (c .before .before .before .before .before .before .before .before .before .before .before .before .before .pick .ensures) (c .before .before .before .before .before .before .before .before .before .before .before .if1 .left) shut i
 
 point-of-requires : tie.Need-point-of-requires
 point-of-requires c κs = tt
@@ -66,41 +69,41 @@ enum-told c = search needs
 
 columns-requires : tie.Need-columns-requires
 columns-requires c κs =
-    let shut = is-closed (c .before .before .before .before .before .before .before .before .before .before .before .before .before .before .before .before .before .before .before .before .before .before .before .before .before .before .before .before .pre .0) (c .before .before .before .before .before .before .before .before .before .before .before .before .before .before .before .before .before .before .before .if1 .left) (c .before .before .before .before .before .before .before .before .before .before .before .before .before .before .before .before .close .ensures) in
-    (ready-after (c .before .before .before .before .before .before .before .before .before .before .before .before .before .before .before .before .before .before .before .before .before .before .before .before .before .before .before .before .pre .0) (shut .near) (omega (arith, c .before .before .before .before .before .before .before .before .before .before .before .before .before .before .before .before .before .before .before .before .before .before .before .before .before .before .before .before .pre .1 .1 (c .before .before .before .before .before .point-of .result))) (c .before .before .before .before .before .before .before .before .before .before .before .before .before .before .before .before .close .kept .0) (c .before .before .before .before .before .before .before .before .before .before .before .before .before .before .before .before .close .kept .1 .0), omega (arith, c .before .before .before .before .before .before .before .before .before .before .before .before .before .before .before .before .before .before .before .if1 .left, shut .near .more))
+    let shut = is-closed (c .before .before .before .before .before .before .before .before .before .before .before .before .before .before .before .before .before .before .before .before .before .before .before .before .before .before .before .pre .0) (c .before .before .before .before .before .before .before .before .before .before .before .before .before .before .before .before .before .if1 .left) (c .before .before .before .before .before .before .before .before .before .before .before .before .before .before .close .ensures) in
+    (ready-after (c .before .before .before .before .before .before .before .before .before .before .before .before .before .before .before .before .before .before .before .before .before .before .before .before .before .before .before .pre .0) (shut .near) (omega (arith, c .before .before .before .before .before .before .before .before .before .before .before .before .before .before .before .before .before .before .before .before .before .before .before .before .before .before .before .pre .1 .1 (c .before .before .before .before .before .point-of .result))) (c .before .before .before .before .before .before .before .before .before .before .before .before .before .before .close .kept .0) (c .before .before .before .before .before .before .before .before .before .before .before .before .before .before .close .kept .1 .0), omega (arith, c .before .before .before .before .before .before .before .before .before .before .before .before .before .before .before .before .before .if1 .left, shut .near .more))
 
 same-length-4 : tie.Need-same-length-4
-same-length-4 c = c .before .before .before .before .before .before .before .before .before .before .before .before .before .before .before .before .close .kept .0
+same-length-4 c = c .before .before .before .before .before .before .before .before .before .before .before .before .before .before .close .kept .0
 
 same-length-5 : tie.Need-same-length-5
-same-length-5 c = c .before .before .before .before .before .before .before .before .before .before .before .before .before .before .before .before .close .kept .1 .0
+same-length-5 c = c .before .before .before .before .before .before .before .before .before .before .before .before .before .before .close .kept .1 .0
 
 returns-3 : tie.Need-returns-3
 returns-3 c =
-    let a = c .before .before .before .before .before .before .before .before .before .before .before .before .before .before .before .before .before .before .before .before .before .before .before .before .before .before .before .before .args in
-    let k = c .before .before .before .before .before .before .before .before .before .before .before .before .before .before .before .before .before .before .before .before .pick .result in
-    let n = c .before .before .before .before .before .before .before .before .before .before .before .before .before .before .before .before .close .ensures .node in
-    let shut = is-closed (c .before .before .before .before .before .before .before .before .before .before .before .before .before .before .before .before .before .before .before .before .before .before .before .before .before .before .before .before .pre .0) (c .before .before .before .before .before .before .before .before .before .before .before .before .before .before .before .before .before .before .before .if1 .left) (c .before .before .before .before .before .before .before .before .before .before .before .before .before .before .before .before .close .ensures) in
-    let i : samePoint (nodeAt (now (a .nodes)) k .feet) (a .aim .goal) ≡ false = rw (← n) (sym (c .before .before .before .before .before .before .before .same-point .ensures) ∙ c .before .before .before .before .before .before .if2 .left) in
-    let j : To (c .before .before .way .given .0 .0) ≡ connector (space (a .w) (now (a .cells)) (now (a .perms)) (now (a .shapes)) (now (a .boxes))) (a .r) (a .body) (pointOf (nodeAt (now (a .nodes)) k .feet)) = rw (← n, ← (c .before .before .before .before .before .point-of .ensures)) (sym (c .before .before .way .given .1) ∙ c .before .before .before .before .connector .ensures) in
-    turned-by (a .aim) (space (a .w) (now (a .cells)) (now (a .perms)) (now (a .shapes)) (now (a .boxes))) (a .r) (a .body) (a .c) (now (a .nodes)) (now (a .front)) (c .before .before .before .before .before .before .before .before .before .before .before .before .before .before .before .before .before .before .before .before .before .before .before .before .before .before .before .before .pre .1 .0) k (c .before .before .before .before .before .before .before .before .before .before .before .before .before .before .before .before .before .before .before .before .pick .ensures) (c .before .before .before .before .before .before .before .before .before .before .before .before .before .before .before .before .before .before .before .if1 .left) shut (c .label-of .result) (c .before .before .way .given .0 .0) i j (c .label-of .ensures)
+    let s = c .before .before .before .before .before .before .before .before .before .before .before .before .before .before .before .before .before .before .before .before .before .before .before .before .before .before .before in
+    let k = c .before .before .before .before .before .before .before .before .before .before .before .before .before .before .before .before .before .before .before .pick .result in
+    let n = c .before .before .before .before .before .before .before .before .before .before .before .before .before .before .close .ensures .node in
+    let shut = is-closed (c .before .before .before .before .before .before .before .before .before .before .before .before .before .before .before .before .before .before .before .before .before .before .before .before .before .before .before .pre .0) (c .before .before .before .before .before .before .before .before .before .before .before .before .before .before .before .before .before .if1 .left) (c .before .before .before .before .before .before .before .before .before .before .before .before .before .before .close .ensures) in
+    let i : samePoint (nodeAt (now (s .args .nodes)) k .feet) (s .args .task .aim .goal) ≡ false = rw (← n) (sym (c .before .before .before .before .before .before .before .same-point .ensures) ∙ c .before .before .before .before .before .before .if2 .left) in
+    let j : To (c .before .before .way .given .0 .0) ≡ connector (sp s) (s .args .task .r) (s .args .task .body) (pointOf (nodeAt (now (s .args .nodes)) k .feet)) = rw (← n, ← (c .before .before .before .before .before .point-of .ensures)) (sym (c .before .before .way .given .1) ∙ c .before .before .before .before .connector .ensures) in
+    turned-by (s .args .task .aim) (sp s) (s .args .task .r) (s .args .task .body) (s .args .c) (now (s .args .nodes)) (now (s .args .front)) (c .before .before .before .before .before .before .before .before .before .before .before .before .before .before .before .before .before .before .before .before .before .before .before .before .before .before .before .pre .1 .0) k (c .before .before .before .before .before .before .before .before .before .before .before .before .before .before .before .before .before .before .before .pick .ensures) (c .before .before .before .before .before .before .before .before .before .before .before .before .before .before .before .before .before .if1 .left) shut (c .label-of .result) (c .before .before .way .given .0 .0) i j (c .label-of .ensures)
 
 same-length-6 : tie.Need-same-length-6
-same-length-6 c = c .before .before .before .before .columns .kept .1 .1 .1 .1 .1 .1 .1 .0 ∙ c .before .before .before .before .before .before .before .before .before .before .before .before .before .before .before .before .before .before .before .before .before .close .kept .0
+same-length-6 c = c .before .before .before .before .columns .kept .1 .1 .1 .1 .1 .0 ∙ c .before .before .before .before .before .before .before .before .before .before .before .before .before .before .before .before .before .before .before .close .kept .0
 
 same-length-7 : tie.Need-same-length-7
-same-length-7 c = c .before .before .before .before .columns .kept .1 .1 .1 .1 .1 .1 .1 .1 .0 ∙ c .before .before .before .before .before .before .before .before .before .before .before .before .before .before .before .before .before .before .before .before .before .close .kept .1 .0
+same-length-7 c = c .before .before .before .before .columns .kept .1 .1 .1 .1 .1 .1 .0 ∙ c .before .before .before .before .before .before .before .before .before .before .before .before .before .before .before .before .before .before .before .close .kept .1 .0
 
 returns-4 : tie.Need-returns-4
 returns-4 c =
-    let a = c .before .before .before .before .before .before .before .before .before .before .before .before .before .before .before .before .before .before .before .before .before .before .before .before .before .before .before .before .before .before .before .before .before .args in
-    let k = c .before .before .before .before .before .before .before .before .before .before .before .before .before .before .before .before .before .before .before .before .before .before .before .before .before .pick .result in
-    let n = c .before .before .before .before .before .before .before .before .before .before .before .before .before .before .before .before .before .before .before .before .before .close .ensures .node in
-    let shut = is-closed (c .before .before .before .before .before .before .before .before .before .before .before .before .before .before .before .before .before .before .before .before .before .before .before .before .before .before .before .before .before .before .before .before .before .pre .0) (c .before .before .before .before .before .before .before .before .before .before .before .before .before .before .before .before .before .before .before .before .before .before .before .before .if1 .left) (c .before .before .before .before .before .before .before .before .before .before .before .before .before .before .before .before .before .before .before .before .before .close .ensures) in
-    let i : samePoint (nodeAt (now (a .nodes)) k .feet) (a .aim .goal) ≡ false = rw (← n) (sym (c .before .before .before .before .before .before .before .before .before .before .before .before .same-point .ensures) ∙ c .before .before .before .before .before .before .before .before .before .before .before .if2 .left) in
-    let j : Nowhere ≡ connector (space (a .w) (now (a .cells)) (now (a .perms)) (now (a .shapes)) (now (a .boxes))) (a .r) (a .body) (pointOf (nodeAt (now (a .nodes)) k .feet)) = rw (← n, ← (c .before .before .before .before .before .before .before .before .before .before .point-of .ensures)) (sym (c .before .before .before .before .before .before .before .enum-told .given .1) ∙ c .before .before .before .before .before .before .before .before .before .connector .ensures) in
-    let m : c .before .before .before .before .before .before .before .before .before .before .point-of .result ≡ pointOf (nodeAt (now (a .nodes)) k .feet) = rw (← n) (c .before .before .before .before .before .before .before .before .before .before .point-of .ensures) in
-    turned-going (a .aim) (space (a .w) (now (a .cells)) (now (a .perms)) (now (a .shapes)) (now (a .boxes))) (a .r) (a .body) (a .c) (now (a .nodes)) (now (a .front)) (c .before .before .before .before .before .before .before .before .before .before .before .before .before .before .before .before .before .before .before .before .before .before .before .before .before .before .before .before .before .before .before .before .before .pre .1 .0) k (c .before .before .before .before .before .before .before .before .before .before .before .before .before .before .before .before .before .before .before .before .before .before .before .before .before .pick .ensures) (c .before .before .before .before .before .before .before .before .before .before .before .before .before .before .before .before .before .before .before .before .before .before .before .before .if1 .left) shut (record { number = k; node = c .before .before .before .before .before .before .before .before .before .before .before .before .before .before .before .before .before .before .before .before .before .close .result .node; point = c .before .before .before .before .before .before .before .before .before .before .point-of .result }) (c .before .before .before .before .before .before .before .before .before .before .before .before .before .before .before .before .before .before .before .before .before .before .before .before .before .before .before .before .before .before .before .before .before .pre .1 .1) i j refl n m (c .before .before .before .before .columns .ensures)
+    let s = c .before .before .before .before .before .before .before .before .before .before .before .before .before .before .before .before .before .before .before .before .before .before .before .before .before .before .before .before .before .before .before .before in
+    let k = c .before .before .before .before .before .before .before .before .before .before .before .before .before .before .before .before .before .before .before .before .before .before .before .before .pick .result in
+    let n = c .before .before .before .before .before .before .before .before .before .before .before .before .before .before .before .before .before .before .before .close .ensures .node in
+    let shut = is-closed (c .before .before .before .before .before .before .before .before .before .before .before .before .before .before .before .before .before .before .before .before .before .before .before .before .before .before .before .before .before .before .before .before .pre .0) (c .before .before .before .before .before .before .before .before .before .before .before .before .before .before .before .before .before .before .before .before .before .before .if1 .left) (c .before .before .before .before .before .before .before .before .before .before .before .before .before .before .before .before .before .before .before .close .ensures) in
+    let i : samePoint (nodeAt (now (s .args .nodes)) k .feet) (s .args .task .aim .goal) ≡ false = rw (← n) (sym (c .before .before .before .before .before .before .before .before .before .before .before .before .same-point .ensures) ∙ c .before .before .before .before .before .before .before .before .before .before .before .if2 .left) in
+    let j : Nowhere ≡ connector (sp s) (s .args .task .r) (s .args .task .body) (pointOf (nodeAt (now (s .args .nodes)) k .feet)) = rw (← n, ← (c .before .before .before .before .before .before .before .before .before .before .point-of .ensures)) (sym (c .before .before .before .before .before .before .before .enum-told .given .1) ∙ c .before .before .before .before .before .before .before .before .before .connector .ensures) in
+    let m : c .before .before .before .before .before .before .before .before .before .before .point-of .result ≡ pointOf (nodeAt (now (s .args .nodes)) k .feet) = rw (← n) (c .before .before .before .before .before .before .before .before .before .before .point-of .ensures) in
+    turned-going (s .args .task .aim) (sp s) (s .args .task .r) (s .args .task .body) (s .args .c) (now (s .args .nodes)) (now (s .args .front)) (c .before .before .before .before .before .before .before .before .before .before .before .before .before .before .before .before .before .before .before .before .before .before .before .before .before .before .before .before .before .before .before .before .pre .1 .0) k (c .before .before .before .before .before .before .before .before .before .before .before .before .before .before .before .before .before .before .before .before .before .before .before .before .pick .ensures) (c .before .before .before .before .before .before .before .before .before .before .before .before .before .before .before .before .before .before .before .before .before .before .if1 .left) shut (record { number = k; node = c .before .before .before .before .before .before .before .before .before .before .before .before .before .before .before .before .before .before .before .close .result .node; point = c .before .before .before .before .before .before .before .before .before .before .point-of .result }) (c .before .before .before .before .before .before .before .before .before .before .before .before .before .before .before .before .before .before .before .before .before .before .before .before .before .before .before .before .before .before .before .before .pre .1 .1) i j refl n m (c .before .before .before .before .columns .ensures)
 
 pub expand-spec : {M : Type 1} → statement M
 expand-spec =
