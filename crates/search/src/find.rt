@@ -47,7 +47,7 @@ pub fn find_walk_path(
         turn = expand(w, cells, perms, shapes, boxes, r, body, nodes, front, aim, c);
         t += 1;
     }
-    let answer = outcomes::conclude(nodes, goal, turn, out);
+    let answer = conclusion::conclude(nodes, goal, turn, out);
     writes::zero(front);
     answer
 }
