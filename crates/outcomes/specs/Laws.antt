@@ -1,57 +1,13 @@
--- The ways out of `verdict` and `conclude`, as their proofs cite them.
+-- How a search ended that found no list, as the code tests it.
 use mathlib.Core.Path.{_≡_, refl, sym, ap}
 use mathlib.Core.Logic.{_≢_}
-use mathlib.Core.List.{List, [], _∷_, _++_}
-use Prim.Native.Nat.{ℕ, zero, suc, _*_, _/_, _≤_}
-use native.Mathlib.Omega.{arith}
-use lib.ListN.{length, drop}
-use borrow.Author.Tests.{le-leb}
-use Rattle.rooms.specs.declared.Feet.{Feet}
-use Rattle.rooms.specs.declared.Label.{Label}
-use Rattle.rooms.specs.declared.Counts.{Counts}
-use Rattle.rooms.specs.Lists.{listBytes, written, Listed}
-use Rattle.outcomes.specs.declared.Turn.{Turn}
-use Rattle.outcomes.specs.declared.Turn.the-variants.{Rest, Going, At, By}
-use Rattle.outcomes.specs.declared.Answer.{Answer}
-use Rattle.outcomes.specs.declared.Outcome.{Outcome}
-use Rattle.outcomes.specs.declared.Outcome.the-variants.{Found, Unreachable, BudgetExceeded}
-use Rattle.outcomes.specs.Outcomes.{listIn, countsOf, endQuiet, endAt, answerOf}
+use Prim.Native.Nat.{ℕ, zero, suc}
+use Rattle.exploration.specs.Explore.{Unreachable, BudgetExceeded}
+use Rattle.outcomes.specs.Outcomes.{endQuiet}
 
-abbrev pub told : Counts → Outcome → ℕ → Answer
-told c o n = record { outcome = o; count = n; retained = c .retained; closed = c .closed }
+pub none-dropped : (d : ℕ) → d ≡ 0 → Unreachable ≡ endQuiet d
+none-dropped d h = sym (ap endQuiet h)
 
-pub verdict-none : (c : Counts) → c .dropped ≡ 0 → told c Unreachable 0 ≡ answerOf c (endQuiet (c .dropped))
-verdict-none c h = rw h
-
-pub verdict-some : (c : Counts) → c .dropped ≢ 0 → told c BudgetExceeded 0 ≡ answerOf c (endQuiet (c .dropped))
-verdict-some c h = go (c .dropped) h
-  where
-    go : (d : ℕ) → d ≢ 0 → told c BudgetExceeded 0 ≡ answerOf c (endQuiet d)
-    go zero i = absurd (i refl)
-    go (suc d) i = refl
-
--- a list that has room is written, and no list changes nothing
-pub written-is : (l : List (Feet × Label)) (old : List ℕ) → 40 * length l ≤ length old → written l old ≡ listBytes l ++ drop (40 * length l) old
-unfolding written
-written-is l old h = let e = le-leb (length l) (length old / 40) (omega arith) in rw e
-
-written-quiet : (d : ℕ) (old : List ℕ) → old ≡ written (listIn (endQuiet d)) old
-written-quiet zero old = sym (written-is [] old (omega arith))
-written-quiet (suc d) old = sym (written-is [] old (omega arith))
-
-abbrev pub Concludes : List ℕ → Feet → Turn → Answer → List ℕ → List ℕ → Type 0
-Concludes a goal t x old out = (x ≡ answerOf (countsOf t) (endAt a goal t)) × (out ≡ written (listIn (endAt a goal t)) old)
-
-module _ (a : List ℕ) (goal : Feet) (t : Turn) (c : Counts) (old : List ℕ) where
-  pub concludes-rest : (x : Answer) → t ≡ Rest c → x ≡ answerOf c (endQuiet (c .dropped)) → Concludes a goal t x old old
-  concludes-rest x e h = rw e (h, written-quiet (c .dropped) old)
-
-  pub concludes-going : (x : Answer) → t ≡ Going c → x ≡ answerOf c (endQuiet (c .dropped)) → Concludes a goal t x old old
-  concludes-going x e h = rw e (h, written-quiet (c .dropped) old)
-
-  pub concludes-at : (k m : ℕ) (out : List ℕ) → t ≡ At c k → Listed a (c .retained) k [] m old out → Concludes a goal t (told c Found m) old out
-  concludes-at k m out e h = rw e (ap (told c Found) (h .count), h .bytes)
-
-  pub concludes-by : (k : ℕ) (l : Label) (m : ℕ) (out : List ℕ) → t ≡ By c k l → Listed a (c .retained) k ((goal, l) ∷ []) m old out
-      → Concludes a goal t (told c Found m) old out
-  concludes-by k l m out e h = rw e (ap (told c Found) (h .count), h .bytes)
+pub some-dropped : (d : ℕ) → d ≢ 0 → BudgetExceeded ≡ endQuiet d
+some-dropped zero h = absurd (h refl)
+some-dropped (suc d) h = refl

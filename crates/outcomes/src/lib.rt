@@ -1,9 +1,7 @@
-// What a search answers (01, "Numbers given back"), and how the end of its run becomes that answer (01, "Search").
+// What a search answers (01, "Numbers given back"): without a search, or where it found no list. How a list is told is the crate `conclusion`.
 ghost use mathlib.Core.Path.{_≡_};
-ghost use Rattle.rooms.specs.Lists.{written};
-ghost use Rattle.outcomes.specs.Outcomes.{outcomeNumber, unsearched, countsOf, listIn, endQuiet, endAt, answerOf};
+ghost use Rattle.outcomes.specs.Outcomes.{outcomeNumber, unsearched, endQuiet, answerOf};
 use rooms::Counts;
-use rooms::Feet;
 use rooms::Label;
 
 // 01's outcomes of a search, 0 to 5.
@@ -60,28 +58,9 @@ pub fn without_search(outcome: Outcome) -> Answer
 }
 
 // The answer of a search that found no list: nothing waits any more.
-fn verdict(c: Counts) -> Answer
+pub fn verdict(c: Counts) -> Answer
     ensures { λ a. ⌜ a ≡ answerOf c (endQuiet (c .dropped)) ⌝ }
 {
     let outcome = if c.dropped == 0 { Outcome::Unreachable } else { Outcome::BudgetExceeded };
     Answer { outcome, count: 0, retained: c.retained, closed: c.closed }
-}
-
-// The answer that the end of a run makes of its node room, with its list written.
-pub fn conclude(nodes: &[u8], goal: Feet, turn: Turn, out: &mut [u8]) -> Answer
-    ensures { λ a. ⌜ a ≡ answerOf (countsOf turn) (endAt (now (nodes .entry)) goal turn) ⌝ }
-    ensures { λ _. ⌜ now (out .exit) ≡ written (listIn (endAt (now (nodes .entry)) goal turn)) (now (out .entry)) ⌝ }
-{
-    match turn {
-        Turn::Rest(c) => verdict(c),
-        Turn::Going(c) => verdict(c),
-        Turn::At(c, k) => {
-            let count = lists::list_at(nodes, c.retained, k, out);
-            Answer { outcome: Outcome::Found, count, retained: c.retained, closed: c.closed }
-        }
-        Turn::By(c, k, label) => {
-            let count = lists::list_by(nodes, c.retained, k, goal, label, out);
-            Answer { outcome: Outcome::Found, count, retained: c.retained, closed: c.closed }
-        }
-    }
 }

@@ -47,7 +47,7 @@ pub fn find_walk_path(
         turn = expand(task, cells, perms, shapes, boxes, nodes, front, c);
         t += 1;
     }
-    let answer = outcomes::conclude(nodes, task.aim.goal, turn, out);
+    let answer = conclusion::conclude(nodes, task.aim.goal, turn, out);
     writes::zero(front);
     answer
 }

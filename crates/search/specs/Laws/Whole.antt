@@ -40,7 +40,7 @@ use Rattle.outcomes.specs.declared.Turn.{Turn}
 use Rattle.outcomes.specs.declared.Turn.the-variants.{Rest, Going, At, By}
 use Rattle.outcomes.specs.declared.Answer.{Answer}
 use Rattle.outcomes.specs.Outcomes.{toldBy, listIn, countsOf, endQuiet, endAt, answerOf}
-use Rattle.outcomes.specs.Laws.{written-is, Concludes}
+use Rattle.conclusion.specs.Laws.{written-is, Concludes}
 use Rattle.search.specs.FindWalkPath.{ended, endOf, answerBy, nodesBy, frontBy, outBy}
 use Rattle.search.specs.Turns.{mostSteps, after, Quiet}
 use Rattle.search.specs.Runs.{Spun}

@@ -1,21 +1,18 @@
--- `outcomes::conclude` meets its contract. Assumes nothing.
+-- `conclusion::conclude` meets its contract. Assumes nothing.
 use denote.Ref.{now}
+use mathlib.Core.Path.{sym, ap, _∙_}
+use mathlib.Core.Logic.{inl, inr, ⊎-elim}
 use borrow.Author.Needs.{needs}
-use Rattle.outcomes.specs.Laws.{concludes-rest, concludes-going, concludes-at, concludes-by}
-use Rattle.outcomes.proofs.conclude.Statement.{statement}
-use Rattle.outcomes.proofs.conclude.Tie as tie
+use Rattle.outcomes.specs.declared.Turn.the-variants.{Rest, Going}
+use Rattle.conclusion.specs.Laws.{concludes-quiet, concludes-at, concludes-by}
+use Rattle.conclusion.proofs.conclude.Statement.{statement}
+use Rattle.conclusion.proofs.conclude.Tie as tie
 
 enum-known-turn : tie.Need-enum-known-turn
 enum-known-turn c = search needs
 
-verdict-requires : tie.Need-verdict-requires
-verdict-requires c κs = tt
-
 enum-known-turn-2 : tie.Need-enum-known-turn-2
 enum-known-turn-2 c = search needs
-
-verdict-requires-2 : tie.Need-verdict-requires-2
-verdict-requires-2 c κs = tt
 
 enum-known-turn-3 : tie.Need-enum-known-turn-3
 enum-known-turn-3 c = search needs
@@ -29,47 +26,44 @@ enum-known-turn-4 c = search needs
 list-by-requires : tie.Need-list-by-requires
 list-by-requires c κs = tt
 
-returns : tie.Need-returns
-returns c =
-    let a = c .before .before .before .before .before .before .args in
-    concludes-rest (now (a .nodes)) (a .goal) (a .turn) _ (now (a .out)) _ (c .before .before .turn .given .1) (c .verdict .ensures)
-
-returns-2 : tie.Need-returns-2
-returns-2 c =
-    let a = c .before .before .before .before .before .before .args in
-    concludes-going (now (a .nodes)) (a .goal) (a .turn) _ (now (a .out)) _ (c .before .before .turn2 .given .1) (c .verdict2 .ensures)
+verdict-requires : tie.Need-verdict-requires
+verdict-requires c κs = tt
 
 same-length : tie.Need-same-length
 same-length c = c .before .before .list-at .kept .1 .1 .1 .0
 
-returns-3 : tie.Need-returns-3
-returns-3 c =
+returns : tie.Need-returns
+returns c =
     let a = c .before .before .before .before .before .before .before .before .before .args in
     concludes-at (now (a .nodes)) (a .goal) (a .turn) _ (now (a .out)) _ _ _ (c .before .before .before .before .before .turn3 .given .1) (c .before .before .list-at .ensures)
 
 same-length-2 : tie.Need-same-length-2
 same-length-2 c = c .before .before .list-by .kept .1 .1 .1 .1 .1 .0
 
-returns-4 : tie.Need-returns-4
-returns-4 c =
+returns-2 : tie.Need-returns-2
+returns-2 c =
     let a = c .before .before .before .before .before .before .before .before .before .args in
     concludes-by (now (a .nodes)) (a .goal) (a .turn) _ (now (a .out)) _ _ _ _ (c .before .before .before .before .before .turn4 .given .1) (c .before .before .list-by .ensures)
+
+returns-3 : tie.Need-returns-3
+returns-3 c =
+    let a = c .before .before .before .before .args in
+    let e = ⊎-elim (λ t. inl (t .1 .given .1 ∙ ap Rest (sym (t .3)))) (λ t. inr (t .1 .given .1 ∙ ap Going (sym (t .3)))) (c .before .match .came) in
+    concludes-quiet (now (a .nodes)) (a .goal) (a .turn) (c .before .match .c) (now (a .out)) _ e (c .verdict .ensures)
 
 pub conclude-spec : {M : Type 1} → statement M
 conclude-spec =
     tie.close
     (tie.spec
     enum-known-turn
-    verdict-requires
     enum-known-turn-2
-    verdict-requires-2
     enum-known-turn-3
     list-at-requires
     enum-known-turn-4
     list-by-requires
-    returns
-    returns-2
+    verdict-requires
     same-length
-    returns-3
+    returns
     same-length-2
-    returns-4)
+    returns-2
+    returns-3)

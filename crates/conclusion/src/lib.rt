@@ -1,0 +1,27 @@
+// How the end of a run of the search becomes its answer (01, "Search"): the outcome, the counts, and the list written.
+ghost use mathlib.Core.Path.{_≡_};
+ghost use Rattle.rooms.specs.Lists.{written};
+ghost use Rattle.outcomes.specs.Outcomes.{countsOf, listIn, endAt, answerOf};
+use outcomes::Answer;
+use outcomes::Outcome;
+use outcomes::Turn;
+use outcomes::verdict;
+use rooms::Feet;
+
+// The answer that the end of a run makes of its node room, with its list written.
+pub fn conclude(nodes: &[u8], goal: Feet, turn: Turn, out: &mut [u8]) -> Answer
+    ensures { λ a. ⌜ a ≡ answerOf (countsOf turn) (endAt (now (nodes .entry)) goal turn) ⌝ }
+    ensures { λ _. ⌜ now (out .exit) ≡ written (listIn (endAt (now (nodes .entry)) goal turn)) (now (out .entry)) ⌝ }
+{
+    match turn {
+        Turn::Rest(c) | Turn::Going(c) => verdict(c),
+        Turn::At(c, k) => {
+            let count = lists::list_at(nodes, c.retained, k, out);
+            Answer { outcome: Outcome::Found, count, retained: c.retained, closed: c.closed }
+        }
+        Turn::By(c, k, label) => {
+            let count = lists::list_by(nodes, c.retained, k, goal, label, out);
+            Answer { outcome: Outcome::Found, count, retained: c.retained, closed: c.closed }
+        }
+    }
+}
