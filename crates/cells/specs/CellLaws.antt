@@ -1,30 +1,22 @@
--- How the code's comparisons of floats tell where a number lies.
+-- How the code finds a floor and a ceiling: by the whole part of a number, and by comparing the number with a whole one.
 use Prim.Native.Nat.{ℕ, zero, suc, _+_, _*_, _/_, _%_, _^_, _-_, _<_, _≤_, min}
 use native.Mathlib.Omega.{arith}
-use native.Mathlib.Nat.{div-add-mod', mod-lt, zero-div, min-eq-left, min-eq-right, min-le-right, div-lt-iff-lt-mul, le-div-iff-mul-le, lt-of-mul-lt-mul-right, mul-lt-mul-of-pos-right, mul-right-comm, mul-one, suc-mul, mul-le-mul-right}
+use native.Mathlib.Nat.{div-add-mod', min-le-right, div-lt-iff-lt-mul, le-div-iff-mul-le, mul-lt-mul-of-pos-right, mul-right-comm, mul-one, mul-le-mul-right, add-mul, zero-mul, add-zero, min-eq-left, min-eq-right}
 use mathlib.Core.Path.{_≡_, refl, sym, ap, _∙_, subst}
-use mathlib.Core.Bool.{Bool, true, false, not, cond}
-use mathlib.Core.Logic.{_⊎_, inl, inr}
-use borrow.Author.Tests.{ltb-true, ltb-false, lt-ltb, le-ltb, eq-eqb, ne-eqb, eqb-true}
-use lib.Dec.{T, ltb, leb, eqb, lt→ltb}
-use lib.IntN.{ℤ, pos, negsuc, negℤ}
-use lib.Signed.{mag}
-use lib.Ieee.{Float, nan, inf, fin, binary64, up, down, neg, lt, ne, below, ofInt, toUnsigned, round}
+use mathlib.Core.Bool.{Bool, true, false, cond, _&&_, _||_}
+use borrow.Author.Tests.{ltb-true, ltb-false, lt-ltb, le-ltb, eq-eqb, ne-eqb}
+use lib.Dec.{T, ltb, eqb, lt→ltb}
+use lib.IntN.{ℤ, pos, negsuc, negℤ, _+ℤ_, _-ℤ_, +ℤ-idr, +ℤ-one, -ℤ-one}
+use lib.Signed.{mag, ltZ}
+use lib.Ieee.{Float, nan, inf, fin, binary64, up, down, lt, le, eq, below, ofInt, toSigned}
 use lib.Ieee.Exact.{HasValue}
 use lib.Ieee.Back.{round-whole}
 use lib.Ieee.Fits.{down-pos}
-use lib.Ieee.Compare.{differs-from-itself}
-use Rattle.cells.specs.Cells.{downDiv, upDiv, ends, cellBy, floorCell, ceilCell, Small, wholeBy}
+use mir.Val.{boolByte}
+use Rattle.cells.specs.Cells.{downDiv, upDiv, ends, cellBy, floorCell, ceilCell}
 
 false-true : {X : Type 0} → false ≡ true → X
 false-true e = absurd (subst T (sym e) tt)
-
-lt-or-ge : (x y : ℕ) → (x < y) ⊎ (y ≤ x)
-lt-or-ge x y = go (ltb x y) refl
-  where
-    go : (b : Bool) → ltb x y ≡ b → (x < y) ⊎ (y ≤ x)
-    go true e = inl (ltb-true x y e)
-    go false e = inr (ltb-false x y e)
 
 -- ---- a / d and its remainder
 
@@ -35,6 +27,9 @@ module _ (a d : ℕ) (p : 0 < d) where
   div-above : (n : ℕ) → n * d ≤ a → n ≤ a / d
   div-above n h = le-div-iff-mul-le {k = d} {x = n} {y = a} p .1 h
 
+  div-least : a / d * d ≤ a
+  div-least = omega (arith, div-add-mod' a d)
+
   -- the quotient falls short of a: there is a fraction, and none where it does not
   up-more : a / d * d < a → upDiv a d ≡ suc (a / d)
   up-more h = rw (ne-eqb (a % d) 0 (λ e. omega (arith, div-add-mod' a d)))
@@ -42,203 +37,46 @@ module _ (a d : ℕ) (p : 0 < d) where
   up-none : a ≤ a / d * d → upDiv a d ≡ a / d
   up-none h = rw (eq-eqb (a % d) 0 (omega (arith, div-add-mod' a d)))
 
-  up-least : a / d ≤ upDiv a d
-  up-least = go (eqb (a % d) 0)
+  up-bounds : (a / d ≤ upDiv a d) × (upDiv a d ≤ suc (a / d))
+  up-bounds = go (eqb (a % d) 0)
     where
-      go : (b : Bool) → a / d ≤ cond b (a / d) (suc (a / d))
-      go true = omega arith
-      go false = omega arith
+      go : (b : Bool) → (a / d ≤ cond b (a / d) (suc (a / d))) × (cond b (a / d) (suc (a / d)) ≤ suc (a / d))
+      go true = (omega arith, omega arith)
+      go false = (omega arith, omega arith)
 
-  -- rounded up, it is still no more than a whole bound
-  up-within : (n : ℕ) → a ≤ n * d → upDiv a d ≤ n
-  up-within n h = go (lt-or-ge (a / d) n)
-    where
-      -- a / d is n or more only where a is n * d
-      whole : n ≤ a / d → a % d ≡ 0
-      whole l = omega (arith, div-add-mod' a d, mul-le-mul-right {m = n} {n = a / d} d l)
-
-      go : (a / d < n) ⊎ (n ≤ a / d) → upDiv a d ≤ n
-      go (inl l) = fewer (eqb (a % d) 0)
-        where
-          fewer : (b : Bool) → cond b (a / d) (suc (a / d)) ≤ n
-          fewer true = omega arith
-          fewer false = omega arith
-      go (inr l) = rw (eq-eqb (a % d) 0 (whole l)) (omega (arith, div-below (suc n) (omega (arith, p, suc-mul n d))))
-
--- a way to make a / d whole: what a whole number bounds stays within it
-pub record Rounding (r : ℕ → ℕ → ℕ) : Type 0 where
-  pub within : (a d n : ℕ) → 0 < d → a ≤ n * d → r a d ≤ n
-  pub above : (a d n : ℕ) → 0 < d → n * d ≤ a → n ≤ r a d
-
-pub downward : Rounding downDiv
-downward = record {
-  within = λ a d n p h. omega (arith, div-below a d p (suc n) (omega (arith, suc-mul n d)));
-  above = λ a d n p h. div-above a d p n h;
-}
-
-pub upward : Rounding upDiv
-upward = record {
-  within = λ a d n p h. up-within a d p n h;
-  above = λ a d n p h. omega (arith, div-above a d p n h, up-least a d p);
-}
-
--- ---- a comparison with a whole number
+-- ---- a float and a whole number
 
 scaled : (x y c : ℕ) → 0 < c → ltb (x * c) (y * c) ≡ ltb x y
-scaled x y c p = go (lt-or-ge x y)
+scaled x y c p = go (ltb x y) refl
   where
-    go : (x < y) ⊎ (y ≤ x) → ltb (x * c) (y * c) ≡ ltb x y
-    go (inl l) = lt-ltb (x * c) (y * c) (mul-lt-mul-of-pos-right l p) ∙ sym (lt-ltb x y l)
-    go (inr l) = le-ltb (x * c) (y * c) (mul-le-mul-right c l) ∙ sym (le-ltb x y l)
+    go : (b : Bool) → ltb x y ≡ b → ltb (x * c) (y * c) ≡ b
+    go true e = lt-ltb (x * c) (y * c) (mul-lt-mul-of-pos-right (ltb-true x y e) p)
+    go false e = le-ltb (x * c) (y * c) (mul-le-mul-right c (ltb-false x y e))
 
-whole-lt : (w : Float) (q : ℕ) (m : ℕ) (e : ℤ) → HasValue w false q 1 → lt w (fin false m e) ≡ ltb (q * down e) (m * up e)
-unfolding lt
-whole-lt nan q m e h = absurd h
-whole-lt (inf t) q m e h = absurd h
-whole-lt (fin true n k) q m e h = false-true (sym (h .0))
-whole-lt (fin false n k) q m e h =
-    let v : n * up k * down e ≡ q * down e * down k = ap (λ (x : ℕ). x * down e) (sym (mul-one (n * up k)) ∙ h .1) ∙ mul-right-comm q (down k) (down e) in
-    rw v (scaled (q * down e) (m * up e) (down k) (down-pos k))
+scaled-below : (s : Bool) (x : ℕ) (t : Bool) (y c : ℕ) → 0 < c → below s (x * c) t (y * c) ≡ below s x t y
+scaled-below false x false y c p = scaled x y c p
+scaled-below false x true y c p = refl
+scaled-below true x false y c p = rw (← add-mul x y c) (rw (zero-mul c) at (scaled 0 (x + y) c p))
+scaled-below true x true y c p = scaled y x c p
 
-whole-not-lt : (w : Float) (q : ℕ) (m : ℕ) (e : ℤ) → HasValue w false q 1 → lt w (fin true m e) ≡ false
-unfolding lt
-whole-not-lt nan q m e h = absurd h
-whole-not-lt (inf t) q m e h = absurd h
-whole-not-lt (fin true n k) q m e h = false-true (sym (h .0))
-whole-not-lt (fin false n k) q m e h = refl
+-- a float of the value n beside m * 2^e: as n * down e beside m * up e
+module _ (t : Bool) (n : ℕ) (s : Bool) (m : ℕ) (e : ℤ) where
+  crossed : (k : ℕ) (j : ℤ) → k * up j * 1 ≡ n * down j → k * up j * down e ≡ n * down e * down j
+  crossed k j h = ap (λ (x : ℕ). x * down e) (sym (mul-one (k * up j)) ∙ h) ∙ mul-right-comm n (down j) (down e)
 
-whole-value : (q : ℕ) → q < 2 ^ 31 → HasValue (ofInt binary64 (pos q)) false q 1
-unfolding ofInt
-whole-value q h = round-whole binary64 false q (omega arith)
-
--- ---- a small number
-
-pub over : (y : Float) → Small y → T (lt (fin true 1 (pos 0)) y)
-unfolding lt
-over nan h = absurd h
-over (inf s) h = absurd h
-over (fin false m e) h = omega (arith, lt→ltb, down-pos e)
-over (fin true m e) h = omega (arith, lt→ltb, down-pos e)
-
-pub under : (y : Float) → Small y → T (lt y (fin false 1 (pos 64)))
-unfolding lt
-under nan h = absurd h
-under (inf s) h = absurd h
-under (fin false m e) h = omega (arith, lt→ltb)
-under (fin true m e) h = omega (arith, lt→ltb, down-pos e)
-
-pub cut : (y : Float) → Small y → toUnsigned 64 y ≡ wholeBy downDiv y
-unfolding toUnsigned
-cut nan h = absurd h
-cut (inf s) h = absurd h
-cut (fin false m e) h = min-eq-left (omega (arith, div-below (m * up e) (down e) (down-pos e) (2 ^ 31) h))
-cut (fin true m e) h = sym (rw h (zero-div (down e)))
-
--- what a small number becomes is below 2^31, or 2^31 itself
-pub at-most : (r : ℕ → ℕ → ℕ) → Rounding r → (y : Float) → Small y → wholeBy r y ≤ 2 ^ 31
-at-most r R nan h = absurd h
-at-most r R (inf s) h = absurd h
-at-most r R (fin false m e) h = R .within (m * up e) (down e) (2 ^ 31) (down-pos e) (omega arith)
-at-most r R (fin true m e) h = R .within (m * up e) (down e) (2 ^ 31) (down-pos e) (omega arith)
-
-pub down-small : (y : Float) → Small y → wholeBy downDiv y < 2 ^ 31
-down-small nan h = absurd h
-down-small (inf s) h = absurd h
-down-small (fin false m e) h = div-below (m * up e) (down e) (down-pos e) (2 ^ 31) h
-down-small (fin true m e) h = div-below (m * up e) (down e) (down-pos e) (2 ^ 31) (omega (arith, down-pos e))
-
--- the whole part as a float falls short of the number where there is a fraction
-pub up-yes : (y : Float) (q : ℕ) → Small y → q ≡ wholeBy downDiv y → lt (ofInt binary64 (pos q)) y ≡ true → q + 1 ≡ wholeBy upDiv y
-up-yes nan q h e t = absurd h
-up-yes (inf s) q h e t = absurd h
-up-yes (fin false m e) q h p t =
-    let l : q < 2 ^ 31 = omega (arith, down-small (fin false m e) h) in
-    let k : q * down e < m * up e = ltb-true _ _ (sym (whole-lt (ofInt binary64 (pos q)) q m e (whole-value q l)) ∙ t) in
-    omega (arith, up-more (m * up e) (down e) (down-pos e) (rw p at k))
-up-yes (fin true m e) q h p t =
-    false-true (sym (whole-not-lt (ofInt binary64 (pos q)) q m e (whole-value q (omega (arith, down-small (fin true m e) h)))) ∙ t)
-
-pub up-no : (y : Float) (q : ℕ) → Small y → q ≡ wholeBy downDiv y → lt (ofInt binary64 (pos q)) y ≡ false → q ≡ wholeBy upDiv y
-up-no nan q h e t = absurd h
-up-no (inf s) q h e t = absurd h
-up-no (fin false m e) q h p t =
-    let l : q < 2 ^ 31 = omega (arith, down-small (fin false m e) h) in
-    let k : m * up e ≤ q * down e = ltb-false _ _ (sym (whole-lt (ofInt binary64 (pos q)) q m e (whole-value q l)) ∙ t) in
-    p ∙ sym (up-none (m * up e) (down e) (down-pos e) (rw p at k))
-up-no (fin true m e) q h p t = p ∙ sym (up-none (m * up e) (down e) (down-pos e) (omega arith))
-
--- ---- where a number lies, by the code's tests
-
-module _ (f g : ℕ → ℕ → ℕ) (F : Rounding f) (G : Rounding g) where
-  -- above -2^31 and below 0
-  pub low-small : (x : Float) → lt x (fin false 0 (pos 0)) ≡ true → lt (fin true 1 (pos 31)) x ≡ true → Small (neg x)
-  unfolding lt neg
-  low-small nan s t = false-true s
-  low-small (inf true) s t = false-true t
-  low-small (inf false) s t = false-true s
-  low-small (fin false m e) s t = absurd (omega (arith, ltb-true))
-  low-small (fin true m e) s t = omega (arith, ltb-true)
-
-  pub low-is : (x : Float) → lt x (fin false 0 (pos 0)) ≡ true → lt (fin true 1 (pos 31)) x ≡ true → negℤ (pos (wholeBy f (neg x))) ≡ cellBy f g x
-  unfolding lt neg
-  low-is nan s t = false-true s
-  low-is (inf true) s t = false-true t
-  low-is (inf false) s t = false-true s
-  low-is (fin false m e) s t = absurd (omega (arith, ltb-true))
-  low-is (fin true m e) s t =
-      rw (min-eq-left {n = f (m * up e) (down e)} {m = 2 ^ 31} (F .within (m * up e) (down e) (2 ^ 31) (down-pos e) (omega (arith, ltb-true))))
-
-  -- at most -2^31
-  pub low-end : (x : Float) → lt x (fin false 0 (pos 0)) ≡ true → lt (fin true 1 (pos 31)) x ≡ false → negℤ (pos (2 ^ 31)) ≡ cellBy f g x
+  whole-left : (w : Float) → HasValue w t n 1 → lt w (fin s m e) ≡ below t (n * down e) s (m * up e)
   unfolding lt
-  low-end nan s t = false-true s
-  low-end (inf true) s t = refl
-  low-end (inf false) s t = false-true s
-  low-end (fin false m e) s t = absurd (omega (arith, ltb-true))
-  low-end (fin true m e) s t =
-      rw (min-eq-right {n = 2 ^ 31} {m = f (m * up e) (down e)} (F .above (m * up e) (down e) (2 ^ 31) (down-pos e) (omega (arith, ltb-false))))
+  whole-left nan h = absurd h
+  whole-left (inf u) h = absurd h
+  whole-left (fin u k j) h = rw (h .0, crossed k j (h .1)) (scaled-below t (n * down e) s (m * up e) (down j) (down-pos j))
 
-  -- from 0 to below 2^31 - 1
-  pub high-small : (x : Float) → lt x (fin false 0 (pos 0)) ≡ false → lt x (fin false 2147483647 (pos 0)) ≡ true → Small x
+  whole-right : (w : Float) → HasValue w t n 1 → lt (fin s m e) w ≡ below s (m * up e) t (n * down e)
   unfolding lt
-  high-small nan s t = false-true t
-  high-small (inf true) s t = false-true (sym s)
-  high-small (inf false) s t = false-true t
-  high-small (fin false m e) s t = omega (arith, ltb-true)
-  high-small (fin true m e) s t = omega (arith, ltb-false)
+  whole-right nan h = absurd h
+  whole-right (inf u) h = absurd h
+  whole-right (fin u k j) h = rw (h .0, crossed k j (h .1)) (scaled-below s (m * up e) t (n * down e) (down j) (down-pos j))
 
-  pub high-is : (x : Float) → lt x (fin false 0 (pos 0)) ≡ false → lt x (fin false 2147483647 (pos 0)) ≡ true → pos (wholeBy g x) ≡ cellBy f g x
-  unfolding lt
-  high-is nan s t = false-true t
-  high-is (inf true) s t = false-true (sym s)
-  high-is (inf false) s t = false-true t
-  high-is (fin false m e) s t =
-      rw (min-eq-left {n = g (m * up e) (down e)} {m = 2 ^ 31 - 1} (G .within (m * up e) (down e) (2 ^ 31 - 1) (down-pos e) (omega (arith, ltb-true))))
-  high-is (fin true m e) s t =
-      let none : m * up e ≡ 0 = omega (arith, ltb-false) in
-      let zg : g (m * up e) (down e) ≡ 0 = omega (arith, G .within (m * up e) (down e) 0 (down-pos e) (omega arith)) in
-      let zf : f (m * up e) (down e) ≡ 0 = omega (arith, F .within (m * up e) (down e) 0 (down-pos e) (omega arith)) in
-      rw (zg, zf)
-
-  pub high-within : (x : Float) → lt x (fin false 0 (pos 0)) ≡ false → lt x (fin false 2147483647 (pos 0)) ≡ true → wholeBy g x ≤ 2 ^ 31
-  high-within x s t = at-most g G x (high-small x s t)
-
-  -- at least 2^31 - 1
-  pub high-end : (x : Float) → lt x (fin false 0 (pos 0)) ≡ false → lt x (fin false 2147483647 (pos 0)) ≡ false → ne x x ≡ false → pos 2147483647 ≡ cellBy f g x
-  unfolding lt ne
-  high-end nan s t n = false-true (sym n)
-  high-end (inf true) s t n = false-true (sym s)
-  high-end (inf false) s t n = refl
-  high-end (fin false m e) s t n =
-      rw (min-eq-right {n = 2 ^ 31 - 1} {m = g (m * up e) (down e)} (G .above (m * up e) (down e) (2 ^ 31 - 1) (down-pos e) (omega (arith, ltb-false))))
-  high-end (fin true m e) s t n = absurd (omega (arith, ltb-false, down-pos e))
-
-  pub no-number : (x : Float) → ne x x ≡ true → pos 0 ≡ cellBy f g x
-  no-number x t = rw (differs-from-itself x (subst T (sym t) tt))
-
--- ---- a cell number as a float is exact, is in that cell, and is its own border
-
--- the number n or -(n + 1), not only one near it: of at most 53 binary digits, so of all of i32
+-- a whole number as a float is that number, not only one near it: of at most 53 binary digits, so of all of i32
 pub float-value : (n : ℕ) → n ≤ 2 ^ 53 → HasValue (ofInt binary64 (pos n)) false n 1
 unfolding ofInt
 float-value n h = round-whole binary64 false n h
@@ -247,45 +85,199 @@ pub float-value-below : (n : ℕ) → suc n ≤ 2 ^ 53 → HasValue (ofInt binar
 unfolding ofInt
 float-value-below n h = round-whole binary64 true (suc n) h
 
-settled : (r : ℕ → ℕ → ℕ) → Rounding r → (m : ℕ) (e : ℤ) (n : ℕ) → m * up e * 1 ≡ n * down e → r (m * up e) (down e) ≡ n
-settled r R m e n h =
-    omega (arith, R .within (m * up e) (down e) n (down-pos e) (omega arith), R .above (m * up e) (down e) n (down-pos e) (omega arith))
+-- m * 2^e with the sign, beside a whole number that is not above 0
+module _ (m : ℕ) (e : ℤ) where
+  under-negative : (n : ℕ) → n ≤ 2 ^ 53 → lt (fin true m e) (ofInt binary64 (negℤ (pos n))) ≡ ltb (n * down e) (m * up e)
+  under-negative zero h = whole-right false 0 true m e (ofInt binary64 (pos 0)) (float-value 0 h) ∙ simp (zero-mul, add-zero)
+  under-negative (suc n) h = whole-right true (suc n) true m e (ofInt binary64 (negsuc n)) (float-value-below n h)
 
-whole-cell : (f g : ℕ → ℕ → ℕ) → Rounding f → Rounding g → (w : Float) (s : Bool) (n : ℕ) → HasValue w s n 1 → cellBy f g w ≡ ends s n
-whole-cell f g F G nan s n h = absurd h
-whole-cell f g F G (inf t) s n h = absurd h
-whole-cell f g F G (fin false m e) s n h = rw (← h .0) (ap (ends false) (settled g G m e n (h .1)))
-whole-cell f g F G (fin true m e) s n h = rw (← h .0) (ap (ends true) (settled f F m e n (h .1)))
+  over-negative : (n : ℕ) → n ≤ 2 ^ 53 → lt (ofInt binary64 (negℤ (pos n))) (fin true m e) ≡ ltb (m * up e) (n * down e)
+  over-negative zero h =
+      whole-left false 0 true m e (ofInt binary64 (pos 0)) (float-value 0 h) ∙ sym (le-ltb (m * up e) (0 * down e) (omega (arith, zero-mul (down e))))
+  over-negative (suc n) h = whole-left true (suc n) true m e (ofInt binary64 (negsuc n)) (float-value-below n h)
 
-pub cell-of-float : (f g : ℕ → ℕ → ℕ) → Rounding f → Rounding g → (z : ℤ) → mag z < 2 ^ 31 → cellBy f g (ofInt binary64 z) ≡ z
-cell-of-float f g F G (pos n) h =
-    whole-cell f g F G (ofInt binary64 (pos n)) false n (float-value n (omega arith)) ∙ ap pos (min-eq-left (omega arith))
-cell-of-float f g F G (negsuc n) h =
-    whole-cell f g F G (ofInt binary64 (negsuc n)) true (suc n) (float-value-below n (omega arith))
-    ∙ ap (λ (k : ℕ). negℤ (pos k)) (min-eq-left {n = suc n} {m = 2 ^ 31} (omega arith))
+-- ---- the floor
 
--- the floor and the ceiling of a cell number are itself
-pub floor-float : (z : ℤ) → mag z < 2 ^ 31 → floorCell (ofInt binary64 z) ≡ z
-unfolding floorCell
-floor-float z h = cell-of-float upDiv downDiv upward downward z h
+-- between the ends of an i32, by the code's tests
+pub record Inside (x : Float) : Type 0 where
+  pub over : lt (fin true 1 (pos 31)) x ≡ true
+  pub under : lt x (fin false 2147483647 (pos 0)) ≡ true
 
-pub ceil-float : (z : ℤ) → mag z < 2 ^ 31 → ceilCell (ofInt binary64 z) ≡ z
-unfolding ceilCell
-ceil-float z h = cell-of-float downDiv upDiv downward upward z h
+-- the whole part of such a number
+module _ (m : ℕ) (e : ℤ) where
+  high-small : Inside (fin false m e) → m * up e / down e < 2 ^ 31 - 1
+  unfolding lt
+  high-small i = div-below (m * up e) (down e) (down-pos e) (2 ^ 31 - 1) (omega (arith, ltb-true, i .under))
 
--- so two cell numbers with one float are one
-pub float-once : (a b : ℤ) → mag a < 2 ^ 31 → mag b < 2 ^ 31 → ofInt binary64 a ≡ ofInt binary64 b → a ≡ b
-float-once a b h k e = sym (floor-float a h) ∙ ap floorCell e ∙ floor-float b k
+  low-small : Inside (fin true m e) → m * up e / down e < 2 ^ 31
+  unfolding lt
+  low-small i = div-below (m * up e) (down e) (down-pos e) (2 ^ 31) (omega (arith, ltb-true, i .over))
+
+  high-part : Inside (fin false m e) → toSigned 63 (fin false m e) ≡ pos (m * up e / down e)
+  unfolding toSigned
+  high-part i = ap pos (min-eq-left {n = m * up e / down e} {m = 2 ^ 63 - 1} (omega (arith, high-small i)))
+
+  low-part : Inside (fin true m e) → toSigned 63 (fin true m e) ≡ negℤ (pos (m * up e / down e))
+  unfolding toSigned
+  low-part i = ap (λ (n : ℕ). negℤ (pos n)) (min-eq-left {n = m * up e / down e} {m = 2 ^ 63} (omega (arith, low-small i)))
+
+less-one : (n : ℕ) → negℤ (pos n) -ℤ pos 1 ≡ negℤ (pos (suc n))
+less-one zero = -ℤ-one (pos 0)
+less-one (suc n) = -ℤ-one (negsuc n)
+
+-- the size of a negative one: rounded up where its whole part falls short of it
+floor-below : (a d : ℕ) → 0 < d → a / d < 2 ^ 31 → negℤ (pos (a / d)) -ℤ pos (boolByte (ltb (a / d * d) a)) ≡ negℤ (pos (min (upDiv a d) (2 ^ 31)))
+floor-below a d p h = go (ltb (a / d * d) a) refl
+  where
+    go : (b : Bool) → ltb (a / d * d) a ≡ b → negℤ (pos (a / d)) -ℤ pos (boolByte b) ≡ negℤ (pos (min (upDiv a d) (2 ^ 31)))
+    go true t = rw (up-more a d p (ltb-true (a / d * d) a t), min-eq-left {n = suc (a / d)} {m = 2 ^ 31} h) (less-one (a / d))
+    go false t = rw (up-none a d p (ltb-false (a / d * d) a t), min-eq-left {n = a / d} {m = 2 ^ 31} (omega arith)) (+ℤ-idr (negℤ (pos (a / d))))
+
+pub floor-is : (x : Float) → Inside x → toSigned 63 x -ℤ pos (boolByte (lt x (ofInt binary64 (toSigned 63 x)))) ≡ floorCell x
+unfolding lt floorCell
+floor-is nan i = false-true (i .over)
+floor-is (inf true) i = false-true (i .over)
+floor-is (inf false) i = false-true (i .under)
+floor-is (fin false m e) i =
+    let a = m * up e in let d = down e in
+    let h : a / d < 2 ^ 31 - 1 = high-small m e i in
+    let test : lt (fin false m e) (ofInt binary64 (pos (a / d))) ≡ false =
+      whole-right false (a / d) false m e (ofInt binary64 (pos (a / d))) (float-value (a / d) (omega arith)) ∙ le-ltb a (a / d * d) (div-least a d (down-pos e)) in
+    rw (high-part m e i, test) (ap pos (add-zero (a / d) ∙ sym (min-eq-left {n = a / d} {m = 2 ^ 31 - 1} (omega arith))))
+floor-is (fin true m e) i =
+    let h : m * up e / down e < 2 ^ 31 = low-small m e i in
+    rw (low-part m e i, under-negative m e (m * up e / down e) (omega arith)) (floor-below (m * up e) (down e) (down-pos e) h)
+
+-- what is asked of such a number before its whole part is taken
+or-left : (a b : Bool) → T a → T (a || b)
+or-left true b t = t
+
+lt-le : (x y : Float) → T (lt x y) → T (le x y)
+unfolding le
+lt-le x y t = or-left (lt x y) (eq x y) t
+
+pub part-asked : (x : Float) → Inside x → T (le (fin true 1 (pos 63)) x) × T (lt x (fin false 1 (pos 63)))
+unfolding lt
+part-asked nan i = false-true (i .over)
+part-asked (inf true) i = false-true (i .over)
+part-asked (inf false) i = false-true (i .under)
+part-asked (fin false m e) i = (lt-le (fin true 1 (pos 63)) (fin false m e) (omega (arith, lt→ltb, down-pos e)), omega (arith, lt→ltb, ltb-true, i .under))
+part-asked (fin true m e) i = (lt-le (fin true 1 (pos 63)) (fin true m e) (omega (arith, lt→ltb, ltb-true, i .over)), omega (arith, lt→ltb, down-pos e))
+
+negative-range : (n : ℕ) → n ≤ 2 ^ 31 → mag (negℤ (pos n)) < 2 ^ 31
+negative-range zero h = omega arith
+negative-range (suc n) h = omega arith
+
+pub part-range : (x : Float) → Inside x → mag (toSigned 63 x) < 2 ^ 31
+unfolding lt
+part-range nan i = false-true (i .over)
+part-range (inf true) i = false-true (i .over)
+part-range (inf false) i = false-true (i .under)
+part-range (fin false m e) i = rw (high-part m e i) (omega (arith, high-small m e i))
+part-range (fin true m e) i = rw (low-part m e i) (negative-range (m * up e / down e) (omega (arith, low-small m e i)))
+
+-- outside of that: an end, and 0 for NaN
+pub floor-low : (x : Float) → lt x (fin false 2147483647 (pos 0)) ≡ true → lt (fin true 1 (pos 31)) x ≡ false → negℤ (pos (2 ^ 31)) ≡ floorCell x
+unfolding lt floorCell
+floor-low nan s t = false-true s
+floor-low (inf true) s t = refl
+floor-low (inf false) s t = false-true s
+floor-low (fin false m e) s t = absurd (omega (arith, ltb-false, down-pos e))
+floor-low (fin true m e) s t =
+    let h : 2 ^ 31 ≤ m * up e / down e = div-above (m * up e) (down e) (down-pos e) (2 ^ 31) (omega (arith, ltb-false)) in
+    rw (min-eq-right {n = 2 ^ 31} {m = upDiv (m * up e) (down e)} (omega (arith, up-bounds (m * up e) (down e) (down-pos e) .0)))
+
+pub floor-high : (x : Float) → lt x (fin false 2147483647 (pos 0)) ≡ false → lt (fin false 0 (pos 0)) x ≡ true → pos 2147483647 ≡ floorCell x
+unfolding lt floorCell
+floor-high nan s t = false-true t
+floor-high (inf true) s t = false-true t
+floor-high (inf false) s t = refl
+floor-high (fin false m e) s t =
+    let h : 2 ^ 31 - 1 ≤ m * up e / down e = div-above (m * up e) (down e) (down-pos e) (2 ^ 31 - 1) (omega (arith, ltb-false)) in
+    ap pos (sym (min-eq-right {n = 2 ^ 31 - 1} {m = m * up e / down e} h))
+floor-high (fin true m e) s t = false-true t
+
+pub floor-none : (x : Float) → lt x (fin false 2147483647 (pos 0)) ≡ false → lt (fin false 0 (pos 0)) x ≡ false → pos 0 ≡ floorCell x
+unfolding lt floorCell
+floor-none nan s t = refl
+floor-none (inf true) s t = false-true (sym s)
+floor-none (inf false) s t = false-true (sym t)
+floor-none (fin false m e) s t = absurd (omega (arith, ltb-false, down-pos e))
+floor-none (fin true m e) s t = absurd (omega (arith, ltb-false, down-pos e))
+
+-- ---- the ceiling
+
+more-one : (n : ℕ) → negℤ (pos (suc n)) +ℤ pos 1 ≡ negℤ (pos n)
+more-one zero = +ℤ-one (negsuc 0)
+more-one (suc n) = +ℤ-one (negsuc (suc n))
+
+not-highest : (n : ℕ) → ltZ (negℤ (pos n)) (pos 2147483647) ≡ true
+not-highest zero = refl
+not-highest (suc n) = refl
+
+-- of a size a / d: the ceiling above 0, and below
+module _ (a d : ℕ) (p : 0 < d) where
+  ceil-above : (n : ℕ) → n ≡ min (a / d) (2 ^ 31 - 1) → n + boolByte (ltb (n * d) a && ltb n (2 ^ 31 - 1)) ≡ min (upDiv a d) (2 ^ 31 - 1)
+  ceil-above n e = go (ltb (n * d) a) (ltb n (2 ^ 31 - 1)) refl refl
+    where
+      least : n < 2 ^ 31 - 1 → n ≡ a / d
+      least h = omega arith
+
+      go : (s t : Bool) → ltb (n * d) a ≡ s → ltb n (2 ^ 31 - 1) ≡ t → n + boolByte (s && t) ≡ min (upDiv a d) (2 ^ 31 - 1)
+      go true true k h = let small = ltb-true n (2 ^ 31 - 1) h in omega (arith, up-more a d p (rw (least small) at (ltb-true (n * d) a k)), least small)
+      go false true k h = let small = ltb-true n (2 ^ 31 - 1) h in omega (arith, up-none a d p (rw (least small) at (ltb-false (n * d) a k)), least small)
+      go true false k h = omega (arith, up-bounds a d p .0, ltb-false n (2 ^ 31 - 1) h)
+      go false false k h = omega (arith, up-bounds a d p .0, ltb-false n (2 ^ 31 - 1) h)
+
+  ceil-below : (n : ℕ) → n ≡ min (upDiv a d) (2 ^ 31) → negℤ (pos n) +ℤ pos (boolByte (ltb a (n * d) && true)) ≡ negℤ (pos (min (a / d) (2 ^ 31)))
+  ceil-below n e = go (ltb a (n * d)) refl
+    where
+      go : (s : Bool) → ltb a (n * d) ≡ s → negℤ (pos n) +ℤ pos (boolByte (s && true)) ≡ negℤ (pos (min (a / d) (2 ^ 31)))
+      go true k =
+          let h : a / d < n = div-below a d p n (ltb-true a (n * d) k) in
+          let next : n ≡ suc (a / d) = omega (arith, up-bounds a d p .1) in
+          rw (next, min-eq-left {n = a / d} {m = 2 ^ 31} (omega arith)) (more-one (a / d))
+      go false k =
+          let h : n ≤ a / d = div-above a d p n (ltb-false a (n * d) k) in
+          let same : min (a / d) (2 ^ 31) ≡ n = omega (arith, up-bounds a d p .0) in
+          rw same (+ℤ-idr (negℤ (pos n)))
+
+-- no number is below NaN, and none below the negative infinity
+below-nan : (w : Float) → lt w nan ≡ false
+unfolding lt
+below-nan nan = refl
+below-nan (inf s) = refl
+below-nan (fin s m e) = refl
+
+below-lowest : (w : Float) → lt w (inf true) ≡ false
+unfolding lt
+below-lowest nan = refl
+below-lowest (inf true) = refl
+below-lowest (inf false) = refl
+below-lowest (fin s m e) = refl
+
+and-false : (b : Bool) → (b && false) ≡ false
+and-false true = refl
+and-false false = refl
+
+-- the floor, or one more where x lies above it and it is not the last cell
+pub ceil-is : (x : Float) → floorCell x +ℤ pos (boolByte (lt (ofInt binary64 (floorCell x)) x && ltZ (floorCell x) (pos 2147483647))) ≡ ceilCell x
+unfolding floorCell ceilCell
+ceil-is nan = rw (below-nan (ofInt binary64 (pos 0)))
+ceil-is (inf true) = rw (below-lowest (ofInt binary64 (negsuc 2147483647)))
+ceil-is (inf false) = rw (and-false (lt (ofInt binary64 (pos 2147483647)) (inf false)))
+ceil-is (fin false m e) =
+    let n = min (m * up e / down e) (2 ^ 31 - 1) in
+    rw (whole-left false n false m e (ofInt binary64 (pos n)) (float-value n (omega arith))) (ap pos (ceil-above (m * up e) (down e) (down-pos e) n refl))
+ceil-is (fin true m e) =
+    let n = min (upDiv (m * up e) (down e)) (2 ^ 31) in
+    rw (over-negative m e n (omega arith), not-highest n) (ceil-below (m * up e) (down e) (down-pos e) n refl)
 
 -- ---- a cell number is an i32
 
 ends-range : (s : Bool) (n : ℕ) → mag (ends s n) < 2 ^ 31
 ends-range false n = omega (arith, min-le-right n (2 ^ 31 - 1))
-ends-range true n = go (min n (2 ^ 31)) (min-le-right n (2 ^ 31))
-  where
-    go : (k : ℕ) → k ≤ 2 ^ 31 → mag (negℤ (pos k)) < 2 ^ 31
-    go zero h = omega arith
-    go (suc k) h = omega arith
+ends-range true n = negative-range (min n (2 ^ 31)) (min-le-right n (2 ^ 31))
 
 cell-range : (f g : ℕ → ℕ → ℕ) (x : Float) → mag (cellBy f g x) < 2 ^ 31
 cell-range f g nan = omega arith

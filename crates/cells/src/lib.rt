@@ -11,78 +11,38 @@ pub use regions::Spot;
 pub use regions::first_in;
 pub use regions::next_in;
 ghost use mathlib.Core.Path.{_≡_};
-ghost use Prim.Native.Nat.{_<_, _≤_, _^_};
-ghost use lib.IntN.{pos, negℤ};
 ghost use lib.Ieee.{binary64, ofInt};
-ghost use Rattle.cells.specs.Cells.{floorCell, ceilCell, Small, wholeBy, downDiv, upDiv};
+ghost use Rattle.cells.specs.Cells.{floorCell, ceilCell};
 
 // The ends of an i32.
 const LOWEST: i64 = -2147483648;
 
 const HIGHEST: i64 = 2147483647;
 
-// The whole part of a small number.
-fn down(y: f64) -> u64
-    requires { ⌜ Small y ⌝ }
-    ensures { λ r. ⌜ r ≡ wholeBy downDiv y ⌝ }
-{
-    std::num::truncating_f64_to_u64(y)
-}
-
-// The least whole number that is not below a small number.
-fn up(y: f64) -> u64
-    requires { ⌜ Small y ⌝ }
-    ensures { λ r. ⌜ r ≡ wholeBy upDiv y ⌝ }
-{
-    let q = down(y);
-    let w = (q as u32) as f64;
-    if w < y { q + 1 } else { q }
-}
-
-// A size with the sign turned.
-fn minus(n: u64) -> i64
-    requires { ⌜ n ≤ 2 ^ 31 ⌝ }
-    ensures { λ r. ⌜ r ≡ negℤ (pos n) ⌝ }
-{
-    0 - (n as i64)
-}
-
-// The cell that x lies in: its floor. Outside the range of an i32 the nearest end, of NaN 0.
+// The cell that x lies in: its floor, which is the whole part, or one less where that lies above x. Outside the range of an i32 the nearest end, of NaN 0.
 pub fn floor_cell(x: f64) -> i64
     ensures { λ r. ⌜ r ≡ floorCell x ⌝ }
 {
-    if x < 0.0 {
-        if -2147483648.0 < x {
-            return minus(up(-x));
-        }
-        return LOWEST;
-    }
     if x < 2147483647.0 {
-        return down(x) as i64;
+        if -2147483648.0 < x {
+            let whole = std::num::truncating_f64_to_i64(x);
+            whole - ((x < (whole as f64)) as i64)
+        } else {
+            LOWEST
+        }
+    } else if 0.0 < x {
+        HIGHEST
+    } else {
+        0
     }
-    if x != x {
-        return 0;
-    }
-    HIGHEST
 }
 
-// The first cell border at or above x: its ceiling, with the same ends.
+// The first cell border at or above x: its ceiling, with the same ends. It is the floor, or one more where that lies below x.
 pub fn ceil_cell(x: f64) -> i64
     ensures { λ r. ⌜ r ≡ ceilCell x ⌝ }
 {
-    if x < 0.0 {
-        if -2147483648.0 < x {
-            return minus(down(-x));
-        }
-        return LOWEST;
-    }
-    if x < 2147483647.0 {
-        return up(x) as i64;
-    }
-    if x != x {
-        return 0;
-    }
-    HIGHEST
+    let floor = floor_cell(x);
+    floor + ((((floor as f64) < x) & (floor < HIGHEST)) as i64)
 }
 
 // A cell number as a float: exact for every number of at most 53 binary digits, and else the nearest.

@@ -104,62 +104,63 @@ fn sized(word: u64) -> f64 {
     with_exponent(word, 1023 + (word >> 52) % 33)
 }
 
-// The argument of a kind that a word stands for: any pattern; a number about the range of an i32; one below 1; a whole number or a neighbour of
-// one; a half.
-fn argument(kind: u64, word: u64) -> f64 {
+// The whole number below one of a size from 1 to below 2^33.
+fn whole(word: u64) -> f64 {
+    cells::float_cell(cells::floor_cell(sized(word)))
+}
+
+// The argument of a kind at a place, from a word: any pattern; a number about the range of an i32; one below 1; a whole number or a neighbour of one;
+// a half; a chosen one.
+fn argument(kind: u64, place: u64, word: u64) -> f64 {
     match kind {
         0 => floats::float_of(word),
         1 => sized(word),
         2 => with_exponent(word, 1022 - (word >> 52) % 60),
-        3 => {
-            let whole = floats::bits_of(cells::float_cell(cells::floor_cell(sized(word))));
-            floats::float_of(std::num::wrapping_sub_u64(
-                std::num::wrapping_add_u64(whole, word % 3),
-                1,
-            ))
-        }
-        _ => cells::float_cell(cells::floor_cell(sized(word))) + 0.5,
+        3 => beside(whole(word), word % 3),
+        4 => whole(word) + 0.5,
+        _ => floats::float_of(CHOSEN[(place % 56) as usize]),
     }
+}
+
+// The float before x, x itself, or the one after it.
+fn beside(x: f64, step: u64) -> f64 {
+    let next = std::num::wrapping_add_u64(floats::bits_of(x), step);
+    floats::float_of(std::num::wrapping_sub_u64(next, 1))
+}
+
+fn put(byte: u8) {
+    io::write_all(STDOUT_FILENO, &[byte]);
 }
 
 fn print(kind: u64, count: u64, d: Digest) {
     io::print_decimal(STDOUT_FILENO, kind);
-    io::write_all(STDOUT_FILENO, b" ");
+    put(b' ');
     io::print_decimal(STDOUT_FILENO, count);
-    io::write_all(STDOUT_FILENO, b" ");
+    put(b' ');
     io::print_hex(STDOUT_FILENO, d.floor, 16);
-    io::write_all(STDOUT_FILENO, b" ");
+    put(b' ');
     io::print_hex(STDOUT_FILENO, d.ceil, 16);
-    io::write_all(STDOUT_FILENO, b"\n");
+    put(b'\n');
 }
 
-fn generated(kind: u64) {
+// The digests of so many arguments of a kind.
+fn run(kind: u64, count: u64) {
     let mut d = Digest { floor: 0, ceil: 0 };
     let mut word = 0x9e37_79b9_7f4a_7c15;
     let mut k: u64 = 0;
-    while k < EACH {
+    while k < count {
         word = next(word);
-        d = folded(d, argument(kind, word));
+        d = folded(d, argument(kind, k, word));
         k += 1;
     }
-    print(kind, EACH, d);
-}
-
-fn chosen() {
-    let mut d = Digest { floor: 0, ceil: 0 };
-    let mut k: usize = 0;
-    while k < 56 {
-        d = folded(d, floats::float_of(CHOSEN[k]));
-        k += 1;
-    }
-    print(5, 56, d);
+    print(kind, count, d);
 }
 
 fn main() {
-    generated(0);
-    generated(1);
-    generated(2);
-    generated(3);
-    generated(4);
-    chosen();
+    run(0, EACH);
+    run(1, EACH);
+    run(2, EACH);
+    run(3, EACH);
+    run(4, EACH);
+    run(5, 56);
 }

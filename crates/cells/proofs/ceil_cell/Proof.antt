@@ -1,63 +1,32 @@
 -- `cells::ceil_cell` meets its contract. Assumes nothing.
-use native.Mathlib.Omega.{arith}
-use mathlib.Core.Path.{_∙_, sym, ap}
+use mathlib.Core.Path.{_≡_, _∙_}
 use borrow.Author.Needs.{needs}
-use Prim.Native.Nat.{ℕ}
-use lib.IntN.{pos, negℤ}
-use lib.Ieee.{ofBits, neg}
 use mir.Syntax.{w64}
-use mir.Facts.{toZ-ofZ, toZ-pos}
-use Rattle.cells.specs.Cells.{ceilCell, downDiv, upDiv}
-use Rattle.cells.specs.CellLaws.{downward, upward, at-most, low-small, low-is, low-end, high-small, high-is, high-end, high-within, no-number}
+use mir.Val.{toZ, ofZ}
+use mir.Facts.{toZ-ofZ}
+use Rattle.cells.specs.Cells.{floorCell}
+use Rattle.cells.specs.CellLaws.{ceil-is, floor-range, ceil-range}
+use Rattle.cells.specs.Whole.{bit, cell-fits, exact-cell}
 use Rattle.cells.proofs.ceil_cell.Statement.{statement}
 use Rattle.cells.proofs.ceil_cell.Tie as tie
 
-down-requires : tie.Need-down-requires
-unfolding ofBits neg
-down-requires c κs = low-small downDiv upDiv downward upward _ (c .before .if1 .taken) (c .if2 .taken)
+floor : (c : tie.After-floor-cell) → toZ w64 (ofZ w64 (c .floor-cell .result)) ≡ floorCell (c .before .args .x)
+floor c = toZ-ofZ (search needs) ∙ c .floor-cell .ensures
 
-minus-requires : tie.Need-minus-requires
-unfolding ofBits neg
-minus-requires c κs = omega (arith, at-most downDiv downward (neg (c .before .before .before .args .x)) (low-small downDiv upDiv downward upward (c .before .before .before .args .x) (c .before .before .if1 .taken) (c .before .if2 .taken)))
+floor-cell-requires : tie.Need-floor-cell-requires
+floor-cell-requires c κs = tt
 
-returns : tie.Need-returns
-unfolding ofBits neg ceilCell
-returns c = toZ-ofZ (search needs) ∙ c .minus .ensures ∙ ap (λ (n : ℕ). negℤ (pos n)) (c .before .down .ensures) ∙ low-is downDiv upDiv downward upward _ (c .before .before .before .if1 .taken) (c .before .before .if2 .taken)
-
-returns-2 : tie.Need-returns-2
-unfolding ofBits neg ceilCell
-returns-2 c = low-end downDiv upDiv downward upward _ (c .before .if1 .taken) (c .if2 .left)
-
-up-requires : tie.Need-up-requires
-unfolding ofBits neg
-up-requires c κs = high-small downDiv upDiv downward upward _ (c .before .if1 .left) (c .if3 .taken)
+int-to-float-result : tie.Need-int-to-float-result
+int-to-float-result c = rw (floor (c .before)) (exact-cell _ (floor-range _))
 
 cast-result : tie.Need-cast-result
-unfolding ofBits
-cast-result c = record { sfits = omega (arith, high-within downDiv upDiv downward upward _ (c .before .before .if1 .left) (c .before .if3 .taken)) }
+cast-result c = search needs
 
-returns-3 : tie.Need-returns-3
-unfolding ofBits neg ceilCell
-returns-3 c = toZ-pos w64 (omega (arith, high-within downDiv upDiv downward upward _ (c .before .before .if1 .left) (c .before .if3 .taken))) ∙ ap pos (c .up .ensures) ∙ high-is downDiv upDiv downward upward _ (c .before .before .if1 .left) (c .before .if3 .taken)
+add-result : tie.Need-add-result
+add-result c = rw (floor (c .before), bit, ceil-is) (cell-fits _ (ceil-range _))
 
-returns-4 : tie.Need-returns-4
-unfolding ofBits neg ceilCell
-returns-4 c = no-number downDiv upDiv downward upward _ (c .if4 .taken)
-
-returns-5 : tie.Need-returns-5
-unfolding ofBits neg ceilCell
-returns-5 c = high-end downDiv upDiv downward upward _ (c .before .before .if1 .left) (c .before .if3 .left) (c .if4 .left)
+returns : tie.Need-returns
+returns c = rw (floor (c .before), bit, ceil-is) (toZ-ofZ (cell-fits _ (ceil-range _)))
 
 pub ceil-cell-spec : {M : Type 1} → statement M
-ceil-cell-spec =
-    tie.close
-    (tie.spec
-    down-requires
-    minus-requires
-    returns
-    returns-2
-    up-requires
-    cast-result
-    returns-3
-    returns-4
-    returns-5)
+ceil-cell-spec = tie.close (tie.spec floor-cell-requires int-to-float-result cast-result add-result returns)

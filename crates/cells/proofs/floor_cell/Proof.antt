@@ -1,63 +1,58 @@
 -- `cells::floor_cell` meets its contract. Assumes nothing.
-use native.Mathlib.Omega.{arith}
-use mathlib.Core.Path.{_∙_, sym, ap}
+use mathlib.Core.Path.{_≡_, _∙_}
 use borrow.Author.Needs.{needs}
-use Prim.Native.Nat.{ℕ}
-use lib.IntN.{pos, negℤ}
-use lib.Ieee.{ofBits, neg}
+use lib.Ieee.{ofBits, neg, toSigned}
 use mir.Syntax.{w64}
-use mir.Facts.{toZ-ofZ, toZ-pos}
-use Rattle.cells.specs.Cells.{floorCell, downDiv, upDiv}
-use Rattle.cells.specs.CellLaws.{downward, upward, at-most, low-small, low-is, low-end, high-small, high-is, high-end, high-within, no-number}
+use mir.Val.{toZ, ofZ}
+use mir.Facts.{toZ-ofZ}
+use Rattle.cells.specs.CellLaws.{Inside, part-asked, part-range, floor-is, floor-low, floor-high, floor-none, floor-range}
+use Rattle.cells.specs.Whole.{bit, cell-fits, exact-cell}
 use Rattle.cells.proofs.floor_cell.Statement.{statement}
 use Rattle.cells.proofs.floor_cell.Tie as tie
 
-up-requires : tie.Need-up-requires
+inside : (c : tie.Then2) → Inside (c .before .before .args .x)
 unfolding ofBits neg
-up-requires c κs = low-small upDiv downDiv upward downward _ (c .before .if1 .taken) (c .if2 .taken)
+inside c = record { over = c .if2 .taken; under = c .before .if1 .taken }
 
-minus-requires : tie.Need-minus-requires
-unfolding ofBits neg
-minus-requires c κs = omega (arith, at-most upDiv upward (neg (c .before .before .before .args .x)) (low-small upDiv downDiv upward downward (c .before .before .before .args .x) (c .before .before .if1 .taken) (c .before .if2 .taken)))
+part : (c : tie.After-truncating-f64-to-i64) → toZ w64 (ofZ w64 (c .truncating-f64-to-i64 .result)) ≡ toSigned 63 (c .before .before .before .args .x)
+part c = toZ-ofZ (search needs) ∙ c .truncating-f64-to-i64 .ensures
 
-returns : tie.Need-returns
-unfolding ofBits neg floorCell
-returns c = toZ-ofZ (search needs) ∙ c .minus .ensures ∙ ap (λ (n : ℕ). negℤ (pos n)) (c .before .up .ensures) ∙ low-is upDiv downDiv upward downward _ (c .before .before .before .if1 .taken) (c .before .before .if2 .taken)
+truncating-f64-to-i64-requires : tie.Need-truncating-f64-to-i64-requires
+truncating-f64-to-i64-requires c κs = part-asked _ (inside c)
 
-returns-2 : tie.Need-returns-2
-unfolding ofBits neg floorCell
-returns-2 c = low-end upDiv downDiv upward downward _ (c .before .if1 .taken) (c .if2 .left)
-
-down-requires : tie.Need-down-requires
-unfolding ofBits neg
-down-requires c κs = high-small upDiv downDiv upward downward _ (c .before .if1 .left) (c .if3 .taken)
+int-to-float-result : tie.Need-int-to-float-result
+int-to-float-result c = rw (part (c .before)) (exact-cell _ (part-range _ (inside (c .before .before))))
 
 cast-result : tie.Need-cast-result
-unfolding ofBits
-cast-result c = record { sfits = omega (arith, high-within upDiv downDiv upward downward _ (c .before .before .if1 .left) (c .before .if3 .taken)) }
+cast-result c = search needs
+
+sub-result : tie.Need-sub-result
+sub-result c = rw (part (c .before), bit, floor-is _ (inside (c .before .before))) (cell-fits _ (floor-range _))
+
+returns : tie.Need-returns
+returns c = rw (part (c .before), bit, floor-is _ (inside (c .before .before))) (toZ-ofZ (cell-fits _ (floor-range _)))
+
+returns-2 : tie.Need-returns-2
+unfolding ofBits neg
+returns-2 c = floor-low _ (c .before .if1 .taken) (c .if2 .left)
 
 returns-3 : tie.Need-returns-3
-unfolding ofBits neg floorCell
-returns-3 c = toZ-pos w64 (omega (arith, high-within upDiv downDiv upward downward _ (c .before .before .if1 .left) (c .before .if3 .taken))) ∙ ap pos (c .down .ensures) ∙ high-is upDiv downDiv upward downward _ (c .before .before .if1 .left) (c .before .if3 .taken)
+unfolding ofBits
+returns-3 c = floor-high _ (c .before .if1 .left) (c .if3 .taken)
 
 returns-4 : tie.Need-returns-4
-unfolding ofBits neg floorCell
-returns-4 c = no-number upDiv downDiv upward downward _ (c .if4 .taken)
-
-returns-5 : tie.Need-returns-5
-unfolding ofBits neg floorCell
-returns-5 c = high-end upDiv downDiv upward downward _ (c .before .before .if1 .left) (c .before .if3 .left) (c .if4 .left)
+unfolding ofBits
+returns-4 c = floor-none _ (c .before .if1 .left) (c .if3 .left)
 
 pub floor-cell-spec : {M : Type 1} → statement M
 floor-cell-spec =
     tie.close
     (tie.spec
-    up-requires
-    minus-requires
+    truncating-f64-to-i64-requires
+    int-to-float-result
+    cast-result
+    sub-result
     returns
     returns-2
-    down-requires
-    cast-result
     returns-3
-    returns-4
-    returns-5)
+    returns-4)

@@ -1,14 +1,14 @@
--- `cells_check::generated` meets its contract: the loop counts to 4096. Assumes nothing.
+-- `cells_check::run` meets its contract: the loop counts to `count`. Assumes nothing.
 use Prim.Native.Nat.{_≤_, _-_}
 use borrow.Author.Needs.{needs}
-use Rattle.cells_check.proofs.generated.Statement.{statement}
-use Rattle.cells_check.proofs.generated.Tie as tie
+use Rattle.cells_check.proofs.run.Statement.{statement}
+use Rattle.cells_check.proofs.run.Tie as tie
 
 abbrev Inv-loop : tie.InvT-loop
-Inv-loop kind d₀ word₀ k₀ d word k = k ≤ 4096
+Inv-loop kind count d₀ word₀ k₀ d word k = k ≤ count
 
 abbrev μ-loop : tie.MeasureT-loop
-μ-loop kind d₀ word₀ k₀ d word k = 4096 - k
+μ-loop kind count d₀ word₀ k₀ d word k = count - k
 
 loop-holds : tie.Need-loop-holds Inv-loop μ-loop
 loop-holds c = search needs
@@ -37,8 +37,8 @@ print-requires c κs = search needs
 returns : tie.Need-returns Inv-loop μ-loop
 returns c = search needs
 
-pub generated-spec : {M : Type 1} → statement M
-generated-spec =
+pub run-spec : {M : Type 1} → statement M
+run-spec =
     tie.close
     (tie.spec
     Inv-loop
