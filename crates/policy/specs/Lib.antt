@@ -3,5 +3,6 @@ pub mod Answers
 pub mod Doors
 pub mod Permission
 pub mod Request
+pub mod DoorLaws
 pub mod PermissionLaws
 pub mod Unique

@@ -1,22 +1,31 @@
 -- The permission byte by cases, and a table filled from the front. Assumes nothing.
 use mathlib.Core.Path.{_≡_, refl, ap}
-use mathlib.Core.Bool.{Bool, not, _&&_, cond}
+use mathlib.Core.Bool.{Bool, true, false, not, _&&_, cond}
 use mathlib.Core.List.{List, [], _∷_, _++_, map, append-nil}
 use Prim.Native.Nat.{ℕ, zero, suc, _+_, _<_, _≤_}
 use native.Mathlib.Nat.{not-suc-le-zero, le-of-suc-le-suc}
 use native.Mathlib.Numerals.{add-one}
 use native.Mathlib.Omega.{arith}
+use lib.Bits.{bitAnd}
 use lib.Dec.{eqb}
 use lib.ListN.{length, getD, set, take, drop, drop-of-length-le}
 use lib.Seq.{take-all}
 use Rattle.policy.specs.declared.policy.WalkPolicy.{WalkPolicy}
-use Rattle.policy.specs.Answers.{wall, through}
+use Rattle.policy.specs.declared.doors.Passage.{Passage}
+use Rattle.policy.specs.declared.doors.Passage.the-variants.{Shape, Through, Wall}
+use Rattle.policy.specs.Answers.{passageNumber, wall, through}
 use Rattle.policy.specs.Doors.{doorPassage}
 use Rattle.policy.specs.Permission.{forbidden, permission}
 
 -- the permission byte by a passage's number and by whether a flag is forbidden
 abbrev pub byteOf : ℕ → Bool → ℕ
 byteOf passage bad = cond (not bad && not (eqb passage wall)) 1 0 + cond (not bad) 2 0 + cond (not (eqb passage through)) 4 0
+
+-- a forbidden flag leaves of the byte one bit: whether the state collides
+pub forbidden-byte : (passage : Passage) → bitAnd (byteOf (passageNumber passage) false) 4 ≡ byteOf (passageNumber passage) true
+forbidden-byte Shape = refl
+forbidden-byte Through = refl
+forbidden-byte Wall = refl
 
 pub byte : (p : WalkPolicy) (w : Bool) (f passage : ℕ) (bad : Bool) → doorPassage p f ≡ passage → forbidden p w f ≡ bad → permission p w f ≡ byteOf passage bad
 unfolding permission

@@ -16,6 +16,13 @@ const SUPPORT: u8 = 2;
 
 const COLLIDES: u8 = 4;
 
+// The permission byte by how a state is met, where no flag is forbidden.
+const SHAPED: u8 = OCCUPIED + SUPPORT + COLLIDES;
+
+const CROSSED: u8 = OCCUPIED + SUPPORT;
+
+const WALLED: u8 = SUPPORT + COLLIDES;
+
 // A search's range around the body, the nodes that it retains, and the highest drop on its way.
 const PATH_MAX_RANGE: f64 = 16.0;
 
@@ -53,25 +60,6 @@ pub struct Asked {
 }
 
 impl WalkPolicy {
-    // How a breaker meets a door with these flags. It alone tells open from closed and iron from wood.
-    fn breaker_passage(self, flags: Flags) -> Passage
-        ensures { λ r. ⌜ passageNumber r ≡ doorCase true true (self .«can_pass_doors») (self .«can_open_doors») (self .«can_open_iron_doors») (has OPEN (flags .bits)) (has IRON-DOOR (flags .bits)) ⌝ }
-    {
-        if !self.can_pass_doors {
-            return Passage::Wall;
-        }
-        if flags.has(Flags::OPEN) {
-            return Passage::Shape;
-        }
-        if !flags.has(Flags::IRON_DOOR) {
-            return Passage::Through;
-        }
-        if self.can_open_iron_doors {
-            return Passage::Through;
-        }
-        Passage::Wall
-    }
-
     // How a state with these flags is met.
     pub fn door_passage(self, flags: Flags) -> Passage
         ensures { λ r. ⌜ passageNumber r ≡ doorPassage self (flags .bits) ⌝ }
@@ -79,49 +67,36 @@ impl WalkPolicy {
         if !flags.has(Flags::DOOR) {
             return Passage::Shape;
         }
+        let mut crosses = self.can_open_doors;
+        let mut passes = self.can_pass_doors;
+        // A breaker alone tells open from closed and iron from wood.
         if self.door_breaker {
-            return self.breaker_passage(flags);
+            let open = flags.has(Flags::OPEN);
+            let iron = flags.has(Flags::IRON_DOOR);
+            crosses = passes & !open & (self.can_open_iron_doors | !iron);
+            passes = passes & open;
         }
-        if self.can_open_doors {
+        if crosses {
             return Passage::Through;
         }
-        if self.can_pass_doors {
+        if passes {
             return Passage::Shape;
         }
         Passage::Wall
     }
 
-    // Whether a state with these flags is forbidden. A body in water may leave it, so water isn't then.
-    fn forbids(self, in_water: bool, flags: Flags) -> bool
-        ensures { λ r. ⌜ r ≡ forbidden self «in_water» (flags .bits) ⌝ }
-    {
-        let water = self.avoid_water & !in_water & flags.has(Flags::WATER);
-        let damage = self.avoid_damage_blocks & flags.has(Flags::DAMAGING);
-        water | damage
-    }
-
-    // The permission byte of a state with these flags.
+    // The permission byte of a state with these flags. A body in water may leave it, so water isn't forbidden then.
     pub fn permission(self, in_water: bool, flags: Flags) -> u8
         ensures { λ r. ⌜ r ≡ permission self «in_water» (flags .bits) ⌝ }
     {
-        let forbidden = self.forbids(in_water, flags);
-        match self.door_passage(flags) {
-            Passage::Shape => {
-                if forbidden {
-                    COLLIDES
-                } else {
-                    OCCUPIED + SUPPORT + COLLIDES
-                }
-            }
-            Passage::Through => { if forbidden { 0 } else { OCCUPIED + SUPPORT } }
-            Passage::Wall => {
-                if forbidden {
-                    COLLIDES
-                } else {
-                    SUPPORT + COLLIDES
-                }
-            }
-        }
+        let byte = match self.door_passage(flags) {
+            Passage::Shape => SHAPED,
+            Passage::Through => CROSSED,
+            Passage::Wall => WALLED,
+        };
+        let water = self.avoid_water & !in_water & flags.has(Flags::WATER);
+        let damage = self.avoid_damage_blocks & flags.has(Flags::DAMAGING);
+        if water | damage { byte & COLLIDES } else { byte }
     }
 
     // The permission byte of each flag byte, in a table of the same length; else nothing is written.
@@ -132,11 +107,9 @@ impl WalkPolicy {
         if flags.len() != permissions.len() {
             return Filled::BadTable;
         }
-        let mut i: usize = 0;
-        while i < flags.len() {
+        for i in 0..flags.len() {
             let bits = flags[i];
             permissions[i] = self.permission(in_water, Flags { bits });
-            i += 1;
         }
         Filled::Whole
     }

@@ -12,17 +12,17 @@ use Rattle.policy.proofs.policy.WalkPolicy.fill_permissions.Statement.{
 use Rattle.policy.proofs.policy.WalkPolicy.fill_permissions.Tie as tie
 
 abbrev Inv-loop : tie.InvT-loop
-Inv-loop self in-water flags permissions₀ i₀ permissions i =
-    (i ≤ length flags) × (length permissions ≡ length flags) × (permissions ≡ map (permission self in-water) (take i flags) ++ drop i permissions₀)
+Inv-loop self in-water flags permissions₀ i₀ i-end permissions i =
+    (i ≤ i-end) × (i-end ≡ length flags) × (length permissions ≡ length flags) × (permissions ≡ map (permission self in-water) (take i flags) ++ drop i permissions₀)
 
 abbrev μ-loop : tie.MeasureT-loop
-μ-loop self in-water flags permissions₀ i₀ permissions i = length flags - i
+μ-loop self in-water flags permissions₀ i₀ i-end permissions i = i-end - i
 
 returns : tie.Need-returns Inv-loop μ-loop
 returns c = let e = ne-eqb _ _ (c .if1 .taken) in (rw e, rw e)
 
 loop-holds : tie.Need-loop-holds Inv-loop μ-loop
-loop-holds c = (omega arith, omega arith, refl)
+loop-holds c = (omega arith, refl, omega arith, refl)
 
 shared-slice-read-bits : tie.Need-shared-slice-read-bits Inv-loop μ-loop
 shared-slice-read-bits c = omega arith
@@ -44,8 +44,9 @@ loop-again c =
     let start = c .before .before .before .before .before .before .before in
     let at = c .before .before .before .loop in (
       omega arith,
-      rw length-set (at .inv .1),
-      rw (c .permission .ensures, at .inv .2) (maps-more (permission (start .args .self) (start .args .in-water)) (at .i) (now (start .args .flags)) (now (start .args .permissions)) (omega arith) (omega arith)),
+      at .inv .1,
+      rw length-set (at .inv .2),
+      rw (c .permission .ensures, at .inv .3) (maps-more (permission (start .args .self) (start .args .in-water)) (at .i) (now (start .args .flags)) (now (start .args .permissions)) (omega arith) (omega arith)),
     )
 
 same-length : tie.Need-same-length Inv-loop μ-loop
@@ -56,7 +57,7 @@ returns-2 c =
     let start = c .before .before .before .before .before in
     let e = eq-eqb (length (now (start .args .flags))) (length (now (start .args .permissions))) (omega arith) in (
       rw e,
-      rw e (c .before .loop .inv .2 ∙ maps-all (permission (start .args .self) (start .args .in-water)) (c .before .loop .i) (now (start .args .flags)) (now (start .args .permissions)) (omega arith) (omega arith)),
+      rw e (c .before .loop .inv .3 ∙ maps-all (permission (start .args .self) (start .args .in-water)) (c .before .loop .i) (now (start .args .flags)) (now (start .args .permissions)) (omega arith) (omega arith)),
     )
 
 pub fill-permissions-spec : {M : Type 1} → statement M
