@@ -1,7 +1,7 @@
 -- What the steps of an expansion make of the rooms: the theory's visits, of the state that the rooms are, in order. Definitions only.
 use mathlib.Core.Path.{_≡_}
-use mathlib.Core.Bool.{Bool, _||_}
-use mathlib.Core.List.{List, map, _++_}
+use mathlib.Core.Bool.{_||_}
+use mathlib.Core.List.{List, map}
 use Prim.Native.Nat.{ℕ, _+_}
 use lib.ListN.{length}
 use Rattle.exploration.specs.Graph.{Graph}

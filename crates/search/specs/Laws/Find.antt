@@ -15,10 +15,10 @@ use Rattle.search.specs.FindWalkPath.{answerBy, nodesBy, frontBy, outBy,
 module _ (w : Window) (cells perms shapes boxes : List ℕ) (r : Request) (body : Body) (nodes front out : List ℕ) {a : Answer} {b g x : List ℕ} where
   pub leaves : (way : Option Outcome) → way ≡ withoutSearch w cells perms shapes boxes r body (length nodes) (length front) (length out) →
       a ≡ answerBy w cells perms shapes boxes r body way → b ≡ nodesBy w cells perms shapes boxes r body way nodes →
-      g ≡ frontBy w cells perms shapes boxes r body way front → x ≡ outBy w cells perms shapes boxes r body way out →
+      x ≡ outBy w cells perms shapes boxes r body way out → g ≡ frontBy w cells perms shapes boxes r body way front →
       (a ≡ found w cells perms shapes boxes r body (length nodes) (length front) (length out)) ×
       ((b ≡ nodesAfter w cells perms shapes boxes r body nodes front out) ×
       ((g ≡ frontAfter w cells perms shapes boxes r body nodes front out) ×
       (x ≡ outAfter w cells perms shapes boxes r body nodes front out)))
   unfolding found nodesAfter frontAfter outAfter
-  leaves way e i j k l = rw (sym e) (i, (j, (k, l)))
+  leaves way e i j l k = rw (sym e) (i, (j, (k, l)))

@@ -1,21 +1,17 @@
 -- A run goes on by one expansion, and an expansion that ends the search ends the run.
 use mathlib.Core.Path.{_≡_, refl, sym, ap, subst, _∙_}
-use mathlib.Core.List.{List, [], _∷_}
+use mathlib.Core.List.{List}
 use Prim.Native.Nat.{ℕ, _+_, _*_, _-_, _≤_}
 use native.Mathlib.Omega.{arith}
-use Rattle.exploration.specs.Graph.{Graph}
-use Rattle.exploration.specs.Policy.{Policy}
-use Rattle.exploration.specs.Explore.{State, advance, run}
+use Rattle.exploration.specs.Explore.{advance, run}
 use Rattle.exploration.specs.Laws.Loops.{run-add}
 use Rattle.exploration.specs.Laws.Expansions.{Done, at-found, at-end, done-run}
 use Rattle.world.specs.declared.Body.{Body}
 use Rattle.world.specs.declared.Request.{Request}
 use Rattle.world.specs.Space.{Space}
 use Rattle.steps.specs.Graph.{graph}
-use Rattle.rooms.specs.declared.Feet.{Feet}
-use Rattle.rooms.specs.declared.Label.{Label}
 use Rattle.rooms.specs.declared.Counts.{Counts}
-use Rattle.rooms.specs.Rooms.{Note, stateOf}
+use Rattle.rooms.specs.Rooms.{stateOf}
 use Rattle.visits.specs.declared.Aim.{Aim}
 use Rattle.visits.specs.Best.{best}
 use Rattle.visits.specs.Laws.Visits.{kept-none, kept-trans, near-none, near-trans, near-le}

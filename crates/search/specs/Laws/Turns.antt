@@ -1,11 +1,10 @@
 -- The four ways through an expansion, each in the theory's words.
-use mathlib.Core.Path.{_≡_, refl, sym, ap, subst, _∙_}
-use mathlib.Core.Bool.{Bool, true, false}
+use mathlib.Core.Path.{_≡_, refl, sym, ap, _∙_}
+use mathlib.Core.Bool.{true, false}
 use mathlib.Core.Option.{Option, none, some}
 use mathlib.Core.List.{List, [], _∷_, map}
 use Prim.Native.Nat.{ℕ, _+_, _≤_, _<_}
 use native.Mathlib.Omega.{arith}
-use lib.ListN.{length}
 use Rattle.exploration.specs.Graph.{Graph}
 use Rattle.exploration.specs.Policy.{Node, Policy}
 use Rattle.exploration.specs.Explore.{State, arrive, close, closedNode, visits, ending, endingBy, expandBy, advanceBy, advance}
@@ -27,14 +26,13 @@ use Rattle.rooms.specs.declared.Counts.{Counts}
 use Rattle.rooms.specs.Waypoints.{samePoint}
 use Rattle.rooms.specs.Records.{nodeAt}
 use Rattle.rooms.specs.Scans.{nextOf}
-use Rattle.rooms.specs.Rooms.{Note, nodeOf, nodeIn, nodesOf, stateOf}
+use Rattle.rooms.specs.Rooms.{Note, nodeOf, nodeIn, stateOf}
 use Rattle.rooms.specs.Laws.Rooms.{BySamePoint, pick-none, pick-some}
 use Rattle.visits.specs.declared.Aim.{Aim}
 use Rattle.visits.specs.Best.{best}
 use Rattle.visits.specs.declared.Closing.{Closing}
-use Rattle.visits.specs.Visits.{Ready, Kept, Near, Closed, ClosedIf}
+use Rattle.visits.specs.Visits.{Ready, Closed, ClosedIf}
 use Rattle.visits.specs.Laws.Visits.{kept-none, kept-trans, near-none, near-trans, near-le, is-ready}
-use Rattle.outcomes.specs.declared.Turn.{Turn}
 use Rattle.outcomes.specs.declared.Turn.the-variants.{Rest, Going, At, By}
 use Rattle.search.specs.declared.Place.{Place}
 use Rattle.search.specs.Steps.{Stepped}

@@ -1,12 +1,10 @@
 -- What the end of a run makes of a search: its outcome and its list are those of the theory's final state, and the node room holds that state's nodes.
 use mathlib.Core.Path.{_≡_, refl, sym, ap, subst, _∙_}
-use mathlib.Core.Logic.{_≢_}
 use mathlib.Core.Option.{none}
 use mathlib.Core.List.{List, [], _∷_, _++_}
-use Prim.Native.Nat.{ℕ, zero, suc, _+_, _*_, _/_, _≤_}
+use Prim.Native.Nat.{ℕ, zero, suc, _+_, _*_, _≤_}
 use native.Mathlib.Omega.{arith}
-use lib.ListN.{length, drop, replicate}
-use borrow.Author.Tests.{le-leb}
+use lib.ListN.{length, drop}
 use Rattle.exploration.specs.Graph.{Graph}
 use Rattle.exploration.specs.Policy.{Policy}
 use Rattle.exploration.specs.Explore as explore
@@ -27,7 +25,7 @@ use Rattle.steps.specs.GraphLaws.{graph-laws}
 use Rattle.rooms.specs.declared.Feet.{Feet}
 use Rattle.rooms.specs.declared.Label.{Label}
 use Rattle.rooms.specs.declared.Counts.{Counts}
-use Rattle.rooms.specs.Lists.{listOf, listBytes, written, Listed}
+use Rattle.rooms.specs.Lists.{listOf, listBytes, written}
 use Rattle.rooms.specs.Rooms.{Note, nobody, nodesOf, stateOf, nodeRoom}
 use Rattle.rooms.specs.Laws.Lists.{arrive-list}
 use Rattle.rooms.specs.Laws.Rooms.{node-room}
@@ -41,7 +39,7 @@ use Rattle.outcomes.specs.declared.Turn.the-variants.{Rest, Going, At, By}
 use Rattle.outcomes.specs.declared.Answer.{Answer}
 use Rattle.outcomes.specs.Outcomes.{toldBy, listIn, countsOf, endQuiet, endAt, answerOf}
 use Rattle.conclusion.specs.Laws.{written-is, Concludes}
-use Rattle.search.specs.FindWalkPath.{ended, endOf, answerBy, nodesBy, frontBy, outBy}
+use Rattle.search.specs.FindWalkPath.{ended, endOf, answerBy, nodesBy, outBy}
 use Rattle.search.specs.Turns.{mostSteps, after, Quiet}
 use Rattle.search.specs.Runs.{Spun}
 
@@ -178,10 +176,9 @@ module _ (r : Request) {start : Feet} {c : Counts} {a f o a1 f1 : List ℕ} (roo
     closes = omega (arith, roomy .few, h .closes);
   }
 
-  module _ (w : Window) (cells perms shapes boxes : List ℕ) (body : Body) {goal : Feet} {t : Turn} {b g z p : List ℕ} {x : Answer}
+  module _ (w : Window) (cells perms shapes boxes : List ℕ) (body : Body) {goal : Feet} {t : Turn} {b g p : List ℕ} {x : Answer}
       (goal-is : goal ≡ feetOf (r .goal)) (spun : Spun (aimTo r goal) (space w cells perms shapes boxes) r body c (r .«node_budget») t a1 f1 b g)
-      (bytes : Bytes b) (nodes-kept : length b ≡ length a) (front-kept : length g ≡ length f)
-      (concludes : Concludes b goal t x o p) (zeroed : z ≡ replicate (length g) 0) where
+      (bytes : Bytes b) (nodes-kept : length b ≡ length a) (concludes : Concludes b goal t x o p) where
     abbrev sp : Space
     sp = space w cells perms shapes boxes
 
@@ -192,10 +189,9 @@ module _ (r : Request) {start : Feet} {c : Counts} {a f o a1 f1 : List ℕ} (roo
     ends = subst (λ (q : Feet). Concludes b q t x o p) goal-is concludes
 
     pub searched : (x ≡ answerBy w cells perms shapes boxes r body none) × (b ≡ nodesBy w cells perms shapes boxes r body none a)
-        × (z ≡ frontBy w cells perms shapes boxes r body none f) × (p ≡ outBy w cells perms shapes boxes r body none o)
+        × (p ≡ outBy w cells perms shapes boxes r body none o)
     searched =
         let room : 56 * r .«node_budget» ≤ length b = omega (arith, roomy .node-room) in
         (ends .0 ∙ answer-last sp r body t begins spins (roomy .few) room,
         nodes-room-last sp r body t begins spins (roomy .few) room bytes,
-        zeroed ∙ ap (λ (n : ℕ). replicate n 0) front-kept,
         ends .1 ∙ out-last sp r body t begins spins (roomy .few) room o (roomy .out-room))

@@ -1,6 +1,6 @@
 -- `search::find::find_walk_path` meets its contract. The loop's invariant: the rooms are the state after so many expansions, with what the last of them came to.
 -- Assumes nothing.
-use Prim.Native.Nat.{_-_, _≤_}
+use Prim.Native.Nat.{ℕ, _-_, _≤_}
 use mathlib.Core.Path.{_≡_, refl, sym, ap, _∙_}
 use mathlib.Core.Logic.{inl, inr}
 use mathlib.Core.List.{[], _∷_}
@@ -9,7 +9,7 @@ use native.Mathlib.Omega.{arith}
 use borrow.Author.Needs.{needs}
 use denote.Enum.Declared.{tagOf}
 use denote.Ref.{now}
-use lib.ListN.{length}
+use lib.ListN.{length, replicate}
 use types.Run.{OneOf}
 use Rattle.world.specs.Space.{space}
 use Rattle.fields.specs.Pieces.{Bytes}
@@ -31,8 +31,8 @@ use Rattle.search.proofs.find.find_walk_path.Tie as tie
 
 abbrev Inv-loop : tie.InvT-loop
 Inv-loop cells perms shapes boxes nodes₀ front₀ out budget task turn₀ t₀ nodes front turn t =
-    (t ≤ budget) × (length nodes ≡ length nodes₀) × (length front ≡ length front₀) × Bytes nodes
-    × Spun (task .aim) (space (task .w) cells perms shapes boxes) (task .r) (task .body) (countsOf turn₀) t turn nodes₀ front₀ nodes front
+    Spun (task .aim) (space (task .w) cells perms shapes boxes) (task .r) (task .body) (countsOf turn₀) t turn nodes₀ front₀ nodes front
+    × (t ≤ budget) × (length nodes ≡ length nodes₀) × (length front ≡ length front₀) × Bytes nodes
 
 abbrev μ-loop : tie.MeasureT-loop
 μ-loop cells perms shapes boxes nodes₀ front₀ out budget task turn₀ t₀ nodes front turn t = budget - t
@@ -85,7 +85,7 @@ begin-requires c κs = tt
 loop-holds : tie.Need-loop-holds Inv-loop μ-loop
 loop-holds c =
     let h = ready-spin (c .before .before .before .before .before .before .before .before .before .before .before .before .before .before .before .before .before .before .before .args .r) (roomy (c .before .before .before .before)) (c .before .before .before .before .before .feet-of2 .ensures) (c .before .before .before .before .begin .ensures) (c .before .before .before .before .begin .kept .0) (c .before .before .before .before .begin .kept .1 .0) in
-    (omega arith, refl, refl, (λ i. omega (arith, c .before .before .slice-known4 .given i)), spun-none _ _ (h .few))
+    (spun-none _ _ (h .few), omega arith, refl, refl, λ i. omega (arith, c .before .before .slice-known4 .given i))
 
 enum-known-turn : tie.Need-enum-known-turn Inv-loop μ-loop
 enum-known-turn c = search needs
@@ -93,8 +93,8 @@ enum-known-turn c = search needs
 expand-requires : tie.Need-expand-requires Inv-loop μ-loop
 expand-requires c κs =
     let h = ready-spin (c .before .before .before .before .before .before .before .before .before .before .before .before .before .before .before .before .before .before .before .before .before .before .before .before .before .before .args .r) (roomy (c .before .before .before .before .before .before .before .before .before .before .before)) (c .before .before .before .before .before .before .before .before .before .before .before .before .feet-of2 .ensures) (c .before .before .before .before .before .before .before .before .before .before .before .begin .ensures) (c .before .before .before .before .before .before .before .before .before .before .before .begin .kept .0) (c .before .before .before .before .before .before .before .before .before .before .before .begin .kept .1 .0) in
-    let u = rw (c .before .before .before .turn .given .1) at (c .before .before .before .before .before .before .loop .inv .4) in
-    (ready-after h (u .near) (omega (arith, c .before .before .before .before .before .loop-test .taken)) (c .before .before .before .before .before .before .loop .inv .1) (c .before .before .before .before .before .before .loop .inv .2), (c .before .before .before .before .before .before .before .before .before .before .before .before .before .before .before .feet-of .ensures, bounded (c .before .before .before .before .before .before .before .before .before .before .before)))
+    let u = rw (c .before .before .before .turn .given .1) at (c .before .before .before .before .before .before .loop .inv .0) in
+    (ready-after h (u .near) (omega (arith, c .before .before .before .before .before .loop-test .taken)) (c .before .before .before .before .before .before .loop .inv .2) (c .before .before .before .before .before .before .loop .inv .3), (c .before .before .before .before .before .before .before .before .before .before .before .before .before .before .before .feet-of .ensures, bounded (c .before .before .before .before .before .before .before .before .before .before .before)))
 
 add-t : tie.Need-add-t Inv-loop μ-loop
 add-t c = omega (arith, c .before .before .before .before .before .before .before .before .before .before .loop-test .taken, roomy (c .before .before .before .before .before .before .before .before .before .before .before .before .before .before .before .before) .few)
@@ -104,8 +104,8 @@ loop-less c = omega (arith, c .before .before .before .before .before .before .b
 
 loop-again : tie.Need-loop-again Inv-loop μ-loop
 loop-again c =
-    let u = rw (c .before .before .before .before .before .before .before .before .turn .given .1) at (c .before .before .before .before .before .before .before .before .before .before .before .loop .inv .4) in
-    (omega (arith, c .before .before .before .before .before .before .before .before .before .before .loop-test .taken), c .before .before .before .before .expand .kept .1 .1 .1 .1 .1 .0 ∙ c .before .before .before .before .before .before .before .before .before .before .before .loop .inv .1, c .before .before .before .before .expand .kept .1 .1 .1 .1 .1 .1 .0 ∙ c .before .before .before .before .before .before .before .before .before .before .before .loop .inv .2, (λ i. omega (arith, c .before .before .slice-known6 .given i)), spun-next (c .before .before .before .before .before .before .before .before .before .before .before .loop .t) u (c .before .before .before .before .expand .ensures))
+    let u = rw (c .before .before .before .before .before .before .before .before .turn .given .1) at (c .before .before .before .before .before .before .before .before .before .before .before .loop .inv .0) in
+    (spun-next (c .before .before .before .before .before .before .before .before .before .before .before .loop .t) u (c .before .before .before .before .expand .ensures), omega (arith, c .before .before .before .before .before .before .before .before .before .before .loop-test .taken), c .before .before .before .before .expand .kept .1 .1 .1 .1 .1 .0 ∙ c .before .before .before .before .before .before .before .before .before .before .before .loop .inv .2, c .before .before .before .before .expand .kept .1 .1 .1 .1 .1 .1 .0 ∙ c .before .before .before .before .before .before .before .before .before .before .before .loop .inv .3, λ i. omega (arith, c .before .before .slice-known6 .given i))
 
 conclude-requires : tie.Need-conclude-requires Inv-loop μ-loop
 conclude-requires c κs = tt
@@ -114,13 +114,13 @@ zero-requires : tie.Need-zero-requires Inv-loop μ-loop
 zero-requires c κs = tt
 
 same-length : tie.Need-same-length Inv-loop μ-loop
-same-length c = c .before .before .before .before .before .before .before .before .before .before .loop .inv .1 ∙ c .before .before .before .before .before .before .before .before .before .before .before .before .before .before .before .begin .kept .0
+same-length c = c .before .before .before .before .before .before .before .before .before .before .loop .inv .2 ∙ c .before .before .before .before .before .before .before .before .before .before .before .before .before .before .before .begin .kept .0
 
 same-length-2 : tie.Need-same-length-2 Inv-loop μ-loop
-same-length-2 c = c .before .before .zero .kept .0 ∙ c .before .before .before .before .before .before .before .before .before .before .loop .inv .2 ∙ c .before .before .before .before .before .before .before .before .before .before .before .before .before .before .before .begin .kept .1 .0
+same-length-2 c = omega (arith, c .before .before .zero .kept .0, c .before .before .before .before .before .before .before .before .before .before .loop .inv .3, c .before .before .before .before .before .before .before .before .before .before .before .before .before .before .before .begin .kept .1 .0)
 
 same-length-3 : tie.Need-same-length-3 Inv-loop μ-loop
-same-length-3 c = c .before .before .before .before .before .before .conclude .kept .1 .1 .1 .0
+same-length-3 c = omega (arith, c .before .before .zero .kept .0, c .before .before .before .before .before .before .conclude .kept .1 .1 .1 .0)
 
 -- as many expansions as the budget, or the search has ended before
 spun : (s : tie.Left-loop Inv-loop μ-loop) → let a = s .before .before .before .before .before .before .before .before .before .before .before .before .before .before .before .before .before .before .before .before .before .args in
@@ -129,14 +129,14 @@ spun : (s : tie.Left-loop Inv-loop μ-loop) → let a = s .before .before .befor
 spun s =
     let n = s .before .before .before .before .before .before .before .before .before .before .before .before .before .before .before .before .before .before .before .before .before .args .r .«node_budget» in
     elim (s .loop-test .came) [
-      inl x ↦ (let e : s .before .loop .t ≡ n = omega (arith, x .left, s .before .loop .inv .0) in rw e at (s .before .loop .inv .4))
-    | inr x ↦ spun-over (s .before .loop .turn) (s .before .loop .t) n (s .before .loop .inv .0) (ended (s .before .loop .turn) (x .1 .keys2)) (s .before .loop .inv .4) ]
+      inl x ↦ (let e : s .before .loop .t ≡ n = omega (arith, x .left, s .before .loop .inv .1) in rw e at (s .before .loop .inv .0))
+    | inr x ↦ spun-over (s .before .loop .turn) (s .before .loop .t) n (s .before .loop .inv .1) (ended (s .before .loop .turn) (x .1 .keys2)) (s .before .loop .inv .0) ]
 
 returns-2 : tie.Need-returns-2 Inv-loop μ-loop
 returns-2 c =
     let a = c .before .before .before .before .before .before .before .before .before .before .before .before .before .before .before .before .before .before .before .before .before .before .before .before .before .before .before .before .before .before .args in
-    let s = searched (a .r) (roomy (c .before .before .before .before .before .before .before .before .before .before .before .before .before .before .before)) (c .before .before .before .before .before .before .before .before .before .before .before .before .before .before .before .before .feet-of2 .ensures) (c .before .before .before .before .before .before .before .before .before .before .before .before .before .before .before .begin .ensures) (a .w) (now (a .cells)) (now (a .perms)) (now (a .shapes)) (now (a .boxes)) (a .body) (c .before .before .before .before .before .before .before .before .before .before .before .before .before .before .before .before .before .before .before .feet-of .ensures) (spun (c .before .before .before .before .before .before .before .before .before)) (c .before .before .before .before .before .before .before .before .before .before .loop .inv .3) (c .before .before .before .before .before .before .before .before .before .before .loop .inv .1 ∙ c .before .before .before .before .before .before .before .before .before .before .before .before .before .before .before .begin .kept .0) (c .before .before .before .before .before .before .before .before .before .before .loop .inv .2 ∙ c .before .before .before .before .before .before .before .before .before .before .before .before .before .before .before .begin .kept .1 .0) (c .before .before .before .before .before .before .conclude .ensures) (c .before .before .zero .ensures) in
-    leaves (a .w) (now (a .cells)) (now (a .perms)) (now (a .shapes)) (now (a .boxes)) (a .r) (a .body) (now (a .nodes)) (now (a .front)) (now (a .out)) none (sym (ap told (c .before .before .before .before .before .before .before .before .before .before .before .before .before .before .before .before .before .before .before .before .enum-told .given .1)) ∙ c .before .before .before .before .before .before .before .before .before .before .before .before .before .before .before .before .before .before .before .before .before .before .judge .ensures) (s .0) (s .1) (s .2) (s .3)
+    let s = searched (a .r) (roomy (c .before .before .before .before .before .before .before .before .before .before .before .before .before .before .before)) (c .before .before .before .before .before .before .before .before .before .before .before .before .before .before .before .before .feet-of2 .ensures) (c .before .before .before .before .before .before .before .before .before .before .before .before .before .before .before .begin .ensures) (a .w) (now (a .cells)) (now (a .perms)) (now (a .shapes)) (now (a .boxes)) (a .body) (c .before .before .before .before .before .before .before .before .before .before .before .before .before .before .before .before .before .before .before .feet-of .ensures) (spun (c .before .before .before .before .before .before .before .before .before)) (c .before .before .before .before .before .before .before .before .before .before .loop .inv .4) (c .before .before .before .before .before .before .before .before .before .before .loop .inv .2 ∙ c .before .before .before .before .before .before .before .before .before .before .before .before .before .before .before .begin .kept .0) (c .before .before .before .before .before .before .conclude .ensures) in
+    leaves (a .w) (now (a .cells)) (now (a .perms)) (now (a .shapes)) (now (a .boxes)) (a .r) (a .body) (now (a .nodes)) (now (a .front)) (now (a .out)) none (sym (ap told (c .before .before .before .before .before .before .before .before .before .before .before .before .before .before .before .before .before .before .before .before .enum-told .given .1)) ∙ c .before .before .before .before .before .before .before .before .before .before .before .before .before .before .before .before .before .before .before .before .before .before .judge .ensures) (s .0) (s .1) (s .2) (c .before .before .zero .ensures ∙ ap (λ (n : ℕ). replicate n 0) (c .before .before .before .before .before .before .before .before .before .before .loop .inv .3 ∙ c .before .before .before .before .before .before .before .before .before .before .before .before .before .before .before .begin .kept .1 .0))
 
 pub find-walk-path-spec : {M : Type 1} → statement M
 find-walk-path-spec =
