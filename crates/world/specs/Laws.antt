@@ -16,8 +16,8 @@ use Rattle.cells.specs.Parts.{over, under, sum, difference, size, lt-yes, lt-no
 use mathlib.Core.List.{List, [], _∷_, map}
 use lib.ListN.{length, getD, take, drop, length-drop, drop-of-length-le}
 use lib.Seq.{take-all}
-use Rattle.fields.specs.Little.{field}
-use Rattle.fields.specs.Laws.{four, field-parts}
+use Rattle.fields.specs.Little.{field, floatField}
+use Rattle.fields.specs.Laws.{four, field-out, field-parts}
 use Rattle.world.specs.declared.Window.{Window}
 use Rattle.world.specs.declared.Point.{Point}
 use Rattle.world.specs.declared.Aabb.{Aabb}
@@ -29,6 +29,13 @@ use Rattle.world.specs.declared.Entry.{Entry}
 use Rattle.world.specs.declared.Entry.the-variants.{Of, Missing}
 use Rattle.world.specs.Boxes.{moved, cube, corner}
 use Rattle.world.specs.Space.{Place, At, Out, place, onward, recordOf, entryAt, entryIn, mayOccupy, maySupport, collides, ofParts, known, knownBy, cellIn, cellAt, pointAt, boxAt, boxHere, run, blockOf, space}
+
+-- ---- a point past the table's end reads as one at its end
+
+pub point-past : (s : List ℕ) (at : ℕ) → length s ≤ at → pointAt s (length s) ≡ pointAt s at
+unfolding pointAt floatField
+point-past s at h =
+    rw (field-out 8 s at (omega arith), field-out 8 s (at + 8) (omega arith), field-out 8 s (at + 16) (omega arith), field-out 8 s (length s) (omega arith), field-out 8 s (length s + 8) (omega arith), field-out 8 s (length s + 16) (omega arith))
 
 -- ---- a box record, where there is one
 
