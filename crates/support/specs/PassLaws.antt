@@ -11,7 +11,6 @@ use lib.ListN.{drop}
 use lib.Ieee.{Float, binary64, lt, le, add}
 use Rattle.floats.specs.Floats.{E, nought, larger}
 use Rattle.cells.specs.Ranges.{gather, across}
-use borrow.Author.Tests.{ltb-true, ltb-false}
 use Rattle.cells.specs.RangeLaws.{fold-stays, fold-goes-on, fold-ends}
 use Rattle.cells.specs.declared.ranges.Range.{Range}
 use Rattle.world.specs.declared.Point.{Point}
@@ -19,7 +18,7 @@ use Rattle.world.specs.declared.Aabb.{Aabb}
 use Rattle.world.specs.declared.Found.the-variants.{Here, End}
 use Rattle.world.specs.declared.Cell.the-variants.{Unknown, Known}
 use Rattle.world.specs.Boxes.{moved, cube}
-use Rattle.world.specs.Laws.{run-none as boxes-none, run-end as boxes-end, run-more as boxes-more, unknown-block, known-block}
+use Rattle.world.specs.Laws.{run-none as boxes-none, run-end as boxes-end, run-more as boxes-more, turn-taken, turns-end, unknown-block, known-block}
 use Rattle.world.specs.Space.{Space, boxHere, blockOf}
 use Rattle.support.specs.declared.Interval.{Interval}
 use Rattle.support.specs.declared.Reach.{Reach}
@@ -146,12 +145,7 @@ module _ (w : Way) (support : Bool) (by : Point) (s : List ℕ) (at : ℕ) where
   run-none r left h = let z : left ≡ 0 = omega arith in rw (z, boxes-none s at)
 
   pub run-stops : (r : Reach) (left : ℕ) → (ltb 0 left && not (r .refused)) ≡ false → after r left ≡ r
-  run-stops r left e = go (ltb 0 left) refl (r .refused) refl e
-    where
-      go : (t : Bool) → ltb 0 left ≡ t → (b : Bool) → r .refused ≡ b → (t && not b) ≡ false → after r left ≡ r
-      go false p b q e = run-none r left (ltb-false 0 left p)
-      go true p true q e = refused-stays w r (runShapes support by s left at) q
-      go true p false q e = cc
+  run-stops r left e = turns-end 0 left (r .refused) e (run-none r left) (refused-stays w r (runShapes support by s left at))
 
 -- ---- a cell
 
@@ -176,21 +170,11 @@ module _ (w : Way) (f : ℕ → List Shape) (r : Reach) (k n : ℕ) (h : k < n) 
 
 -- the end, or a pass that is refused
 pub pass-stops : (w : Way) (f : ℕ → List Shape) (r : Reach) (k n : ℕ) → (ltb k n && not (r .refused)) ≡ false → pass w r (gather f k (n - k)) ≡ r
-pass-stops w f r k n e = go (ltb k n) refl (r .refused) refl e
-  where
-    go : (t : Bool) → ltb k n ≡ t → (b : Bool) → r .refused ≡ b → (t && not b) ≡ false → pass w r (gather f k (n - k)) ≡ r
-    go false p b q e = fold-ends (step w) f r k n (ltb-false k n p)
-    go true p true q e = refused-stays w r (gather f k (n - k)) q
-    go true p false q e = cc
+pass-stops w f r k n e = turns-end k n (r .refused) e (fold-ends (step w) f r k n) (refused-stays w r (gather f k (n - k)))
 
 -- a turn is taken
 pub turns : (k n : ℕ) (r : Reach) → (ltb k n && not (r .refused)) ≡ true → (k < n) × (reached (r .to) ≡ r)
-turns k n r e = go (ltb k n) refl (r .refused) refl e
-  where
-    go : (t : Bool) → ltb k n ≡ t → (b : Bool) → r .refused ≡ b → (t && not b) ≡ true → (k < n) × (reached (r .to) ≡ r)
-    go true p false q e = (ltb-true k n p, unrefused r q)
-    go true p true q e = absurd (let z : _≡_ {A = ℕ} 0 1 = cc in omega arith)
-    go false p b q e = absurd (let z : _≡_ {A = ℕ} 0 1 = cc in omega arith)
+turns k n r e = let t = turn-taken k n (r .refused) e in (t .0, unrefused r (t .1))
 
 -- ---- what each turn of the three loops passes over
 
