@@ -11,7 +11,7 @@ use Rattle.cells.specs.Cells.{floorCell, ceilCell}
 use Rattle.cells.specs.declared.regions.Spot.{Spot}
 use Rattle.world.specs.declared.Point.{Point}
 use Rattle.world.specs.declared.Aabb.{Aabb}
-use Rattle.world.specs.Boxes.{one, plus, minZero, maxZero, fromFeet, expandTowards, meets, corner, voxel}
+use Rattle.world.specs.Boxes.{one, plus, span, fromFeet, expandTowards, meets, corner, voxel}
 use Rattle.world.specs.Space.{Space, Block}
 use Rattle.request.specs.Laws.{FinitePoint}
 use Rattle.clear.specs.Clear.{hits, free, allFree, around, clear}
@@ -74,7 +74,7 @@ larger-zero d z = larger-alike d nought nought nought (zero-alike d z) refl ∙ 
 
 -- grown towards no difference it stays alike
 grown : (b : Aabb) (d : Point) → Held (b .min) → Held (b .max) → ZeroPoint d → AlikeBox (expandTowards b d) b
-unfolding expandTowards plus minZero maxZero
+unfolding expandTowards plus span
 grown b d h k z = record {
   min = record {
     x = with-zero (b .min .x) (smaller (d .x) nought) (h .x) (smaller-zero (d .x) (z .x));
@@ -210,7 +210,7 @@ module _ (p q : Point) (h : AlikePoint p q) (n : FinitePoint q) where
   intervals-alike (s ∷ ss) = rw (interval-alike (s .box), intervals-alike ss)
 
   print-alike : (width : Float) → AlikeBox (footprint width p q) (footprint width q q)
-  unfolding footprint
+  unfolding footprint span
   print-alike width = record {
     min = record {
       x = sub-alike (smaller (p .x) (q .x)) _ (smaller (q .x) (q .x)) _ (smaller-alike (p .x) (q .x) (q .x) (q .x) (h .x) refl) refl;

@@ -88,18 +88,14 @@ pub fn from_feet(feet: Point, width: f64, height: f64) -> Aabb
 pub fn expand_towards(b: Aabb, delta: Point) -> Aabb
     ensures { λ r. ⌜ r ≡ expandTowards b delta ⌝ }
 {
-    let back = Point {
-        x: floats::min(delta.x, 0.0),
-        y: floats::min(delta.y, 0.0),
-        z: floats::min(delta.z, 0.0),
+    let zero = Point {
+        x: 0.0,
+        y: 0.0,
+        z: 0.0,
     };
-    let ahead = Point {
-        x: floats::max(delta.x, 0.0),
-        y: floats::max(delta.y, 0.0),
-        z: floats::max(delta.z, 0.0),
-    };
+    let grown = points::span(delta, zero);
     Aabb {
-        min: points::sum(b.min, back),
-        max: points::sum(b.max, ahead),
+        min: points::sum(b.min, grown.min),
+        max: points::sum(b.max, grown.max),
     }
 }

@@ -1,5 +1,5 @@
 -- Laws that the loops go by.
-use Prim.Native.Nat.{ℕ, zero, suc, _+_, _-_, _*_, _≤_, _<_}
+use Prim.Native.Nat.{ℕ, suc, _+_, _-_, _*_, _≤_, _<_}
 use native.Mathlib.Omega.{arith}
 use mathlib.Core.Path.{_≡_, refl, sym}
 use mathlib.Core.Bool.{Bool, true, false, not, _&&_, _||_}
@@ -17,6 +17,7 @@ use Rattle.world.specs.declared.Aabb.{Aabb}
 use Rattle.world.specs.declared.Found.the-variants.{Here, End}
 use Rattle.world.specs.declared.Cell.the-variants.{Unknown, Known}
 use Rattle.world.specs.Boxes.{meets, moved, cube, corner, voxel}
+use Rattle.world.specs.Laws.{run-none as boxes-none, run-end as boxes-end, run-more as boxes-more, turns-end}
 use Rattle.world.specs.Space.{Space, run, boxHere, blockOf}
 use Rattle.clear.specs.Clear.{hits, free, allFree}
 
@@ -26,42 +27,26 @@ use Rattle.clear.specs.Clear.{hits, free, allFree}
 abbrev pub runHits : Aabb → Point → List ℕ → ℕ → ℕ → Bool
 runHits area by s left at = hits area (map (λ (b : Aabb). moved b by) (run left s at))
 
-module _ (area : Aabb) (by : Point) (s : List ℕ) (at : ℕ) where
+module _ (area : Aabb) (by : Point) (s : List ℕ) (at left : ℕ) where
   -- the table ends here
-  pub run-end : (left : ℕ) → 0 < left → boxHere s at ≡ End → runHits area by s left at ≡ false
-  unfolding run hits
-  run-end zero h e = absurd (omega arith)
-  run-end (suc n) h e = rw e
+  pub run-end : boxHere s at ≡ End → runHits area by s left at ≡ false
+  unfolding hits
+  run-end e = rw (boxes-end s at left e)
 
   -- a box is hit, or the rest says
-  pub run-on : (left : ℕ) (b : Aabb) (hit : Bool) → 0 < left → boxHere s at ≡ Here b → meets (moved b by) area ≡ hit →
+  pub run-on : (b : Aabb) (hit : Bool) → 0 < left → boxHere s at ≡ Here b → meets (moved b by) area ≡ hit →
       runHits area by s left at ≡ hit || runHits area by s (left - 1) (at + 48)
-  unfolding run hits
-  run-on zero b hit h e t = absurd (omega arith)
-  run-on (suc n) b hit h e t = let k : suc n - 1 ≡ n = omega arith in rw (e, t, k)
+  unfolding hits
+  run-on b hit h e t = rw (boxes-more s at left b h e, t)
 
-  -- no box is left
-  pub none : (left : ℕ) → left ≤ 0 → runHits area by s left at ≡ false
-  unfolding run hits
-  none zero h = refl
-  none (suc n) h = absurd (omega arith)
-
-  -- the loop: a turn with none hit so far, and the end
-  pub run-turn : (hit : Bool) (left : ℕ) → (ltb 0 left && not hit) ≡ true → (0 < left) × (hit ≡ false)
-  run-turn hit left t = go (ltb 0 left) refl hit t
+  -- no box is left, or one is hit
+  pub run-stops : (hit : Bool) → (ltb 0 left && not hit) ≡ false → hit || runHits area by s left at ≡ hit
+  unfolding hits
+  run-stops hit t = turns-end 0 left hit t (λ h. let z : left ≡ 0 = omega arith in rw (z, boxes-none s at) (same hit)) (λ e. rw e)
     where
-      go : (s : Bool) → ltb 0 left ≡ s → (b : Bool) → (s && not b) ≡ true → (0 < left) × (b ≡ false)
-      go true p false t = (ltb-true 0 left p, refl)
-      go true p true t = absurd (let z : _≡_ {A = ℕ} 0 1 = cc in omega arith)
-      go false p b t = absurd (let z : _≡_ {A = ℕ} 0 1 = cc in omega arith)
-
-  pub run-stops : (hit : Bool) (left : ℕ) → (ltb 0 left && not hit) ≡ false → hit || runHits area by s left at ≡ hit
-  run-stops hit left t = go (ltb 0 left) refl hit t
-    where
-      go : (u : Bool) → ltb 0 left ≡ u → (b : Bool) → (u && not b) ≡ false → b || runHits area by s left at ≡ b
-      go u p true t = refl
-      go false p false t = none left (ltb-false 0 left p)
-      go true p false t = cc
+      same : (b : Bool) → (b || false) ≡ b
+      same true = refl
+      same false = refl
 
 -- ---- a cell, by the tests on it
 

@@ -1,5 +1,5 @@
 -- Laws that the code's loops and branches go by.
-use Prim.Native.Nat.{ℕ, zero, suc, _+_, _-_, _*_, _≤_, _<_}
+use Prim.Native.Nat.{ℕ, _+_, _-_, _*_, _≤_, _<_}
 use native.Mathlib.Omega.{arith}
 use mathlib.Core.Path.{_≡_, refl, sym, ap, _∙_}
 use mathlib.Core.Bool.{Bool, true, false, not, _&&_, cond}
@@ -16,6 +16,7 @@ use Rattle.world.specs.declared.Found.the-variants.{Here, End}
 use Rattle.world.specs.declared.Cell.{Cell}
 use Rattle.world.specs.declared.Cell.the-variants.{Unknown, Known}
 use Rattle.world.specs.Boxes.{moved}
+use Rattle.world.specs.Laws.{run-none as boxes-none, run-end as boxes-end, run-more as boxes-more}
 use Rattle.world.specs.Space.{Space, Block, run, boxHere, blockOf}
 use Rattle.heights.specs.declared.Band.{Band}
 use Rattle.heights.specs.declared.Height.{Height}
@@ -40,24 +41,20 @@ module _ (band : Band) (x z : Float) (after : Height) where
       pick true = refl
       pick false = refl
 
-  module _ (by : Point) (best : Height) (s : List ℕ) (at : ℕ) where
+  module _ (by : Point) (best : Height) (s : List ℕ) (at left : ℕ) where
     -- the table ends here
-    pub run-end : (left : ℕ) → 0 < left → boxHere s at ≡ End → runPass by best s left at ≡ best
-    unfolding run topsOf
-    run-end zero h e = absurd (omega arith)
-    run-end (suc n) h e = rw e
+    pub run-end : boxHere s at ≡ End → runPass by best s left at ≡ best
+    unfolding topsOf
+    run-end e = rw (boxes-end s at left e)
 
     -- one box more
-    pub run-on : (left : ℕ) (b : Aabb) → 0 < left → boxHere s at ≡ Here b → runPass by best s left at ≡ runPass by (taken best (moved b by)) s (left - 1) (at + 48)
-    unfolding run
-    run-on zero b h e = absurd (omega arith)
-    run-on (suc n) b h e = let k : suc n - 1 ≡ n = omega arith in rw (e, k) (pass-cons best (moved b by) _)
+    pub run-on : (b : Aabb) → 0 < left → boxHere s at ≡ Here b → runPass by best s left at ≡ runPass by (taken best (moved b by)) s (left - 1) (at + 48)
+    run-on b h e = rw (boxes-more s at left b h e) (pass-cons best (moved b by) _)
 
     -- no box is left
-    pub run-none : (left : ℕ) → left ≤ 0 → runPass by best s left at ≡ best
-    unfolding run topsOf
-    run-none zero h = refl
-    run-none (suc n) h = absurd (omega arith)
+    pub run-none : left ≤ 0 → runPass by best s left at ≡ best
+    unfolding topsOf
+    run-none h = let z : left ≡ 0 = omega arith in rw (z, boxes-none s at)
 
   -- ---- a cell, by the tests on it
 

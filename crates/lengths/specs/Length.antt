@@ -1,13 +1,13 @@
 -- The length of a list of waypoint records (01, "Scenes and walkprint"): "the f64 sum, from 0.0 in list order, of straight distances between neighbours".
-use Prim.Native.Nat.{ℕ, zero, suc, _+_, _*_, _/_}
+use Prim.Native.Nat.{ℕ, zero, suc, _*_, _/_}
 use mathlib.Core.List.{List, [], _∷_}
 use lib.ListN.{length}
 use lib.Ieee.{Float, binary64, add}
 use Rattle.floats.specs.Floats.{nought}
-use Rattle.fields.specs.Little.{floatField}
 use Rattle.root.specs.Distance.{distance}
 use Rattle.world.specs.declared.Point.{Point}
 use Rattle.world.specs.Boxes.{minus}
+use Rattle.world.specs.Space.{pointAt}
 
 -- a straight distance, of the differences of the later point and the earlier one
 unfoldable pub apart : Point → Point → Float
@@ -24,8 +24,8 @@ through [] = nought
 through (p ∷ ps) = onward nought p ps
 
 -- "Waypoint record 40 bytes: feet x, y, z, .."
-unfoldable pub feetAt : List ℕ → ℕ → Point
-feetAt list k = record { x = floatField list (40 * k); y = floatField list (40 * k + 8); z = floatField list (40 * k + 16) }
+abbrev pub feetAt : List ℕ → ℕ → Point
+feetAt list k = pointAt list (40 * k)
 
 -- the feet of n records from record k on
 abbrev pub feetFrom : List ℕ → ℕ → ℕ → List Point

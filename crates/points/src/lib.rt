@@ -1,6 +1,7 @@
 // What is done with points (01, "Boxes"), axis by axis, one rounding per operation. The type and the definitions are `world`'s.
 ghost use mathlib.Core.Path.{_≡_};
-ghost use Rattle.world.specs.Boxes.{corner, plus, minus};
+ghost use Rattle.world.specs.Boxes.{corner, plus, minus, span};
+use world::Aabb;
 use world::Point;
 
 // A cell's least corner.
@@ -33,5 +34,23 @@ pub fn difference(p: Point, q: Point) -> Point
         x: p.x - q.x,
         y: p.y - q.y,
         z: p.z - q.z,
+    }
+}
+
+// The span of two points: of each coordinate the smaller and the larger.
+pub fn span(p: Point, q: Point) -> Aabb
+    ensures { λ r. ⌜ r ≡ span p q ⌝ }
+{
+    Aabb {
+        min: Point {
+            x: floats::min(p.x, q.x),
+            y: floats::min(p.y, q.y),
+            z: floats::min(p.z, q.z),
+        },
+        max: Point {
+            x: floats::max(p.x, q.x),
+            y: floats::max(p.y, q.y),
+            z: floats::max(p.z, q.z),
+        },
     }
 }

@@ -9,7 +9,6 @@ use lib.Dec.{ltb}
 use lib.ListN.{drop}
 use lib.Ieee.{Float, binary64, lt, le, add}
 use Rattle.floats.specs.Floats.{E, nought, larger}
-use borrow.Author.Tests.{ltb-true, ltb-false}
 use Rattle.cells.specs.RangeLaws.{fold-stays}
 use Rattle.cells.specs.Regions.{toCome}
 use Rattle.cells.specs.RegionLaws.{ended}
@@ -21,7 +20,7 @@ use Rattle.world.specs.declared.Aabb.{Aabb}
 use Rattle.world.specs.declared.Found.the-variants.{Here, End}
 use Rattle.world.specs.declared.Cell.the-variants.{Unknown, Known}
 use Rattle.world.specs.Boxes.{moved, cube}
-use Rattle.world.specs.Laws.{run-none as boxes-none, run-end as boxes-end, run-more as boxes-more, unknown-block, known-block}
+use Rattle.world.specs.Laws.{run-none as boxes-none, run-end as boxes-end, run-more as boxes-more, turn-taken, turns-end, unknown-block, known-block}
 use Rattle.world.specs.Space.{Space, boxHere, blockOf}
 use Rattle.support.specs.declared.Interval.{Interval}
 use Rattle.support.specs.declared.Reach.{Reach}
@@ -148,12 +147,7 @@ module _ (w : Way) (support : Bool) (by : Point) (s : List ℕ) (at : ℕ) where
   run-none r left h = let z : left ≡ 0 = omega arith in rw (z, boxes-none s at)
 
   pub run-stops : (r : Reach) (left : ℕ) → (ltb 0 left && not (r .refused)) ≡ false → after r left ≡ r
-  run-stops r left e = go (ltb 0 left) refl (r .refused) refl e
-    where
-      go : (t : Bool) → ltb 0 left ≡ t → (b : Bool) → r .refused ≡ b → (t && not b) ≡ false → after r left ≡ r
-      go false p b q e = run-none r left (ltb-false 0 left p)
-      go true p true q e = refused-stays w r (runShapes support by s left at) q
-      go true p false q e = cc
+  run-stops r left e = turns-end 0 left (r .refused) e (run-none r left) (refused-stays w r (runShapes support by s left at))
 
 -- ---- a cell
 
@@ -181,7 +175,7 @@ turned more r e = go more (r .refused) refl e
     go false b q e = absurd (let z : _≡_ {A = ℕ} 0 1 = cc in omega arith)
 
 pub turns : (k n : ℕ) (r : Reach) → (ltb k n && not (r .refused)) ≡ true → (k < n) × (reached (r .to) ≡ r)
-turns k n r e = let t = turned (ltb k n) r e in (ltb-true k n (t .0), t .1)
+turns k n r e = let t = turn-taken k n (r .refused) e in (t .0, unrefused r (t .1))
 
 -- ---- the loop over the cells: what a cell makes of the pass, then the rest; and the end, or a pass that is refused
 

@@ -12,7 +12,7 @@ use Rattle.cells.specs.declared.regions.Region.{Region}
 use Rattle.cells.specs.declared.regions.Spot.{Spot}
 use Rattle.world.specs.declared.Point.{Point}
 use Rattle.world.specs.declared.Aabb.{Aabb}
-use Rattle.world.specs.Boxes.{one}
+use Rattle.world.specs.Boxes.{one, span}
 use Rattle.world.specs.Space.{Space, Block}
 use Rattle.support.specs.declared.Interval.{Interval}
 use Rattle.support.specs.declared.Span.{Span}
@@ -27,9 +27,10 @@ halfOne = ofBits binary64 0x3fe0_0000_0000_0000
 unfoldable pub footprint : Float → Point → Point → Aabb
 footprint width from to =
     let half = mul binary64 width halfOne in
+    let feet = span from to in
     record {
-      min = record { x = sub binary64 (smaller (from .x) (to .x)) half; y = smaller (from .y) (to .y); z = sub binary64 (smaller (from .z) (to .z)) half };
-      max = record { x = add binary64 (larger (from .x) (to .x)) half; y = larger (from .y) (to .y); z = add binary64 (larger (from .z) (to .z)) half };
+      min = record { x = sub binary64 (feet .min .x) half; y = feet .min .y; z = sub binary64 (feet .min .z) half };
+      max = record { x = add binary64 (feet .max .x) half; y = feet .max .y; z = add binary64 (feet .max .z) half };
     }
 
 -- a box of a cell, and whether the cell has bit 2

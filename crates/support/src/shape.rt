@@ -13,16 +13,17 @@ pub fn footprint(width: f64, from: Point, to: Point) -> Aabb
     ensures { λ r. ⌜ r ≡ footprint width from to ⌝ }
 {
     let half = width * 0.5;
+    let feet = points::span(from, to);
     Aabb {
         min: Point {
-            x: floats::min(from.x, to.x) - half,
-            y: floats::min(from.y, to.y),
-            z: floats::min(from.z, to.z) - half,
+            x: feet.min.x - half,
+            y: feet.min.y,
+            z: feet.min.z - half,
         },
         max: Point {
-            x: floats::max(from.x, to.x) + half,
-            y: floats::max(from.y, to.y),
-            z: floats::max(from.z, to.z) + half,
+            x: feet.max.x + half,
+            y: feet.max.y,
+            z: feet.max.z + half,
         },
     }
 }

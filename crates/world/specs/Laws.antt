@@ -4,8 +4,8 @@ use Prim.Native.Nat.{ℕ, zero, suc, _+_, _-_, _*_, _/_, _%_, _^_, _≤_, _<_}
 use native.Mathlib.Omega.{arith}
 use native.Mathlib.Nat.{mul-le-mul}
 use mathlib.Core.Path.{_≡_, refl, sym, ap, _∙_}
-use mathlib.Core.Bool.{Bool, true, false, _&&_, cond}
-use borrow.Author.Tests.{lt-ltb, le-ltb, le-leb, lt-leb, ltb-true, ltb-false, leb-true, leb-false}
+use mathlib.Core.Bool.{Bool, true, false, not, _&&_, cond}
+use borrow.Author.Tests.{lt-ltb, le-ltb, le-leb, lt-leb, ltb-true, ltb-false, leb-true, leb-false, not-true}
 use lib.Dec.{T, ltb, leb, eqb}
 use lib.IntN.{ℤ, pos, negsuc, _+ℤ_, _-ℤ_, natAbs}
 use lib.Signed.{ltZ, leZ, nonNeg}
@@ -16,8 +16,8 @@ use Rattle.cells.specs.Parts.{over, under, sum, difference, size, lt-yes, lt-no
 use mathlib.Core.List.{List, [], _∷_, map}
 use lib.ListN.{length, getD, take, drop, length-drop, drop-of-length-le}
 use lib.Seq.{take-all}
-use Rattle.fields.specs.Little.{field}
-use Rattle.fields.specs.Laws.{four, field-parts}
+use Rattle.fields.specs.Little.{field, floatField}
+use Rattle.fields.specs.Laws.{four, field-out, field-parts}
 use Rattle.world.specs.declared.Window.{Window}
 use Rattle.world.specs.declared.Point.{Point}
 use Rattle.world.specs.declared.Aabb.{Aabb}
@@ -29,6 +29,13 @@ use Rattle.world.specs.declared.Entry.{Entry}
 use Rattle.world.specs.declared.Entry.the-variants.{Of, Missing}
 use Rattle.world.specs.Boxes.{moved, cube, corner}
 use Rattle.world.specs.Space.{Place, At, Out, place, onward, recordOf, entryAt, entryIn, mayOccupy, maySupport, collides, ofParts, known, knownBy, cellIn, cellAt, pointAt, boxAt, boxHere, run, blockOf, space}
+
+-- ---- a point past the table's end reads as one at its end
+
+pub point-past : (s : List ℕ) (at : ℕ) → length s ≤ at → pointAt s (length s) ≡ pointAt s at
+unfolding pointAt floatField
+point-past s at h =
+    rw (field-out 8 s at (omega arith), field-out 8 s (at + 8) (omega arith), field-out 8 s (at + 16) (omega arith), field-out 8 s (length s) (omega arith), field-out 8 s (length s + 8) (omega arith), field-out 8 s (length s + 16) (omega arith))
 
 -- ---- a box record, where there is one
 
@@ -138,12 +145,26 @@ part-is n s = take-all (length s - n) (drop n s) (omega (arith, length-drop n s)
 pub part-past : (n : ℕ) (s : List ℕ) → length s < n → take (length s - length s) (drop (length s) s) ≡ drop n s
 part-past n s h = part-is (length s) s ∙ drop-of-length-le s {i = length s} (omega arith) ∙ sym (drop-of-length-le s {i = n} (omega arith))
 
--- ---- `place`, by the parts of a number
+-- ---- a loop that goes on as long as there are more and nothing has stopped it: a turn of it, and its end
 
 both : (s t : Bool) → (s && t) ≡ true → (s ≡ true) × (t ≡ true)
 both true true e = (refl, refl)
 both true false e = absurd (let z : _≡_ {A = ℕ} 0 1 = cc in omega arith)
 both false t e = absurd (let z : _≡_ {A = ℕ} 0 1 = cc in omega arith)
+
+module _ (k n : ℕ) (stopped : Bool) where
+  pub turn-taken : (ltb k n && not stopped) ≡ true → (k < n) × (stopped ≡ false)
+  turn-taken e = let t = both (ltb k n) (not stopped) e in (ltb-true k n (t .0), not-true stopped (t .1))
+
+  pub turns-end : {P : Type 0} → (ltb k n && not stopped) ≡ false → (n ≤ k → P) → (stopped ≡ true → P) → P
+  turns-end {P} e f g = go (ltb k n) refl stopped refl e
+    where
+      go : (s : Bool) → ltb k n ≡ s → (t : Bool) → stopped ≡ t → (s && not t) ≡ false → P
+      go false p t q e = f (ltb-false k n p)
+      go true p true q e = g q
+      go true p false q e = absurd (let z : _≡_ {A = ℕ} 0 1 = cc in omega arith)
+
+-- ---- `place`, by the parts of a number
 
 place-in : (z : ℤ) (n : ℕ) → under z ≤ over z → over z < n + under z → n ≤ 256 → place z n ≡ At (natAbs z)
 unfolding place

@@ -8,6 +8,7 @@ pub use space::box_at;
 pub use space::boxes_from;
 pub use space::cell_at;
 pub use space::entry_at;
+pub use space::point_at;
 
 // A place in the world, or a difference of two.
 pub struct Point {

@@ -1,9 +1,9 @@
 // The space that the tables are (01, "Tables, little-endian records"): which record of the cell table a cell is, what its state and its shape
 // make of it, and the box records. Each record is read once, and nothing is divided but by a power of two.
 ghost use mathlib.Core.Path.{_≡_};
-ghost use Prim.Native.Nat.{_+_, _*_, _≤_};
+ghost use Prim.Native.Nat.{_*_};
 ghost use lib.IntN.{_-ℤ_};
-ghost use lib.ListN.{length, drop};
+ghost use lib.ListN.{drop};
 ghost use Rattle.world.specs.Space.{place, recordOf, entryAt, entryIn, ofParts, known, cellAt, pointAt, boxHere};
 ghost use Rattle.world.specs.Laws.{far};
 use crate::Aabb;
@@ -102,15 +102,16 @@ pub fn boxes_from(boxes: &[u8], first: u32) -> &[u8]
     }
 }
 
-// The point whose three numbers stand from an offset on.
-fn point_at(s: &[u8], at: usize) -> Point
-    requires { ⌜ at + 24 ≤ length (now s) ⌝ }
+// The point whose three numbers stand from an offset on; an offset past the table is as good as its end.
+pub fn point_at(s: &[u8], at: usize) -> Point
     ensures { λ r. ⌜ r ≡ pointAt (now (s .entry)) at ⌝ }
 {
+    let end = s.len();
+    let from = if at < end { at } else { end };
     Point {
-        x: fields::f64_at(s, at),
-        y: fields::f64_at(s, at + 8),
-        z: fields::f64_at(s, at + 16),
+        x: fields::f64_at(s, from),
+        y: fields::f64_at(s, from + 8),
+        z: fields::f64_at(s, from + 16),
     }
 }
 

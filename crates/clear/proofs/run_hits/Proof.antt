@@ -8,9 +8,9 @@ use denote.Ref.{now}
 use lib.ListN.{length}
 use Rattle.world.specs.declared.Found.the-variants.{Here}
 use Rattle.world.specs.Boxes.{moved, meets}
-use Rattle.world.specs.Laws.{box-room}
+use Rattle.world.specs.Laws.{box-room, turn-taken}
 use Rattle.world.specs.Space.{boxHere}
-use Rattle.clear.specs.Laws.{runHits, run-turn, run-end, run-on, run-stops}
+use Rattle.clear.specs.Laws.{runHits, run-end, run-on, run-stops}
 use Rattle.clear.proofs.run_hits.Statement.{statement}
 use Rattle.clear.proofs.run_hits.Tie as tie
 
@@ -23,7 +23,7 @@ abbrev μ-loop : tie.MeasureT-loop
 -- a turn: what is left and that none is hit, the box that was read, and whether it intersects the area
 module _ (c : tie.After-intersects Inv-loop μ-loop) where
   turn : (0 < c .before .before .before .before .before .before .before .loop .left) × (c .before .before .before .before .before .before .before .loop .hit ≡ false)
-  turn = run-turn (c .before .before .before .before .before .before .before .before .before .args .area) (c .before .before .before .before .before .before .before .before .before .args .by) (now (c .before .before .before .before .before .before .before .before .before .args .part)) (c .before .before .before .before .before .before .before .loop .at) (c .before .before .before .before .before .before .before .loop .hit) (c .before .before .before .before .before .before .before .loop .left) (c .before .before .before .before .before .before .loop-test .taken)
+  turn = turn-taken 0 (c .before .before .before .before .before .before .before .loop .left) (c .before .before .before .before .before .before .before .loop .hit) (c .before .before .before .before .before .before .loop-test .taken)
 
   here : boxHere (now (c .before .before .before .before .before .before .before .before .before .args .part)) (c .before .before .before .before .before .before .before .loop .at) ≡ Here (c .before .before .before .b .given .0 .0)
   here = sym (c .before .before .before .before .before .box-at .ensures) ∙ c .before .before .before .b .given .1
@@ -45,8 +45,8 @@ enum-told c = search needs
 
 returns : tie.Need-returns Inv-loop μ-loop
 returns c =
-    let t = run-turn (c .before .before .before .before .before .before .args .area) (c .before .before .before .before .before .before .args .by) (now (c .before .before .before .before .before .before .args .part)) (c .before .before .before .before .loop .at) (c .before .before .before .before .loop .hit) (c .before .before .before .before .loop .left) (c .before .before .before .loop-test .taken) in
-    sym ((rw (t .1) at (c .before .before .before .before .loop .inv .1)) ∙ run-end (c .before .before .before .before .before .before .args .area) (c .before .before .before .before .before .before .args .by) (now (c .before .before .before .before .before .before .args .part)) (c .before .before .before .before .loop .at) (c .before .before .before .before .loop .left) (t .0) (sym (c .before .before .box-at .ensures) ∙ c .enum-told .given .1))
+    let t = turn-taken 0 (c .before .before .before .before .loop .left) (c .before .before .before .before .loop .hit) (c .before .before .before .loop-test .taken) in
+    sym ((rw (t .1) at (c .before .before .before .before .loop .inv .1)) ∙ run-end (c .before .before .before .before .before .before .args .area) (c .before .before .before .before .before .before .args .by) (now (c .before .before .before .before .before .before .args .part)) (c .before .before .before .before .loop .at) (c .before .before .before .before .loop .left) (sym (c .before .before .box-at .ensures) ∙ c .enum-told .given .1))
 
 offset-requires : tie.Need-offset-requires Inv-loop μ-loop
 offset-requires c κs = tt
@@ -71,7 +71,7 @@ loop-again c = (
 )
 
 returns-2 : tie.Need-returns-2 Inv-loop μ-loop
-returns-2 c = sym (c .before .loop .inv .1 ∙ run-stops (c .before .before .before .args .area) (c .before .before .before .args .by) (now (c .before .before .before .args .part)) (c .before .loop .at) (c .before .loop .hit) (c .before .loop .left) (c .loop-test .left))
+returns-2 c = sym (c .before .loop .inv .1 ∙ run-stops (c .before .before .before .args .area) (c .before .before .before .args .by) (now (c .before .before .before .args .part)) (c .before .loop .at) (c .before .loop .left) (c .before .loop .hit) (c .loop-test .left))
 
 pub run-hits-spec : {M : Type 1} → statement M
 run-hits-spec =

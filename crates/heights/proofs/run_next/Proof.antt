@@ -36,7 +36,7 @@ enum-told : tie.Need-enum-told Inv-loop μ-loop
 enum-told c = search needs
 
 returns : tie.Need-returns Inv-loop μ-loop
-returns c = sym (c .before .before .before .before .loop .inv .1 ∙ run-end (c .before .before .before .before .before .before .args .band) (c .before .before .before .before .before .before .args .x) (c .before .before .before .before .before .before .args .z) (c .before .before .before .before .before .before .args .after) (c .before .before .before .before .before .before .args .by) _ _ _ _ (c .before .before .before .loop-test .taken) (sym (c .before .before .box-at .ensures) ∙ c .enum-told .given .1))
+returns c = sym (c .before .before .before .before .loop .inv .1 ∙ run-end (c .before .before .before .before .before .before .args .band) (c .before .before .before .before .before .before .args .x) (c .before .before .before .before .before .before .args .z) (c .before .before .before .before .before .before .args .after) (c .before .before .before .before .before .before .args .by) _ _ _ _ (sym (c .before .before .box-at .ensures) ∙ c .enum-told .given .1))
 
 offset-requires : tie.Need-offset-requires Inv-loop μ-loop
 offset-requires c κs = tt

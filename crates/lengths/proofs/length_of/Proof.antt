@@ -16,14 +16,17 @@ Inv-loop list n total₀ from₀ k₀ total from k = (lengthOf list ≡ onward t
 abbrev μ-loop : tie.MeasureT-loop
 μ-loop list n total₀ from₀ k₀ total from k = n - k
 
-feet-at-requires : tie.Need-feet-at-requires Inv-loop μ-loop
-feet-at-requires c κs = omega arith
+point-at-requires : tie.Need-point-at-requires Inv-loop μ-loop
+point-at-requires c κs = tt
 
 loop-holds : tie.Need-loop-holds Inv-loop μ-loop
-loop-holds c = (rw (c .feet-at .ensures) (starts (now (c .before .before .args .list))), refl)
+loop-holds c = (rw (c .point-at .ensures) (starts (now (c .before .before .args .list))), refl)
 
-feet-at-requires-2 : tie.Need-feet-at-requires-2 Inv-loop μ-loop
-feet-at-requires-2 c κs = omega arith
+mul-point-at : tie.Need-mul-point-at Inv-loop μ-loop
+mul-point-at c = record { fits = omega arith }
+
+point-at-requires-2 : tie.Need-point-at-requires-2 Inv-loop μ-loop
+point-at-requires-2 c κs = tt
 
 apart-requires : tie.Need-apart-requires Inv-loop μ-loop
 apart-requires c κs = tt
@@ -38,7 +41,7 @@ loop-again : tie.Need-loop-again Inv-loop μ-loop
 loop-again c =
     let at-loop = c .before .before .before in
     let list = now (at-loop .before .before .before .args .list) in (
-      rw (c .apart .ensures, c .before .feet-at2 .ensures)
+      rw (c .apart .ensures, c .before .point-at2 .ensures)
           (at-loop .loop .inv .0 ∙ goes-on list (length list / 40) (at-loop .loop .k) (at-loop .loop .total) (at-loop .loop .from) (c .before .before .loop-test .taken)),
       refl,
     )
@@ -55,9 +58,10 @@ length-of-spec =
     (tie.spec
     Inv-loop
     μ-loop
-    feet-at-requires
+    point-at-requires
     loop-holds
-    feet-at-requires-2
+    mul-point-at
+    point-at-requires-2
     apart-requires
     add-k
     loop-less
