@@ -4,11 +4,9 @@ use native.Mathlib.Omega.{arith}
 use mathlib.Core.Path.{_≡_, refl}
 use mathlib.Core.Bool.{Bool, true, false, not, _&&_, cond}
 use mathlib.Core.List.{List}
-use mathlib.Core.Logic.{_↔_}
 use borrow.Author.Tests.{eq-eqb, eqb-true}
 use lib.Dec.{eqb}
 use lib.ListN.{length}
-use Rattle.exploration.specs.WalkBack.{isRoute}
 use Rattle.exploration.specs.Claims.{route-test-exact}
 use Rattle.exploration.specs.Laws.Lists.{and-both, and-first, and-second}
 use Rattle.world.specs.declared.Body.{Body}
@@ -20,7 +18,6 @@ use Rattle.request.specs.Request.{validRequest, sizesTooLarge}
 use Rattle.places.specs.Places.{inRange, standable}
 use Rattle.ends.specs.Ends.{endsGood}
 use Rattle.steps.specs.Graph.{graph}
-use Rattle.walk_back.specs.declared.Walked.{Walked}
 use Rattle.walk_back.specs.declared.Walked.the-variants.{Yes, No, BadWorld, TooLarge}
 use Rattle.walk_back.specs.Listed.{waypoints}
 use Rattle.walk_back.specs.WalkBack.{isRouteList, RouteList, walked}

@@ -1,17 +1,16 @@
 -- What the code goes by: each of its paths, in the words of the definitions.
-use Prim.Native.Nat.{ℕ, zero, suc, _+_, _-_, _/_, _%_, _≤_, _<_}
+use Prim.Native.Nat.{ℕ, suc, _+_, _-_, _/_, _%_, _≤_, _<_}
 use native.Mathlib.Omega.{arith}
 use native.Mathlib.Numerals.{add-one}
 use mathlib.Core.Path.{_≡_, refl, sym, ap, _∙_}
 use mathlib.Core.Bool.{Bool, true, false, not, _&&_, _||_, cond, and-true, and-false, and-assoc}
 use mathlib.Core.List.{List, [], _∷_, _++_, map}
-use borrow.Author.Tests.{eqb-true, eqb-false, ltb-true, ltb-false}
+use borrow.Author.Tests.{eq-eqb, ne-eqb, eqb-true, eqb-false, ltb-true, ltb-false}
 use lib.Dec.{eqb, ltb}
-use lib.Ieee.{Float}
 use lib.ListN.{length}
 use Rattle.exploration.specs.Lists.{has}
 use Rattle.exploration.specs.Graph.{Graph, hasStep, labelled, connects}
-use Rattle.exploration.specs.WalkBack.{isLast, isWay, isRoute}
+use Rattle.exploration.specs.WalkBack.{isWay, isRoute}
 use Rattle.world.specs.declared.Point.{Point}
 use Rattle.world.specs.declared.Body.{Body}
 use Rattle.world.specs.declared.Request.{Request}
@@ -19,22 +18,16 @@ use Rattle.world.specs.Space.{Space}
 use Rattle.moves.specs.declared.answer.Waypoint.{Waypoint}
 use Rattle.moves.specs.declared.answer.EdgeAnswer.{EdgeAnswer}
 use Rattle.moves.specs.declared.answer.EdgeAnswer.the-variants.{To, Nowhere}
-use Rattle.edges.specs.Edges.{edge, connector}
+use Rattle.edges.specs.Edges.{connector}
 use Rattle.ends.specs.Ends.{endsGood}
-use Rattle.heights.specs.declared.Band.{Band}
-use Rattle.heights.specs.declared.Height.{Height}
-use Rattle.heights.specs.declared.Height.the-variants.{At, None}
-use Rattle.heights.specs.Heights.{tops, sorted, keptAfter, nextAfter}
-use Rattle.heights.specs.Next.{kept-next}
-use Rattle.heights.specs.Laws.{numbers}
-use Rattle.steps.specs.declared.columns.Centre.{Centre}
+use Rattle.heights.specs.declared.Height.the-variants.{None}
 use Rattle.sides.specs.declared.Sides.{Sides}
 use Rattle.sides.specs.Sides.{noSides, lookedBy, answeredBy, levelTo}
-use Rattle.steps.specs.Columns.{centreOf, bandOf, ahead, level, columnIf, stepsFrom}
-use Rattle.steps.specs.Expansion.{columnsFrom, columns-begin, columns-on, columns-end, sidesBefore, sides-begin, sides-on, skipped, stepsAfter, column-begins, column-ends, column-on, noted-none, noted-on}
+use Rattle.steps.specs.Columns.{ahead, level, columnIf, stepsFrom}
+use Rattle.steps.specs.Expansion.{columnsFrom, columns-begin, columns-on, columns-end, sidesBefore, sides-begin, sides-on, skipped, stepsAfter, column-begins, noted-none, noted-on}
 use Rattle.rooms.specs.declared.Feet.{Feet}
 use Rattle.rooms.specs.declared.Label.{Label}
-use Rattle.rooms.specs.Waypoints.{samePoint, alike, standing}
+use Rattle.rooms.specs.Waypoints.{canonicalWord, sameWord, samePoint, alike, standing}
 use Rattle.words.specs.Words.{pointOf, feetOf, labelOf, stepOf, labelIf}
 use Rattle.steps.specs.Graph.{graph}
 use Rattle.walk_back.specs.declared.listed.Listed.{Listed}
@@ -123,24 +116,6 @@ module _ (sp : Space) (r : Request) (body : Body) (from : Point) (n : ℕ) where
       Noted v from (columnIf sp r body from n) false false (cond looked (stepsAfter sp r body from n None) [])
   begun v looked e = let z : cond looked (stepsAfter sp r body from n None) [] ≡ columnIf sp r body from n = rw e (sym column-is) in rw z (refl, refl)
 
-  -- how many heights are left
-  abbrev pub heightsLeft : Height → ℕ
-  heightsLeft after = length (keptAfter after (sorted (tops sp (bandOf r body from) (centreOf from n .x) (centreOf from n .z))))
-
-  module _ (band : Band) (centre : Centre) (b : band ≡ bandOf r body from) (m : centre ≡ centreOf from n) (after : Height) where
-    pub none-left : nextAfter sp band (centre .x) (centre .z) after ≡ None → stepsAfter sp r body from n after ≡ []
-    none-left e = column-ends sp r body from n after (rw (b, m) at e)
-
-    module _ (y : Float) (e : nextAfter sp band (centre .x) (centre .z) after ≡ At y) where
-      pub next-ahead : stepsAfter sp r body from n after ≡ ahead (edge sp r body from (record { x = centre .x; y = y; z = centre .z })) (stepsAfter sp r body from n (At y))
-      next-ahead = let f : nextAfter sp (bandOf r body from) (centreOf from n .x) (centreOf from n .z) after ≡ At y = rw (b, m) at e in rw m (column-on sp r body from n after y f)
-
-      pub fewer : heightsLeft (At y) < heightsLeft after
-      unfolding nextAfter
-      fewer =
-          let f : nextAfter sp (bandOf r body from) (centreOf from n .x) (centreOf from n .z) after ≡ At y = rw (b, m) at e in
-          omega (arith, ap length (kept-next _ (numbers (bandOf r body from) (centreOf from n .x) (centreOf from n .z) sp) after y f))
-
 -- ---- column after column
 
 -- what the columns before column n have said: a step leads to the record; or none of theirs does, and their side answers
@@ -186,13 +161,13 @@ module _ (sp : Space) (r : Request) (body : Body) (from : Point) (v : Listed) wh
 
 -- ---- one pair
 
--- what the connector says of a label
+-- an answer is an edge with a label
 abbrev pub labelledBy : EdgeAnswer → Label → Bool
 labelledBy Nowhere l = false
 labelledBy (To step) l = alike (labelOf step) l
 
 -- the connector has a record's movement and lift
-unfoldable pub connectorTo : Space → Request → Body → Point → Listed → Bool
+abbrev pub connectorTo : Space → Request → Body → Point → Listed → Bool
 connectorTo sp r body from v = labelledBy (connector sp r body from) (label v)
 
 module _ (sp : Space) (r : Request) (body : Body) where
@@ -201,7 +176,7 @@ module _ (sp : Space) (r : Request) (body : Body) where
   step-is p v = has-of (λ (u : Feet × Label). samePoint (u .0) (feet v) && alike (u .1) (label v)) stepOf (stepsFrom sp r body (pointOf (feet p)))
 
   pub connector-is : (p v : Listed) → connectorTo sp r body (pointOf (feet p)) v ≡ connects (graph sp r body) (feet p) (entry v)
-  unfolding graph connectorTo
+  unfolding graph
   connector-is p v = go (connector sp r body (pointOf (feet p)))
     where
       go : (e : EdgeAnswer) → labelledBy e (label v) ≡ labelled (graph sp r body) (labelIf e) (label v)
@@ -234,6 +209,18 @@ module _ {P L : Type 0} (𝓖 : Graph P L) (p : P) (w : P × L) where
   unfolding isWay
   way-broken u ws e = rw e
 
+-- which of two points is named first does not matter
+eqb-turned : (a b : ℕ) → eqb a b ≡ eqb b a
+eqb-turned a b = go (eqb a b) refl
+  where
+    go : (o : Bool) → eqb a b ≡ o → eqb a b ≡ eqb b a
+    go true e = e ∙ sym (eq-eqb b a (sym (eqb-true a b e)))
+    go false e = e ∙ sym (ne-eqb b a (λ i. eqb-false a b e (sym i)))
+
+turned : (p q : Feet) → samePoint p q ≡ samePoint q p
+unfolding samePoint sameWord
+turned p q = λ i. eqb-turned (canonicalWord (p .x)) (canonicalWord (q .x)) i && eqb-turned (canonicalWord (p .y)) (canonicalWord (q .y)) i && eqb-turned (canonicalWord (p .z)) (canonicalWord (q .z)) i
+
 -- the records from record k on
 abbrev pub rest : List ℕ → ℕ → List (Feet × Label)
 rest s k = entriesFrom s k (length s / 40 - k)
@@ -251,9 +238,9 @@ module _ (sp : Space) (r : Request) (body : Body) (s : List ℕ) (p : Listed) wh
   abbrev pub wayFrom : ℕ → Bool
   wayFrom k = isWay (graph sp r body) (feet p) (rest s k)
 
-  pub at-end : (k : ℕ) → length s / 40 ≤ k → wayFrom k ≡ samePoint (feet p) (feetOf (r .goal))
+  pub at-end : (k : ℕ) → length s / 40 ≤ k → wayFrom k ≡ samePoint (feetOf (r .goal)) (feet p)
   unfolding isWay graph
-  at-end k h = rw (rest-end s k h)
+  at-end k h = rw (rest-end s k h) (turned (feet p) (feetOf (r .goal)))
 
   module _ (k : ℕ) (h : k < length s / 40) where
     pub goes-on : has (leadsTo (listedAt s k)) (stepsFrom sp r body (pointOf (feet p))) ≡ true → wayFrom k ≡ isWay (graph sp r body) (feet (listedAt s k)) (rest s (k + 1))
@@ -279,20 +266,20 @@ module _ (sp : Space) (r : Request) (body : Body) (s : List ℕ) (p : Listed) (k
 
   -- the last pair may be the connector
   pub pair-last : has (leadsTo v) (stepsFrom sp r body from) ≡ false →
-      wayFrom sp r body s p k ≡ ((eqb (k + 1) (length s / 40) && samePoint (feet v) (feetOf (r .goal))) && connectorTo sp r body from v)
+      wayFrom sp r body s p k ≡ ((eqb (k + 1) (length s / 40) && samePoint (feetOf (r .goal)) (feet v)) && connectorTo sp r body from v)
   pair-last e = go (eqb (k + 1) (length s / 40)) refl
     where
       f : has (leadsTo (listedAt s k)) (stepsFrom sp r body (pointOf (feet p))) ≡ false
       f = rw (here, there) at e
 
-      swap : (a b : Bool) → (a && b) ≡ (b && a)
-      swap true b = sym (and-true b)
-      swap false b = sym (and-false b)
+      swap : (a b c : Bool) → b ≡ c → (a && b) ≡ (c && a)
+      swap true b c t = t ∙ sym (and-true c)
+      swap false b c t = sym (and-false c)
 
-      go : (b : Bool) → eqb (k + 1) (length s / 40) ≡ b → wayFrom sp r body s p k ≡ ((b && samePoint (feet v) (feetOf (r .goal))) && connectorTo sp r body from v)
+      go : (b : Bool) → eqb (k + 1) (length s / 40) ≡ b → wayFrom sp r body s p k ≡ ((b && samePoint (feetOf (r .goal)) (feet v)) && connectorTo sp r body from v)
       go true q =
           let l = eqb-true (k + 1) (length s / 40) q in
-          rw (here, there) (by-connector sp r body s p k h f (omega (arith, l)) ∙ swap (connectorTo sp r body (pointOf (feet p)) (listedAt s k)) (samePoint (feet (listedAt s k)) (feetOf (r .goal))))
+          rw (here, there) (by-connector sp r body s p k h f (omega (arith, l)) ∙ swap (connectorTo sp r body (pointOf (feet p)) (listedAt s k)) _ _ (turned (feet (listedAt s k)) (feetOf (r .goal))))
       go false q = broken sp r body s p k h f (omega (arith, eqb-false (k + 1) (length s / 40) q))
 
 -- ---- the tests of a list, in the code's order

@@ -1,18 +1,19 @@
 // The walk-back (01, Modules 5): whether a list of waypoint records is a route. It searches nothing and reads no rooms.
 //
-// `listed` has the records of the list and how they compare, `pairs` whether one pair is a graph step or a connector, and here the list is gone through once.
+// `listed` has the records of the list and how they compare, `pairs` whether one pair is a graph step, and here the list is gone through once.
 pub mod listed;
 mod pairs;
 
 ghost use mathlib.Core.Path.{_≡_};
-ghost use Prim.Native.Nat.{_≤_, _-_, _/_};
+ghost use Prim.Native.Nat.{_-_, _/_};
 ghost use lib.ListN.{length};
 ghost use Rattle.world.specs.Space.{space};
 ghost use Rattle.exploration.specs.WalkBack.{isWay};
 ghost use Rattle.steps.specs.Graph.{graph};
 ghost use Rattle.walk_back.specs.Listed.{listedAt, feet, entriesFrom};
-ghost use Rattle.walk_back.specs.WalkBack.{isRouteList, walked};
+ghost use Rattle.walk_back.specs.WalkBack.{walked};
 pub use listed::Listed;
+use rooms::Feet;
 use world::Body;
 use world::Request;
 use world::Window;
@@ -27,14 +28,8 @@ pub enum Walked {
 
 // Whether the records behind the first lead from it to the goal.
 fn leads(
-    w: Window,
-    cells: &[u8],
-    perms: &[u8],
-    shapes: &[u8],
-    boxes: &[u8],
-    r: Request,
-    body: Body,
-    list: &[u8],
+    w: Window, cells: &[u8], perms: &[u8], shapes: &[u8], boxes: &[u8],
+    r: Request, body: Body, list: &[u8],
 ) -> bool
     ensures { λ a. ⌜ a ≡ isWay (graph (space w (now (cells .entry)) (now (perms .entry)) (now (shapes .entry)) (now (boxes .entry))) r body) (feet (listedAt (now (list .entry)) 0)) (entriesFrom (now (list .entry)) 1 (length (now (list .entry)) / 40 - 1)) ⌝ }
 {
@@ -42,36 +37,16 @@ fn leads(
     let mut last = listed::listed_at(list, 0);
     let mut k: usize = 1;
     while k < n {
-        let from = listed::point_at(last);
+        let from = words::point_of(Feet { x: last.x, y: last.y, z: last.z });
         let v = listed::listed_at(list, k);
         if !pairs::has_step(w, cells, perms, shapes, boxes, r, body, from, v) {
-            return (k + 1 == n)
-                && listed::is_goal(r.goal, v)
-                && pairs::connects(w, cells, perms, shapes, boxes, r, body, from, v);
+            return ((k + 1 == n) & listed::same_feet(r.goal, v))
+                && listed::labelled_by(edges::connector(w, cells, perms, shapes, boxes, r, body, from), v);
         }
         last = v;
         k += 1;
     }
-    listed::is_goal(r.goal, last)
-}
-
-// Whether a list is a route, for a valid request.
-fn is_route(
-    w: Window,
-    cells: &[u8],
-    perms: &[u8],
-    shapes: &[u8],
-    boxes: &[u8],
-    r: Request,
-    body: Body,
-    list: &[u8],
-) -> bool
-    ensures { λ a. ⌜ a ≡ isRouteList (space w (now (cells .entry)) (now (perms .entry)) (now (shapes .entry)) (now (boxes .entry))) r body (now (list .entry)) ⌝ }
-{
-    ((list.len() % 40 == 0) & (0 < list.len()))
-        && listed::is_start(r.start, listed::listed_at(list, 0))
-        && ends::ends_good(w, cells, perms, shapes, boxes, r, body)
-        && leads(w, cells, perms, shapes, boxes, r, body, list)
+    listed::same_feet(r.goal, last)
 }
 
 // Whether a list is a route: 3, an invalid request (no), 4 without the budget, then yes or no.
@@ -96,7 +71,10 @@ pub fn walk_back(
     if request::sizes_too_large(r, body) {
         return Walked::TooLarge;
     }
-    if is_route(w, cells, perms, shapes, boxes, r, body, list) {
+    if ((list.len() % 40 == 0) & (0 < list.len()) & listed::is_start(r.start, listed::listed_at(list, 0)))
+        && ends::ends_good(w, cells, perms, shapes, boxes, r, body)
+        && leads(w, cells, perms, shapes, boxes, r, body, list)
+    {
         return Walked::Yes;
     }
     Walked::No

@@ -4,10 +4,11 @@ ghost use mathlib.Core.Bool.{_&&_};
 ghost use Prim.Native.Nat.{_*_, _≤_};
 ghost use lib.ListN.{length};
 ghost use Rattle.rooms.specs.Waypoints.{samePoint, alike, standing};
-ghost use Rattle.words.specs.Words.{pointOf, feetOf, labelOf};
+ghost use Rattle.words.specs.Words.{feetOf, labelOf};
 ghost use Rattle.walk_back.specs.Listed.{listedAt, feet, label};
-ghost use Rattle.walk_back.specs.Laws.{leadsTo};
+ghost use Rattle.walk_back.specs.Laws.{leadsTo, labelledBy};
 use equal_points::same_word;
+use moves::EdgeAnswer;
 use moves::Waypoint;
 use rooms::Feet;
 use world::Point;
@@ -41,19 +42,8 @@ pub(crate) fn listed_at(list: &[u8], k: usize) -> Listed
     }
 }
 
-// The point of a record.
-pub(crate) fn point_at(v: Listed) -> Point
-    ensures { λ p. ⌜ p ≡ pointOf (feet v) ⌝ }
-{
-    words::point_of(Feet {
-        x: v.x,
-        y: v.y,
-        z: v.z,
-    })
-}
-
 // Whether a point is a record's.
-fn same_feet(p: Point, v: Listed) -> bool
+pub(crate) fn same_feet(p: Point, v: Listed) -> bool
     ensures { λ r. ⌜ r ≡ samePoint (feetOf p) (feet v) ⌝ }
 {
     let feet = words::feet_of(p);
@@ -84,24 +74,19 @@ pub(crate) fn same_label(step: Waypoint, v: Listed) -> bool
     (movement == v.movement) & same_word(lift, v.lift)
 }
 
+// Whether an answer is an edge with a record's movement and lift.
+pub(crate) fn labelled_by(answer: EdgeAnswer, v: Listed) -> bool
+    ensures { λ r. ⌜ r ≡ labelledBy answer (label v) ⌝ }
+{
+    let EdgeAnswer::To(step) = answer else {
+        return false;
+    };
+    same_label(step, v)
+}
+
 // Whether a record is the start's: its point, Walk, and lift 0.
 pub(crate) fn is_start(start: Point, v: Listed) -> bool
     ensures { λ r. ⌜ r ≡ (samePoint (feetOf start) (feet v) && alike standing (label v)) ⌝ }
 {
     same_feet(start, v) & ((0 == v.movement) & same_word(0, v.lift))
-}
-
-// Whether a record is at the goal.
-pub(crate) fn is_goal(goal: Point, v: Listed) -> bool
-    ensures { λ r. ⌜ r ≡ samePoint (feet v) (feetOf goal) ⌝ }
-{
-    let feet = words::feet_of(goal);
-    equal_points::same_point(
-        Feet {
-            x: v.x,
-            y: v.y,
-            z: v.z,
-        },
-        feet,
-    )
 }

@@ -1,4 +1,4 @@
-// One pair of the list: whether a graph step, or the connector, leads from a point to the next record (01, The graph, "Graph step" and "Connector").
+// One pair of the list: whether a graph step leads from a point to the next record (01, The graph, "Graph step").
 //
 // The columns and their heights are gone through as an expansion goes through them, since diagonals wait for the answers of the sides; the first edge that
 // leads to the record ends it.
@@ -9,7 +9,7 @@ ghost use Rattle.exploration.specs.Lists.{has};
 ghost use Rattle.sides.specs.Sides.{lookedBy};
 ghost use Rattle.steps.specs.Columns.{bandOf, stepsFrom, columnIf};
 ghost use Rattle.steps.specs.Expansion.{sidesBefore};
-ghost use Rattle.walk_back.specs.Laws.{leadsTo, Noted, connectorTo};
+ghost use Rattle.walk_back.specs.Laws.{leadsTo, Noted};
 use crate::listed;
 use crate::listed::Listed;
 use heights::Band;
@@ -29,18 +29,8 @@ pub(crate) struct Looked {
 
 // What column n says; one that is not looked at has no edges.
 fn look_column(
-    w: Window,
-    cells: &[u8],
-    perms: &[u8],
-    shapes: &[u8],
-    boxes: &[u8],
-    r: Request,
-    body: Body,
-    from: Point,
-    band: Band,
-    looked: bool,
-    n: usize,
-    v: Listed,
+    w: Window, cells: &[u8], perms: &[u8], shapes: &[u8], boxes: &[u8],
+    r: Request, body: Body, from: Point, band: Band, looked: bool, n: usize, v: Listed,
 ) -> Looked
     requires { ⌜ band ≡ bandOf r body from ⌝ }
     requires { ⌜ looked ≡ lookedBy (sidesBefore (space w (now cells) (now perms) (now shapes) (now boxes)) r body from n) n ⌝ }
@@ -66,15 +56,8 @@ fn look_column(
 
 // Whether a graph step leads from a point to a record.
 pub(crate) fn has_step(
-    w: Window,
-    cells: &[u8],
-    perms: &[u8],
-    shapes: &[u8],
-    boxes: &[u8],
-    r: Request,
-    body: Body,
-    from: Point,
-    v: Listed,
+    w: Window, cells: &[u8], perms: &[u8], shapes: &[u8], boxes: &[u8],
+    r: Request, body: Body, from: Point, v: Listed,
 ) -> bool
     ensures { λ a. ⌜ a ≡ has (leadsTo v) (stepsFrom (space w (now (cells .entry)) (now (perms .entry)) (now (shapes .entry)) (now (boxes .entry))) r body from) ⌝ }
 {
@@ -89,25 +72,4 @@ pub(crate) fn has_step(
         n += 1;
     }
     met
-}
-
-// Whether the connector from a point has a record's movement and lift.
-pub(crate) fn connects(
-    w: Window,
-    cells: &[u8],
-    perms: &[u8],
-    shapes: &[u8],
-    boxes: &[u8],
-    r: Request,
-    body: Body,
-    from: Point,
-    v: Listed,
-) -> bool
-    ensures { λ a. ⌜ a ≡ connectorTo (space w (now (cells .entry)) (now (perms .entry)) (now (shapes .entry)) (now (boxes .entry))) r body from v ⌝ }
-{
-    let EdgeAnswer::To(step) = edges::connector(w, cells, perms, shapes, boxes, r, body, from)
-    else {
-        return false;
-    };
-    listed::same_label(step, v)
 }

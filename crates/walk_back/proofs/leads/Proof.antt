@@ -1,10 +1,9 @@
 -- `walk_back::leads` meets its contract. Assumes nothing.
 use mathlib.Core.Path.{_≡_, refl, sym, ap, _∙_}
-use mathlib.Core.Bool.{_&&_}
-use mathlib.Core.Logic.{⊎-elim}
+use mathlib.Core.Bool.{Bool, _&&_}
 use Prim.Native.Nat.{_+_, _-_, _/_}
 use native.Mathlib.Omega.{arith}
-use borrow.Author.Tests.{not-true, not-false, eq-eqb, ne-eqb}
+use borrow.Author.Tests.{not-true, not-false}
 use borrow.Author.Needs.{needs}
 use denote.Ref.{now}
 use lib.Dec.{eqb}
@@ -12,12 +11,13 @@ use lib.ListN.{length}
 use mir.Syntax.{w64}
 use mir.Val.{Fits}
 use Rattle.world.specs.Space.{Space, space}
+use Rattle.moves.specs.declared.answer.EdgeAnswer.{EdgeAnswer}
 use Rattle.rooms.specs.Waypoints.{samePoint}
 use Rattle.words.specs.Words.{feetOf}
 use Rattle.places.specs.Laws.{asked, spared}
 use Rattle.walk_back.specs.declared.listed.Listed.{Listed}
-use Rattle.walk_back.specs.Listed.{listedAt, feet}
-use Rattle.walk_back.specs.Laws.{wayFrom, at-end, pair-on, pair-last}
+use Rattle.walk_back.specs.Listed.{listedAt, feet, label}
+use Rattle.walk_back.specs.Laws.{labelledBy, connectorTo, wayFrom, at-end, pair-on, pair-last}
 use Rattle.walk_back.proofs.leads.Statement.{statement}
 use Rattle.walk_back.proofs.leads.Tie as tie
 
@@ -37,8 +37,17 @@ fits : (c : tie.In-loop Inv-loop μ-loop) → Fits w64 (c .before .loop .k + 1)
 fits c = search needs
 
 -- the last pair, and to the goal
-at-goal : (c : tie.Joined2 Inv-loop μ-loop) → let s = c .before .before .before .before .before .before .before .before .before .before .before .before .before in c .if2 .if3 ≡ (eqb (c .before .before .before .before .before .before .loop .k + 1) (length (now (s .args .list)) / 40) && samePoint (feet (c .before .before .before .listed-at2 .result)) (feetOf (s .args .r .goal)))
-at-goal c = ⊎-elim (λ t. asked refl (eq-eqb _ _ (t .0 .taken)) (t .2 ∙ t .1 .ensures)) (λ e. spared refl _ (ne-eqb _ _ (e .0 .left)) (e .1)) (c .if2 .came)
+at-goal : (c : tie.After-same-feet Inv-loop μ-loop) → let s = c .before .before .before .before .before .before .before .before .before .before .before .before .before in
+    (eqb (c .before .before .before .before .before .before .loop .k + 1) (length (now (s .args .list)) / 40) && c .same-feet .result) ≡ (eqb (c .before .before .before .before .before .before .loop .k + 1) (length (now (s .args .list)) / 40) && samePoint (feetOf (s .args .r .goal)) (feet (c .before .before .before .listed-at2 .result)))
+at-goal c = ap (λ (b : Bool). eqb (c .before .before .before .before .before .before .loop .k + 1) (length (now (c .before .before .before .before .before .before .before .before .before .before .before .before .before .args .list)) / 40) && b) (c .same-feet .ensures)
+
+-- what the code goes by where no graph step leads to the record
+last-pair : (c : tie.After-same-feet Inv-loop μ-loop) → let s = c .before .before .before .before .before .before .before .before .before .before .before .before .before in
+    wayFrom (sp s) (s .args .r) (s .args .body) (now (s .args .list)) (listedAt (now (s .args .list)) 0) 1
+    ≡ ((eqb (c .before .before .before .before .before .before .loop .k + 1) (length (now (s .args .list)) / 40) && samePoint (feetOf (s .args .r .goal)) (feet (c .before .before .before .listed-at2 .result))) && connectorTo (sp s) (s .args .r) (s .args .body) (c .before .before .before .before .point-of .result) (c .before .before .before .listed-at2 .result))
+last-pair c =
+    let s = c .before .before .before .before .before .before .before .before .before .before .before .before .before in
+    c .before .before .before .before .before .before .loop .inv ∙ pair-last (sp s) (s .args .r) (s .args .body) (now (s .args .list)) (c .before .before .before .before .before .before .loop .last) (c .before .before .before .before .before .before .loop .k) (c .before .before .before .before .before .loop-test .taken) _ _ (c .before .before .before .listed-at2 .ensures) (c .before .before .before .before .point-of .ensures) (sym (c .before .before .has-step .ensures) ∙ not-true _ (c .before .if1 .taken))
 
 listed-at-requires : tie.Need-listed-at-requires Inv-loop μ-loop
 listed-at-requires c κs = search needs
@@ -46,8 +55,8 @@ listed-at-requires c κs = search needs
 loop-holds : tie.Need-loop-holds Inv-loop μ-loop
 loop-holds c = let s = c .before .before .before .before .before .before in ap (λ (v : Listed). wayFrom (sp s) (s .args .r) (s .args .body) (now (s .args .list)) v 1) (sym (c .listed-at .ensures))
 
-point-at-requires : tie.Need-point-at-requires Inv-loop μ-loop
-point-at-requires c κs = tt
+point-of-requires : tie.Need-point-of-requires Inv-loop μ-loop
+point-of-requires c κs = tt
 
 listed-at-requires-2 : tie.Need-listed-at-requires-2 Inv-loop μ-loop
 listed-at-requires-2 c κs = omega (arith, c .before .loop-test .taken)
@@ -58,27 +67,22 @@ has-step-requires c κs = tt
 add-if2 : tie.Need-add-if2 Inv-loop μ-loop
 add-if2 c = fits (c .before .before .before .before)
 
-is-goal-requires : tie.Need-is-goal-requires Inv-loop μ-loop
-is-goal-requires c κs = tt
+same-feet-requires : tie.Need-same-feet-requires Inv-loop μ-loop
+same-feet-requires c κs = tt
 
-connects-requires : tie.Need-connects-requires Inv-loop μ-loop
-connects-requires c κs = tt
+connector-requires : tie.Need-connector-requires Inv-loop μ-loop
+connector-requires c κs = tt
+
+labelled-by-requires : tie.Need-labelled-by-requires Inv-loop μ-loop
+labelled-by-requires c κs = tt
 
 returns : tie.Need-returns Inv-loop μ-loop
 returns c =
-    let s = c .before .before .before .before .before .before .before .before .before .before .before .before .before .before .before in
-    asked (at-goal (c .before .before)) (c .before .if3 .taken) (c .connects .ensures)
-    ∙ sym
-    (c .before .before .before .before .before .before .before .before .loop .inv
-    ∙ pair-last (sp s) (s .args .r) (s .args .body) (now (s .args .list)) (c .before .before .before .before .before .before .before .before .loop .last) (c .before .before .before .before .before .before .before .before .loop .k) (c .before .before .before .before .before .before .before .loop-test .taken) _ _ (c .before .before .before .before .before .listed-at2 .ensures) (c .before .before .before .before .before .before .point-at .ensures) (sym (c .before .before .before .before .has-step .ensures) ∙ not-true _ (c .before .before .before .if1 .taken)))
+    asked (at-goal (c .before .before .before)) (c .before .before .if2 .taken) (c .labelled-by .ensures ∙ ap (λ (e : EdgeAnswer). labelledBy e (label (c .before .before .before .before .before .before .listed-at2 .result))) (c .before .connector .ensures))
+    ∙ sym (last-pair (c .before .before .before))
 
 returns-2 : tie.Need-returns-2 Inv-loop μ-loop
-returns-2 c =
-    let s = c .before .before .before .before .before .before .before .before .before .before .before .before .before .before in
-    spared (at-goal (c .before)) _ (c .if3 .left) refl
-    ∙ sym
-    (c .before .before .before .before .before .before .before .loop .inv
-    ∙ pair-last (sp s) (s .args .r) (s .args .body) (now (s .args .list)) (c .before .before .before .before .before .before .before .loop .last) (c .before .before .before .before .before .before .before .loop .k) (c .before .before .before .before .before .before .loop-test .taken) _ _ (c .before .before .before .before .listed-at2 .ensures) (c .before .before .before .before .before .point-at .ensures) (sym (c .before .before .before .has-step .ensures) ∙ not-true _ (c .before .before .if1 .taken)))
+returns-2 c = spared (at-goal (c .before)) _ (c .if2 .left) refl ∙ sym (last-pair (c .before))
 
 add-k : tie.Need-add-k Inv-loop μ-loop
 add-k c = fits (c .before .before .before .before)
@@ -90,15 +94,15 @@ loop-again : tie.Need-loop-again Inv-loop μ-loop
 loop-again c =
     let s = c .before .before .before .before .before .before .before .before .before .before .before .before in
     c .before .before .before .before .before .loop .inv
-    ∙ pair-on (sp s) (s .args .r) (s .args .body) (now (s .args .list)) (c .before .before .before .before .before .loop .last) (c .before .before .before .before .before .loop .k) (c .before .before .before .before .loop-test .taken) _ _ (c .before .before .listed-at2 .ensures) (c .before .before .before .point-at .ensures) (sym (c .before .has-step .ensures) ∙ not-false _ (c .if1 .left))
+    ∙ pair-on (sp s) (s .args .r) (s .args .body) (now (s .args .list)) (c .before .before .before .before .before .loop .last) (c .before .before .before .before .before .loop .k) (c .before .before .before .before .loop-test .taken) _ _ (c .before .before .listed-at2 .ensures) (c .before .before .before .point-of .ensures) (sym (c .before .has-step .ensures) ∙ not-false _ (c .if1 .left))
 
-is-goal-requires-2 : tie.Need-is-goal-requires-2 Inv-loop μ-loop
-is-goal-requires-2 c κs = tt
+same-feet-requires-2 : tie.Need-same-feet-requires-2 Inv-loop μ-loop
+same-feet-requires-2 c κs = tt
 
 returns-3 : tie.Need-returns-3 Inv-loop μ-loop
 returns-3 c =
     let s = c .before .before .before .before .before .before .before .before .before in
-    c .is-goal2 .ensures ∙ sym (c .before .before .loop .inv ∙ at-end (sp s) (s .args .r) (s .args .body) (now (s .args .list)) (c .before .before .loop .last) (c .before .before .loop .k) (c .before .loop-test .left))
+    c .same-feet2 .ensures ∙ sym (c .before .before .loop .inv ∙ at-end (sp s) (s .args .r) (s .args .body) (now (s .args .list)) (c .before .before .loop .last) (c .before .before .loop .k) (c .before .loop-test .left))
 
 pub leads-spec : {M : Type 1} → statement M
 leads-spec =
@@ -108,16 +112,17 @@ leads-spec =
     μ-loop
     listed-at-requires
     loop-holds
-    point-at-requires
+    point-of-requires
     listed-at-requires-2
     has-step-requires
     add-if2
-    is-goal-requires
-    connects-requires
+    same-feet-requires
+    connector-requires
+    labelled-by-requires
     returns
     returns-2
     add-k
     loop-less
     loop-again
-    is-goal-requires-2
+    same-feet-requires-2
     returns-3)

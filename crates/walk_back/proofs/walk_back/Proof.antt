@@ -1,9 +1,36 @@
 -- `walk_back::walk_back` meets its contract. Assumes nothing.
-use mathlib.Core.Path.{_≡_, refl, sym, ap, _∙_}
+use mathlib.Core.Path.{_≡_, sym, ap, _∙_}
+use mathlib.Core.Bool.{Bool, true, false, _&&_, cond}
+use mathlib.Core.Logic.{inl, inr}
+use borrow.Author.Needs.{needs}
 use borrow.Author.Tests.{not-true, not-false}
-use Rattle.walk_back.specs.WalkBack.{walked}
+use denote.Ref.{now}
+use lib.Dec.{eqb, ltb}
+use lib.ListN.{length}
+use Prim.Native.Nat.{_%_}
+use Rattle.world.specs.Space.{Space, space}
+use Rattle.walk_back.specs.declared.Walked.the-variants.{Yes, No}
+use Rattle.walk_back.specs.declared.listed.Listed.{Listed}
+use Rattle.walk_back.specs.WalkBack.{isRouteList, walked}
+use Rattle.walk_back.specs.Laws.{starts, begins, route-is}
 use Rattle.walk_back.proofs.walk_back.Statement.{statement}
 use Rattle.walk_back.proofs.walk_back.Tie as tie
+
+abbrev sp : tie.Start → Space
+sp s = let a = s .args in space (a .w) (now (a .cells)) (now (a .perms)) (now (a .shapes)) (now (a .boxes))
+
+-- what is left once nothing refuses: whether the list is a route
+past : (c : tie.Else3) (route : Bool) → let s = c .before .before .before .before .before .before .before .before .before .before .before in isRouteList (sp s) (s .args .r) (s .args .body) (now (s .args .list)) ≡ route →
+    cond route Yes No ≡ walked (s .args .w) (now (s .args .cells)) (now (s .args .perms)) (now (s .args .shapes)) (now (s .args .boxes)) (s .args .r) (s .args .body) (now (s .args .list))
+unfolding walked
+past c route e = rw (sym (c .before .before .before .before .before .bad-world .ensures) ∙ c .before .before .before .before .if1 .left, sym (c .before .before .before .valid-request .ensures) ∙ not-false _ (c .before .before .if2 .left), sym (c .before .sizes-too-large .ensures) ∙ c .if3 .left, e)
+
+-- the first test of a list
+begins-is : (c : tie.After-is-start) → let s = c .before .before .before .before .before .before .before .before .before .before .before .before .before in
+    (eqb (length (now (s .args .list)) % 40) 0 && ltb 0 (length (now (s .args .list))) && c .is-start .result) ≡ begins (sp s) (s .args .r) (s .args .body) (now (s .args .list))
+begins-is c =
+    let a = c .before .before .before .before .before .before .before .before .before .before .before .before .before .args in
+    ap (λ (b : Bool). eqb (length (now (a .list)) % 40) 0 && ltb 0 (length (now (a .list))) && b) (c .is-start .ensures ∙ ap (λ (v : Listed). starts (a .r) v) (c .before .listed-at .ensures))
 
 bad-world-requires : tie.Need-bad-world-requires
 bad-world-requires c κs = tt
@@ -26,16 +53,32 @@ returns-3 : tie.Need-returns-3
 unfolding walked
 returns-3 c = rw (sym (c .before .before .before .before .before .bad-world .ensures) ∙ c .before .before .before .before .if1 .left, sym (c .before .before .before .valid-request .ensures) ∙ not-false _ (c .before .before .if2 .left), sym (c .before .sizes-too-large .ensures) ∙ c .if3 .taken)
 
-is-route-requires : tie.Need-is-route-requires
-is-route-requires c κs = tt
+listed-at-requires : tie.Need-listed-at-requires
+listed-at-requires c κs = search needs
+
+is-start-requires : tie.Need-is-start-requires
+is-start-requires c κs = tt
+
+ends-good-requires : tie.Need-ends-good-requires
+ends-good-requires c κs = tt
+
+leads-requires : tie.Need-leads-requires
+leads-requires c κs = tt
 
 returns-4 : tie.Need-returns-4
-unfolding walked
-returns-4 c = rw (sym (c .before .before .before .before .before .before .before .bad-world .ensures) ∙ c .before .before .before .before .before .before .if1 .left, sym (c .before .before .before .before .before .valid-request .ensures) ∙ not-false _ (c .before .before .before .before .if2 .left), sym (c .before .before .before .sizes-too-large .ensures) ∙ c .before .before .if3 .left, sym (c .before .is-route .ensures) ∙ c .if4 .taken)
+returns-4 c =
+    let s = c .before .before .before .before .before .before .before .before .before .before .before .before .before .before .before .before .before .before in
+    past (c .before .before .before .before .before .before .before) true (sym (route-is (sp s) (s .args .r) (s .args .body) (now (s .args .list)))
+    ∙ rw (sym (begins-is (c .before .before .before .before .before)) ∙ c .before .before .before .before .if4 .taken, sym (c .before .before .before .ends-good .ensures) ∙ c .before .before .if5 .taken, sym (c .before .leads .ensures) ∙ c .if6 .taken))
 
 returns-5 : tie.Need-returns-5
-unfolding walked
-returns-5 c = rw (sym (c .before .before .before .before .before .before .before .bad-world .ensures) ∙ c .before .before .before .before .before .before .if1 .left, sym (c .before .before .before .before .before .valid-request .ensures) ∙ not-false _ (c .before .before .before .before .if2 .left), sym (c .before .before .before .sizes-too-large .ensures) ∙ c .before .before .if3 .left, sym (c .before .is-route .ensures) ∙ c .if4 .left)
+returns-5 c =
+    let s = c .before .before .before .before .before .before .before .before .before .before .before .before .before .before in
+    past (c .before .before .before) false (sym (route-is (sp s) (s .args .r) (s .args .body) (now (s .args .list)))
+    ∙ elim (c .if4 .came) [
+      inl t ↦ rw (sym (begins-is (c .before)) ∙ t .0 .taken, sym (t .1 .ensures) ∙ t .2 .taken, sym (t .3 .ensures) ∙ t .4 .left)
+    | inr (inl t) ↦ rw (sym (begins-is (c .before)) ∙ t .0 .taken, sym (t .1 .ensures) ∙ t .2 .left)
+    | inr (inr t) ↦ rw (sym (begins-is (c .before)) ∙ t .left) ])
 
 pub walk-back-spec : {M : Type 1} → statement M
 walk-back-spec =
@@ -47,6 +90,9 @@ walk-back-spec =
     returns-2
     sizes-too-large-requires
     returns-3
-    is-route-requires
+    listed-at-requires
+    is-start-requires
+    ends-good-requires
+    leads-requires
     returns-4
     returns-5)

@@ -1,13 +1,13 @@
 -- `walk_back::pairs::look_column` meets its contract. Assumes nothing.
-use mathlib.Core.Path.{_≡_, sym, _∙_}
+use mathlib.Core.Path.{sym, _∙_}
 use mathlib.Core.Bool.{cond}
 use mathlib.Core.List.{[]}
 use borrow.Author.Needs.{needs}
 use denote.Ref.{now}
 use Rattle.world.specs.Space.{Space, space}
 use Rattle.steps.specs.Columns.{columnIf}
-use Rattle.steps.specs.Expansion.{stepsAfter}
-use Rattle.walk_back.specs.Laws.{Noted, noted-over, noted-all, noted-nowhere, noted-to, begun, heightsLeft, none-left, next-ahead, fewer}
+use Rattle.steps.specs.Expansion.{stepsAfter, heightsLeft, none-left, next-ahead, fewer}
+use Rattle.walk_back.specs.Laws.{Noted, noted-over, noted-all, noted-nowhere, noted-to, begun}
 use Rattle.walk_back.proofs.pairs.look_column.Statement.{statement}
 use Rattle.walk_back.proofs.pairs.look_column.Tie as tie
 
@@ -58,12 +58,12 @@ enum-told-2 c = search needs
 loop-less : tie.Need-loop-less Inv-loop μ-loop
 loop-less c =
     let s = c .before .before .before .before .before .before .before .before .before .before .before .before .before .before .before .before .before in
-    fewer (sp s) (s .args .r) (s .args .body) (s .args .from) (s .args .n) (s .args .band) _ (s .pre .0) (c .before .before .before .before .before .before .before .before .before .before .before .before .column-centre .ensures) (c .before .before .before .before .before .before .before .before .before .before .before .loop .after) _ (sym (c .before .before .before .before .before .before .before .before .before .next-height .ensures) ∙ c .before .before .before .before .before .before .before .y .given .1)
+    fewer (sp s) (s .args .r) (s .args .body) (s .args .from) (s .args .n) (c .before .before .before .before .before .before .before .before .before .before .before .loop .after) (s .pre .0) (c .before .before .before .before .before .before .before .before .before .before .before .before .column-centre .ensures) (c .before .before .before .before .before .before .before .before .before .next-height .ensures) _ (c .before .before .before .before .before .before .before .y .given .1)
 
 loop-again : tie.Need-loop-again Inv-loop μ-loop
 loop-again c =
     let s = c .before .before .before .before .before .before .before .before .before .before .before .before .before .before .before .before .before in
-    let next = next-ahead (sp s) (s .args .r) (s .args .body) (s .args .from) (s .args .n) (s .args .band) _ (s .pre .0) (c .before .before .before .before .before .before .before .before .before .before .before .before .column-centre .ensures) (c .before .before .before .before .before .before .before .before .before .before .before .loop .after) _ (sym (c .before .before .before .before .before .before .before .before .before .next-height .ensures) ∙ c .before .before .before .before .before .before .before .y .given .1) in
+    let next = next-ahead (sp s) (s .args .r) (s .args .body) (s .args .from) (s .args .n) (c .before .before .before .before .before .before .before .before .before .before .before .loop .after) (s .pre .0) (c .before .before .before .before .before .before .before .before .before .before .before .before .column-centre .ensures) (c .before .before .before .before .before .before .before .before .before .next-height .ensures) _ (c .before .before .before .before .before .before .before .y .given .1) in
     rw (c .before .leads-to .ensures, c .is-level .ensures)
     (noted-to (s .args .v) (s .args .from) (columnIf (sp s) (s .args .r) (s .args .body) (s .args .from) (s .args .n)) (s .args .looked) (c .before .before .before .before .before .before .before .before .before .before .before .loop .met) (c .before .before .before .before .before .before .before .before .before .before .before .loop .level) _ (c .before .before .before .before .before .before .before .before .before .before .before .loop .inv) (c .before .before .before .before .before .before .before .before .before .before .loop-test .taken) _ _ next _ (sym (c .before .before .before .before .before .edge .ensures) ∙ c .before .before .before .step .given .1))
 
@@ -72,12 +72,12 @@ loop-again c =
 loop-less-2 : tie.Need-loop-less-2 Inv-loop μ-loop
 loop-less-2 c =
     let s = c .before .before .before .before .before .before .before .before .before .before .before .before .before .before in
-    fewer (sp s) (s .args .r) (s .args .body) (s .args .from) (s .args .n) (s .args .band) _ (s .pre .0) (c .before .before .before .before .before .before .before .before .before .column-centre .ensures) (c .before .before .before .before .before .before .before .before .loop .after) _ (sym (c .before .before .before .before .before .before .next-height .ensures) ∙ c .before .before .before .before .y .given .1)
+    fewer (sp s) (s .args .r) (s .args .body) (s .args .from) (s .args .n) (c .before .before .before .before .before .before .before .before .loop .after) (s .pre .0) (c .before .before .before .before .before .before .before .before .before .column-centre .ensures) (c .before .before .before .before .before .before .next-height .ensures) _ (c .before .before .before .before .y .given .1)
 
 loop-again-2 : tie.Need-loop-again-2 Inv-loop μ-loop
 loop-again-2 c =
     let s = c .before .before .before .before .before .before .before .before .before .before .before .before .before .before in
-    let next = next-ahead (sp s) (s .args .r) (s .args .body) (s .args .from) (s .args .n) (s .args .band) _ (s .pre .0) (c .before .before .before .before .before .before .before .before .before .column-centre .ensures) (c .before .before .before .before .before .before .before .before .loop .after) _ (sym (c .before .before .before .before .before .before .next-height .ensures) ∙ c .before .before .before .before .y .given .1) in
+    let next = next-ahead (sp s) (s .args .r) (s .args .body) (s .args .from) (s .args .n) (c .before .before .before .before .before .before .before .before .loop .after) (s .pre .0) (c .before .before .before .before .before .before .before .before .before .column-centre .ensures) (c .before .before .before .before .before .before .next-height .ensures) _ (c .before .before .before .before .y .given .1) in
     noted-nowhere (s .args .v) (s .args .from) (columnIf (sp s) (s .args .r) (s .args .body) (s .args .from) (s .args .n)) (s .args .looked) (c .before .before .before .before .before .before .before .before .loop .met) (c .before .before .before .before .before .before .before .before .loop .level) _ (c .before .before .before .before .before .before .before .before .loop .inv) (c .before .before .before .before .before .before .before .loop-test .taken) _ _ next (sym (c .before .before .edge .ensures) ∙ c .enum-told2 .given .1)
 
 -- ---- the ends of the loop
@@ -91,7 +91,7 @@ returns-2 : tie.Need-returns-2 Inv-loop μ-loop
 returns-2 c =
     let s = c .before .before .before .before .before .before .before .before .before .before in
     noted-all (s .args .v) (s .args .from) (columnIf (sp s) (s .args .r) (s .args .body) (s .args .from) (s .args .n)) (s .args .looked) (c .before .before .before .before .loop .met) (c .before .before .before .before .loop .level) _ (c .before .before .before .before .loop .inv)
-    (none-left (sp s) (s .args .r) (s .args .body) (s .args .from) (s .args .n) (s .args .band) _ (s .pre .0) (c .before .before .before .before .before .column-centre .ensures) (c .before .before .before .before .loop .after) (sym (c .before .before .next-height .ensures) ∙ c .enum-told .given .1))
+    (none-left (sp s) (s .args .r) (s .args .body) (s .args .from) (s .args .n) (c .before .before .before .before .loop .after) (s .pre .0) (c .before .before .before .before .before .column-centre .ensures) (c .before .before .next-height .ensures) (c .enum-told .given .1))
 
 pub look-column-spec : {M : Type 1} → statement M
 look-column-spec =
