@@ -1,0 +1,14 @@
+// The words that arguments are made of, and the digest of answers.
+use std::num::wrapping_add_u64;
+
+// The word after w in a row that holds every word but 0 (Marsaglia's xorshift).
+pub(crate) fn stirred(w: u64) -> u64 {
+    let a = w ^ (w << 13);
+    let b = a ^ (a >> 7);
+    b ^ (b << 17)
+}
+
+// One more answer: a digest that has lost a bit of it, or its place in the row, comes out otherwise.
+pub(crate) fn with(digest: u64, answer: u64) -> u64 {
+    stirred(wrapping_add_u64(digest, answer ^ 0x9e37_79b9_7f4a_7c15))
+}
