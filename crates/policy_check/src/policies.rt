@@ -51,8 +51,14 @@ pub(crate) fn asked(combination: u32, before: Digests) -> Digests {
     let mut permissions = before.permissions;
     for i in 0..256usize {
         let bits = i as u8;
-        passages = digest::with(passages, passage_number(policy.door_passage(Flags { bits })));
+        passages = digest::with(
+            passages,
+            passage_number(policy.door_passage(Flags { bits })),
+        );
         permissions = digest::with(permissions, table[i]);
     }
-    Digests { passages, permissions }
+    Digests {
+        passages,
+        permissions,
+    }
 }
