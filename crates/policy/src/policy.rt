@@ -96,7 +96,11 @@ impl WalkPolicy {
         };
         let water = self.avoid_water & !in_water & flags.has(Flags::WATER);
         let damage = self.avoid_damage_blocks & flags.has(Flags::DAMAGING);
-        if water | damage { byte & COLLIDES } else { byte }
+        if water | damage {
+            byte & COLLIDES
+        } else {
+            byte
+        }
     }
 
     // The permission byte of each flag byte, in a table of the same length; else nothing is written.

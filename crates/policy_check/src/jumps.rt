@@ -1,5 +1,6 @@
 // The jumps of the input, records of 24 bytes: the power's bits, 4 bytes that are not read, the
 // gravity's bits, 8 that are not read.
+use crate::output;
 use jump::Apex;
 use jump::jump_apex;
 use libc::STDIN_FILENO;
@@ -14,21 +15,25 @@ fn power_of(pattern: u32) -> f32 {
     }
 }
 
+// A space, and a float's bits.
+fn bits(pattern: u64) {
+    output::byte(b' ');
+    io::print_hex(STDOUT_FILENO, pattern, 16);
+}
+
 fn line(power: u32, gravity: u64) {
     io::write_all(STDOUT_FILENO, b"jump ");
     io::print_hex(STDOUT_FILENO, power as u64, 8);
-    io::write_all(STDOUT_FILENO, b" ");
-    io::print_hex(STDOUT_FILENO, gravity, 16);
+    bits(gravity);
     match jump_apex(power_of(power), floats::float_of(gravity)) {
         Apex::Height(height) => {
-            io::write_all(STDOUT_FILENO, b" ");
-            io::print_hex(STDOUT_FILENO, floats::bits_of(height), 16);
+            bits(floats::bits_of(height));
         }
         Apex::Endless => {
             io::write_all(STDOUT_FILENO, b" endless");
         }
     }
-    io::write_all(STDOUT_FILENO, b"\n");
+    output::byte(b'\n');
 }
 
 // A line for each of the input's first 4,096 records.

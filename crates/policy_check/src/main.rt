@@ -2,49 +2,39 @@
 // prints what `oracle policy` prints of the original (vectors/README.md, "policy").
 mod digest;
 mod jumps;
+mod output;
 mod policies;
 
-use digest::over;
+use digest::Digests;
 use libc::STDOUT_FILENO;
 
-// Digests over every policy so far.
-struct All {
-    passages: u64,
-    permissions: u64,
+// A label, and a number in decimal.
+fn labelled(label: &[u8], number: u64) {
+    io::write_all(STDOUT_FILENO, label);
+    io::print_decimal(STDOUT_FILENO, number);
 }
 
-fn digests(passages: u64, permissions: u64) {
-    io::write_all(STDOUT_FILENO, b" passages ");
-    io::print_decimal(STDOUT_FILENO, passages);
-    io::write_all(STDOUT_FILENO, b" permissions ");
-    io::print_decimal(STDOUT_FILENO, permissions);
-    io::write_all(STDOUT_FILENO, b"\n");
+// The rest of a line.
+fn print(digests: Digests) {
+    labelled(b" passages ", digests.passages);
+    labelled(b" permissions ", digests.permissions);
+    output::byte(b'\n');
 }
 
-// The line of a combination: a policy's number, and in water from 128 on.
-fn policy_line(combination: u32, all: All) -> All {
-    let policy = policies::numbered(combination);
-    let passages = policies::passages(policy);
-    let permissions = policies::permissions(policy, combination / 128 == 1);
-    io::write_all(STDOUT_FILENO, b"policy ");
-    io::print_decimal(STDOUT_FILENO, combination as u64);
-    digests(over(0, &passages), over(0, &permissions));
-    All {
-        passages: over(all.passages, &passages),
-        permissions: over(all.permissions, &permissions),
-    }
-}
-
+// A line for each combination, which is a policy's number, and in water from 128 on; and one for all of them.
 fn policy_lines() {
-    let mut all = All {
+    let none = Digests {
         passages: 0,
         permissions: 0,
     };
+    let mut all = none;
     for combination in 0..256u32 {
-        all = policy_line(combination, all);
+        labelled(b"policy ", combination as u64);
+        print(policies::asked(combination, none));
+        all = policies::asked(combination, all);
     }
     io::write_all(STDOUT_FILENO, b"all");
-    digests(all.passages, all.permissions);
+    print(all);
 }
 
 fn main() {

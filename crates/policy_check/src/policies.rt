@@ -1,27 +1,34 @@
 // Every policy, asked about every flag byte.
+use crate::digest;
+use digest::Digests;
 use policy::Flags;
 use policy::Passage;
 use policy::WalkPolicy;
 
+// Whether the bit of this weight is set in a policy's number.
+fn said(number: u32, weight: u32) -> bool {
+    number & weight != 0
+}
+
 // The policy of a number: bit k is the k-th yes or no from `avoid_water` on.
-pub(crate) fn numbered(number: u32) -> WalkPolicy {
+fn numbered(number: u32) -> WalkPolicy {
     WalkPolicy {
-        avoid_water: number % 2 == 1,
-        avoid_damage_blocks: number / 2 % 2 == 1,
-        can_jump: number / 4 % 2 == 1,
+        avoid_water: said(number, 1),
+        avoid_damage_blocks: said(number, 2),
+        can_jump: said(number, 4),
         jump_height: 0.0,
-        can_pass_doors: number / 8 % 2 == 1,
-        can_open_doors: number / 16 % 2 == 1,
-        can_open_iron_doors: number / 32 % 2 == 1,
-        door_breaker: number / 64 % 2 == 1,
+        can_pass_doors: said(number, 8),
+        can_open_doors: said(number, 16),
+        can_open_iron_doors: said(number, 32),
+        door_breaker: said(number, 64),
     }
 }
 
 // The flag bytes 0 to 255.
 fn all_flags() -> [u8; 256] {
     let mut flags = [0u8; 256];
-    for bits in 0..=255u8 {
-        flags[bits as usize] = bits;
+    for i in 0..256usize {
+        flags[i] = i as u8;
     }
     flags
 }
@@ -34,19 +41,24 @@ fn passage_number(passage: Passage) -> u8 {
     }
 }
 
-// How each flag byte is met.
-pub(crate) fn passages(policy: WalkPolicy) -> [u8; 256] {
-    let mut table = [0u8; 256];
-    for bits in 0..=255u8 {
-        table[bits as usize] = passage_number(policy.door_passage(Flags { bits }));
-    }
-    table
-}
-
-// The permission byte of each flag byte.
-pub(crate) fn permissions(policy: WalkPolicy, in_water: bool) -> [u8; 256] {
+// The digests with how a combination meets each flag byte, and with its permission byte.
+pub(crate) fn asked(combination: u32, before: Digests) -> Digests {
+    let policy = numbered(combination);
     let flags = all_flags();
     let mut table = [0u8; 256];
-    policy.fill_permissions(in_water, &flags, &mut table);
-    table
+    policy.fill_permissions(said(combination, 128), &flags, &mut table);
+    let mut passages = before.passages;
+    let mut permissions = before.permissions;
+    for i in 0..256usize {
+        let bits = i as u8;
+        passages = digest::with(
+            passages,
+            passage_number(policy.door_passage(Flags { bits })),
+        );
+        permissions = digest::with(permissions, table[i]);
+    }
+    Digests {
+        passages,
+        permissions,
+    }
 }

@@ -5,16 +5,31 @@ use Rattle.policy_check.proofs.policy_lines.Statement.{statement}
 use Rattle.policy_check.proofs.policy_lines.Tie as tie
 
 abbrev Inv-loop : tie.InvT-loop
-Inv-loop all₀ combination₀ t3 all combination = combination ≤ 256
+Inv-loop none all₀ combination₀ t4 t5 all combination = combination ≤ 256
 
 abbrev μ-loop : tie.MeasureT-loop
-μ-loop all₀ combination₀ t3 all combination = 256 - combination
+μ-loop none all₀ combination₀ t4 t5 all combination = 256 - combination
 
 loop-holds : tie.Need-loop-holds Inv-loop μ-loop
 loop-holds c = search needs
 
-policy-line-requires : tie.Need-policy-line-requires Inv-loop μ-loop
-policy-line-requires c κs = search needs
+slice-aggregate-labelled : tie.Need-slice-aggregate-labelled Inv-loop μ-loop
+slice-aggregate-labelled c = search needs
+
+cast-labelled : tie.Need-cast-labelled Inv-loop μ-loop
+cast-labelled c = search needs
+
+labelled-requires : tie.Need-labelled-requires Inv-loop μ-loop
+labelled-requires c κs = search needs
+
+asked-requires : tie.Need-asked-requires Inv-loop μ-loop
+asked-requires c κs = search needs
+
+print-requires : tie.Need-print-requires Inv-loop μ-loop
+print-requires c κs = search needs
+
+asked-requires-2 : tie.Need-asked-requires-2 Inv-loop μ-loop
+asked-requires-2 c κs = search needs
 
 add-combination : tie.Need-add-combination Inv-loop μ-loop
 add-combination c = search needs
@@ -31,8 +46,8 @@ slice-aggregate-write-all c = search needs
 write-all-requires : tie.Need-write-all-requires Inv-loop μ-loop
 write-all-requires c κs = search needs
 
-digests-requires : tie.Need-digests-requires Inv-loop μ-loop
-digests-requires c κs = search needs
+print-requires-2 : tie.Need-print-requires-2 Inv-loop μ-loop
+print-requires-2 c κs = search needs
 
 returns : tie.Need-returns Inv-loop μ-loop
 returns c = search needs
@@ -44,11 +59,16 @@ policy-lines-spec =
     Inv-loop
     μ-loop
     loop-holds
-    policy-line-requires
+    slice-aggregate-labelled
+    cast-labelled
+    labelled-requires
+    asked-requires
+    print-requires
+    asked-requires-2
     add-combination
     loop-less
     loop-again
     slice-aggregate-write-all
     write-all-requires
-    digests-requires
+    print-requires-2
     returns)

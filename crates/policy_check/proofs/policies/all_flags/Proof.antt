@@ -7,10 +7,10 @@ use Rattle.policy_check.proofs.policies.all_flags.Statement.{statement}
 use Rattle.policy_check.proofs.policies.all_flags.Tie as tie
 
 abbrev Inv-loop : tie.InvT-loop
-Inv-loop flags₀ bits₀ flags bits = (bits ≤ 255) × (length flags ≡ 256)
+Inv-loop flags₀ i₀ flags i = (i ≤ 256) × (length flags ≡ 256)
 
 abbrev μ-loop : tie.MeasureT-loop
-μ-loop flags₀ bits₀ flags bits = 255 - bits
+μ-loop flags₀ i₀ flags i = 256 - i
 
 loop-holds : tie.Need-loop-holds Inv-loop μ-loop
 loop-holds c = search needs
@@ -21,8 +21,8 @@ cast-flags c = search needs
 array-write-flags : tie.Need-array-write-flags Inv-loop μ-loop
 array-write-flags c = search needs
 
-add-bits : tie.Need-add-bits Inv-loop μ-loop
-add-bits c = search needs
+add-i : tie.Need-add-i Inv-loop μ-loop
+add-i c = search needs
 
 loop-less : tie.Need-loop-less Inv-loop μ-loop
 loop-less c = search needs
@@ -33,9 +33,6 @@ loop-again c = search needs
 returns : tie.Need-returns Inv-loop μ-loop
 returns c = search needs
 
-returns-2 : tie.Need-returns-2 Inv-loop μ-loop
-returns-2 c = search needs
-
 pub all-flags-spec : {M : Type 1} → statement M
 all-flags-spec =
     tie.close
@@ -45,8 +42,7 @@ all-flags-spec =
     loop-holds
     cast-flags
     array-write-flags
-    add-bits
+    add-i
     loop-less
     loop-again
-    returns
-    returns-2)
+    returns)
