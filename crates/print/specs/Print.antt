@@ -29,7 +29,7 @@ toldOf a out = record {
 }
 
 module _ (cells perms shapes boxes : List ℕ) where
-  -- the search of a scene with tables of exactly the sizes in use
+  -- the search of a scene with tables of exactly the sizes in use: its answer, and what it leaves in the lent rooms
   unfoldable pub answered : Scene → ℕ → ℕ → ℕ → search.Answer
   answered s nodes front out =
       found (s .window) (take (s .«in_use» .cells) cells) (take (s .«in_use» .perms) perms) (take (s .«in_use» .shapes) shapes)

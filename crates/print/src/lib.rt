@@ -1,5 +1,7 @@
-// What walkprint prints of a scene (01, "Scenes and walkprint"). `print_records` takes its records in; `telling` here searches it at the end of the input and
-// says what there is to print; `print_lines` has the lines. A program only moves the bytes.
+// What walkprint prints of a scene (01, "Scenes and walkprint"): `telling` searches it and says what there is to print, `moving` moves the bytes, records from
+// standard input and lines to standard output. `scene_progress` takes the records in; `print_lines` has the lines.
+pub mod moving;
 pub mod telling;
 
+pub use moving::print_scene;
 pub use telling::tell;

@@ -1,17 +1,12 @@
 // What there is to tell of a scene: its refusal, or what the search answers.
 ghost use mathlib.Core.Path.{_≡_};
 ghost use Prim.Native.Nat.{_*_};
-ghost use lib.ListN.{length, take};
-ghost use Rattle.outcomes.specs.Outcomes.{outcomeNumber};
-ghost use Rattle.scene_state.specs.Answers.{given};
-ghost use Rattle.print_records.specs.Progress.{sceneOf};
-ghost use Rattle.print.specs.Print.{refusal, toldOf, answered, nodesOf, frontOf, outOf, told};
+ghost use lib.ListN.{take};
+ghost use Rattle.scene_state.specs.Answers.{sceneAnswer};
+ghost use Rattle.print.specs.Print.{refusal, toldOf, nodesOf, frontOf, outOf, told};
 use outcomes::Answer;
-use outcomes::Outcome;
 use print_lines::Told;
-use print_records::Progress;
-use scene::Ended;
-use scene::Scene;
+use scene_state::SceneAnswer;
 
 fn refusal(number: u64, bad: u64) -> Told
     ensures { λ t. ⌜ t ≡ refusal number bad ⌝ }
@@ -64,47 +59,9 @@ fn told_of(a: Answer, out: &[u8]) -> Told
     }
 }
 
-// The search of a whole scene, with tables of exactly the sizes in use.
-fn search_scene(
-    s: Scene,
-    cells: &[u8],
-    perms: &[u8],
-    shapes: &[u8],
-    boxes: &[u8],
-    nodes: &mut [u8],
-    front: &mut [u8],
-    out: &mut [u8],
-) -> Answer
-    ensures answer { λ a. ⌜ a ≡ answered (now (cells .entry)) (now (perms .entry)) (now (shapes .entry)) (now (boxes .entry)) s (length (now (nodes .entry))) (length (now (front .entry))) (length (now (out .entry))) ⌝ }
-    ensures nodes { λ _. ⌜ now (nodes .exit) ≡ nodesOf (now (cells .entry)) (now (perms .entry)) (now (shapes .entry)) (now (boxes .entry)) (given s) (now (nodes .entry)) (now (front .entry)) (now (out .entry)) ⌝ }
-    ensures front { λ _. ⌜ now (front .exit) ≡ frontOf (now (cells .entry)) (now (perms .entry)) (now (shapes .entry)) (now (boxes .entry)) (given s) (now (nodes .entry)) (now (front .entry)) (now (out .entry)) ⌝ }
-    ensures out { λ _. ⌜ now (out .exit) ≡ outOf (now (cells .entry)) (now (perms .entry)) (now (shapes .entry)) (now (boxes .entry)) (given s) (now (nodes .entry)) (now (front .entry)) (now (out .entry)) ⌝ }
-{
-    let used = s.in_use;
-    let used_cells = front_of(cells, used.cells);
-    let used_perms = front_of(perms, used.perms);
-    let used_shapes = front_of(shapes, used.shapes);
-    let used_boxes = front_of(boxes, used.boxes);
-    let w = s.window;
-    let r = s.request;
-    let body = s.body;
-    search::find_walk_path(
-        w,
-        used_cells,
-        used_perms,
-        used_shapes,
-        used_boxes,
-        r,
-        body,
-        nodes,
-        front,
-        out,
-    )
-}
-
-// The end of the input: a whole scene is searched, and its list written to `out`.
+// The end of the input: a whole scene is searched, with tables of exactly the sizes in use, and its list written to `out`.
 pub fn tell(
-    progress: Progress,
+    answer: SceneAnswer,
     cells: &[u8],
     perms: &[u8],
     shapes: &[u8],
@@ -113,19 +70,22 @@ pub fn tell(
     front: &mut [u8],
     out: &mut [u8],
 ) -> Told
-    ensures answer { λ t. ⌜ t ≡ told (now (cells .entry)) (now (perms .entry)) (now (shapes .entry)) (now (boxes .entry)) (sceneOf progress) (now (nodes .entry)) (now (front .entry)) (now (out .entry)) ⌝ }
-    ensures nodes { λ _. ⌜ now (nodes .exit) ≡ nodesOf (now (cells .entry)) (now (perms .entry)) (now (shapes .entry)) (now (boxes .entry)) (sceneOf progress) (now (nodes .entry)) (now (front .entry)) (now (out .entry)) ⌝ }
-    ensures front { λ _. ⌜ now (front .exit) ≡ frontOf (now (cells .entry)) (now (perms .entry)) (now (shapes .entry)) (now (boxes .entry)) (sceneOf progress) (now (nodes .entry)) (now (front .entry)) (now (out .entry)) ⌝ }
-    ensures out { λ _. ⌜ now (out .exit) ≡ outOf (now (cells .entry)) (now (perms .entry)) (now (shapes .entry)) (now (boxes .entry)) (sceneOf progress) (now (nodes .entry)) (now (front .entry)) (now (out .entry)) ⌝ }
+    ensures answer { λ t. ⌜ t ≡ told (now (cells .entry)) (now (perms .entry)) (now (shapes .entry)) (now (boxes .entry)) (sceneAnswer answer) (now (nodes .entry)) (now (front .entry)) (now (out .entry)) ⌝ }
+    ensures nodes { λ _. ⌜ now (nodes .exit) ≡ nodesOf (now (cells .entry)) (now (perms .entry)) (now (shapes .entry)) (now (boxes .entry)) (sceneAnswer answer) (now (nodes .entry)) (now (front .entry)) (now (out .entry)) ⌝ }
+    ensures front { λ _. ⌜ now (front .exit) ≡ frontOf (now (cells .entry)) (now (perms .entry)) (now (shapes .entry)) (now (boxes .entry)) (sceneAnswer answer) (now (nodes .entry)) (now (front .entry)) (now (out .entry)) ⌝ }
+    ensures out { λ _. ⌜ now (out .exit) ≡ outOf (now (cells .entry)) (now (perms .entry)) (now (shapes .entry)) (now (boxes .entry)) (sceneAnswer answer) (now (nodes .entry)) (now (front .entry)) (now (out .entry)) ⌝ }
 {
-    match progress {
-        Progress::Refused(n, k) => refusal(n, k),
-        Progress::Going(state) => match scene::end(state) {
-            Ended::Bad(k) => refusal(7, k),
-            Ended::Whole(s) => {
-                let a = search_scene(s, cells, perms, shapes, boxes, nodes, front, out);
-                told_of(a, out)
-            }
-        },
+    match answer {
+        SceneAnswer::NoRoom => refusal(5, 0),
+        SceneAnswer::BadScene(k) => refusal(7, k),
+        SceneAnswer::Whole(s) => {
+            let used = s.in_use;
+            let c = front_of(cells, used.cells);
+            let p = front_of(perms, used.perms);
+            let h = front_of(shapes, used.shapes);
+            let b = front_of(boxes, used.boxes);
+            let a = search::find_walk_path(s.window, c, p, h, b, s.request, s.body, nodes, front, out);
+            told_of(a, out)
+        }
     }
 }

@@ -1,8 +1,9 @@
--- A whole scene in one list of bytes (01, "Scenes and walkprint"). What each record says and makes is `scene`'s.
+-- A whole scene in one list of bytes (01, "Scenes and walkprint"). What each record says and makes is `scene`'s. Definitions only.
 use Prim.Native.Nat.{ℕ, zero, suc, _+_, _*_, _/_}
 use mathlib.Core.List.{List, [], _∷_}
 use lib.ListN.{length, take, drop}
 use Rattle.scene.specs.Scene.{Read, readAll}
+use Rattle.scene_progress.specs.Progress.{tablesOf}
 
 -- "Scene records are 64 bytes, no header": how many so many bytes are, a last partial one counted
 abbrev pub recordCount : ℕ → ℕ
@@ -23,4 +24,4 @@ records s = recordsFrom s 0 (recordCount (length s))
 -- what reading these bytes into these tables answers, and what it leaves in them: "after 7 the scene's tables hold what the records before it made, else old
 -- bytes"
 abbrev pub read : List ℕ → List ℕ → List ℕ → List ℕ → List ℕ → Read
-read bytes cells perms shapes boxes = readAll (record { cells = cells; perms = perms; shapes = shapes; boxes = boxes }) (records bytes)
+read bytes cells perms shapes boxes = readAll (tablesOf cells perms shapes boxes) (records bytes)

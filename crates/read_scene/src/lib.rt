@@ -1,25 +1,17 @@
-// A whole scene in one slice (01, "Scenes and walkprint"): its 64-byte records are handed to the reader of `scene` one after another. A last partial one is
-// handed on as it is, and is bad at its own number.
-
+// A whole scene in one slice (01, "Scenes and walkprint"): its 64-byte records are taken in one behind another. A last partial one is handed on as it is,
+// and is bad at its own number.
 ghost use mathlib.Core.Path.{_≡_};
 ghost use Prim.Native.Nat.{_<_};
 ghost use lib.ListN.{length};
-ghost use Rattle.scene_state.specs.Answers.{endedAnswer, sceneAnswer};
+ghost use Rattle.scene_state.specs.Answers.{sceneAnswer};
 ghost use Rattle.read_scene.specs.Whole.{recordCount, recordAt, read};
-use scene::Begun;
-use scene::Ended;
-use scene::Step;
 use scene_state::SceneAnswer;
 
 // How many records so many bytes are, a last partial one counted.
 fn record_count(len: usize) -> usize
     ensures { λ r. ⌜ r ≡ recordCount len ⌝ }
 {
-    if len % 64 == 0 {
-        len / 64
-    } else {
-        len / 64 + 1
-    }
+    len / 64 + (len % 64 + 63) / 64
 }
 
 // Record k: 64 bytes, or as many as are left.
@@ -33,15 +25,6 @@ fn record_at(bytes: &[u8], k: usize) -> &[u8]
     }
     let end = at + 64;
     &bytes[at..end]
-}
-
-fn ended_answer(e: Ended) -> SceneAnswer
-    ensures { λ a. ⌜ sceneAnswer a ≡ endedAnswer e ⌝ }
-{
-    match e {
-        Ended::Whole(scene) => SceneAnswer::Whole(scene),
-        Ended::Bad(number) => SceneAnswer::BadScene(number),
-    }
 }
 
 // A scene and the part of each lent table that it made; the first bad record, and the tables hold what those before it made; or no room, and nothing is
@@ -59,19 +42,11 @@ pub fn read_scene(
     ensures { λ _. ⌜ now (shapes .exit) ≡ read (now (bytes .entry)) (now (cells .entry)) (now (perms .entry)) (now (shapes .entry)) (now (boxes .entry)) .tables .shapes ⌝ }
     ensures { λ _. ⌜ now (boxes .exit) ≡ read (now (bytes .entry)) (now (cells .entry)) (now (perms .entry)) (now (shapes .entry)) (now (boxes .entry)) .tables .boxes ⌝ }
 {
-    let Begun::Ready(first) = scene::begin(cells, perms, shapes, boxes) else {
-        return SceneAnswer::NoRoom;
-    };
+    let mut so_far = scene_progress::begin(cells, perms, shapes, boxes);
     let n = record_count(bytes.len());
-    let mut state = first;
-    let mut k: usize = 0;
-    while k < n {
+    for k in 0..n {
         let piece = record_at(bytes, k);
-        let Step::On(next) = scene::read_record(state, piece, cells, perms, shapes, boxes) else {
-            return SceneAnswer::BadScene(state.number);
-        };
-        state = next;
-        k += 1;
+        so_far = scene_progress::take_record(so_far, piece, cells, perms, shapes, boxes);
     }
-    ended_answer(scene::end(state))
+    scene_progress::end(so_far)
 }

@@ -1,5 +1,5 @@
 // walkprint (01, "Scenes and walkprint"): reads a scene on standard input and prints what the search answers.
 
 fn main() {
-    walkprint_io::print_scene(usize::MAX);
+    print::print_scene(usize::MAX);
 }

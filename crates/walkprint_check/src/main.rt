@@ -12,6 +12,6 @@ fn main() {
     let count = word();
     for _ in 0..count {
         let bytes = word() as usize;
-        walkprint_io::print_scene(bytes);
+        print::print_scene(bytes);
     }
 }

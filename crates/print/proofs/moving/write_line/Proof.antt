@@ -1,10 +1,10 @@
--- `walkprint_io::write_line` is safe and ends: a line fits in the buffer. Assumes nothing.
+-- `print::moving::write_line` is safe and ends: a line fits in the buffer. Assumes nothing.
 use mathlib.Core.Path.{sym}
 use lib.Seq.{length-take-le}
 use Rattle.print_lines.specs.Laws.{count-fits}
 use borrow.Author.Needs.{needs}
-use Rattle.walkprint_io.proofs.write_line.Statement.{statement}
-use Rattle.walkprint_io.proofs.write_line.Tie as tie
+use Rattle.print.proofs.moving.write_line.Statement.{statement}
+use Rattle.print.proofs.moving.write_line.Tie as tie
 
 slice-aggregate-line : tie.Need-slice-aggregate-line
 slice-aggregate-line c = search needs

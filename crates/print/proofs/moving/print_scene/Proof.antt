@@ -1,12 +1,12 @@
--- `walkprint_io::print_scene` is safe and ends: the tables keep their lengths, and each record leaves fewer bytes. Assumes nothing.
+-- `print::moving::print_scene` is safe and ends: the tables keep their lengths, and each record leaves fewer bytes. Assumes nothing.
 use native.Mathlib.Omega.{arith}
 use mathlib.Core.Path.{_≡_, sym}
 use Prim.Native.Nat.{_≤_}
 use lib.ListN.{length}
 use lib.Seq.{length-take-le}
 use borrow.Author.Needs.{needs}
-use Rattle.walkprint_io.proofs.print_scene.Statement.{statement}
-use Rattle.walkprint_io.proofs.print_scene.Tie as tie
+use Rattle.print.proofs.moving.print_scene.Statement.{statement}
+use Rattle.print.proofs.moving.print_scene.Tie as tie
 
 abbrev Inv-loop : tie.InvT-loop
 Inv-loop bytes cells₀ perms₀ shapes₀ boxes₀ record₀ progress₀ left₀ count₀ cells perms shapes boxes «record» progress left count =
@@ -75,6 +75,9 @@ loop-less c = search needs
 loop-again : tie.Need-loop-again Inv-loop μ-loop
 loop-again c = search needs
 
+end-requires : tie.Need-end-requires Inv-loop μ-loop
+end-requires c κs = search needs
+
 slice-aggregate-print-told : tie.Need-slice-aggregate-print-told Inv-loop μ-loop
 slice-aggregate-print-told c = search needs
 
@@ -119,6 +122,7 @@ print-scene-spec =
     read-some-requires-2
     loop-less
     loop-again
+    end-requires
     slice-aggregate-print-told
     slice-aggregate-print-told-2
     slice-aggregate-print-told-3

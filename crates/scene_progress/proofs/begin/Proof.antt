@@ -1,7 +1,7 @@
--- `print_records::begin` meets its contract. Assumes nothing.
+-- `scene_progress::begin` meets its contract. Assumes nothing.
 use borrow.Author.Needs.{needs}
-use Rattle.print_records.proofs.begin.Statement.{statement}
-use Rattle.print_records.proofs.begin.Tie as tie
+use Rattle.scene_progress.proofs.begin.Statement.{statement}
+use Rattle.scene_progress.proofs.begin.Tie as tie
 
 begin-requires : tie.Need-begin-requires
 begin-requires c κs = search needs

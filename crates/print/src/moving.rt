@@ -1,10 +1,11 @@
-// Moves the bytes: a scene from standard input, record by record, and its lines to standard output. What they are is said by `print_records`, `print` and `print_lines`.
+// Moves the bytes: a scene from standard input, record by record, and its lines to standard output.
 ghost use Prim.Native.Nat.{_≤_};
 ghost use Rattle.io.specs.Counts.{Counts};
+use crate::telling;
 use libc::STDIN_FILENO;
 use libc::STDOUT_FILENO;
 use print_lines::Told;
-use print_records::Progress;
+use scene_state::SceneAnswer;
 
 // The next bytes of the input, at most n and as many as the buffer has.
 fn read_some(n: usize, buffer: &mut [u8]) -> usize
@@ -33,12 +34,12 @@ fn write_lines(told: Told, list: &[u8], n: usize) {
 }
 
 // Searches the scene that was read, or not, and prints what there is to tell. The rooms are those of a budget of 512.
-fn print_told(progress: Progress, cells: &[u8], perms: &[u8], shapes: &[u8], boxes: &[u8]) {
+fn print_told(answer: SceneAnswer, cells: &[u8], perms: &[u8], shapes: &[u8], boxes: &[u8]) {
     let mut nodes = [0u8; 28672];
     let mut front = [0u8; 12288];
     let mut out = [0u8; 20520];
-    let told = print::tell(
-        progress,
+    let told = telling::tell(
+        answer,
         cells,
         perms,
         shapes,
@@ -58,11 +59,11 @@ pub fn print_scene(bytes: usize) {
     let mut shapes = [0u8; 2048];
     let mut boxes = [0u8; 12288];
     let mut record = [0u8; 64];
-    let mut progress = print_records::begin(&cells, &perms, &shapes, &boxes);
+    let mut progress = scene_progress::begin(&cells, &perms, &shapes, &boxes);
     let mut left = bytes;
     let mut count = read_some(left, &mut record);
     while 0 < count {
-        progress = print_records::take_record(
+        progress = scene_progress::take_record(
             progress,
             &record[..count],
             &mut cells,
@@ -73,5 +74,5 @@ pub fn print_scene(bytes: usize) {
         left -= count;
         count = read_some(left, &mut record);
     }
-    print_told(progress, &cells, &perms, &shapes, &boxes);
+    print_told(scene_progress::end(progress), &cells, &perms, &shapes, &boxes);
 }

@@ -1,4 +1,4 @@
--- `walkprint_io::read_some` is safe and ends. Assumes nothing.
+-- `print::moving::read_some` is safe and ends. Assumes nothing.
 use native.Mathlib.Omega.{arith}
 use mathlib.Core.Path.{_≡_, sym}
 use denote.Ref.{now}
@@ -6,8 +6,8 @@ use lib.ListN.{length, take, length-append}
 use lib.Seq.{length-take-le}
 use Rattle.io.proofs.Counting.{counts}
 use borrow.Author.Needs.{needs}
-use Rattle.walkprint_io.proofs.read_some.Statement.{statement}
-use Rattle.walkprint_io.proofs.read_some.Tie as tie
+use Rattle.print.proofs.moving.read_some.Statement.{statement}
+use Rattle.print.proofs.moving.read_some.Tie as tie
 
 slice-relend-prefix-read-full : tie.Need-slice-relend-prefix-read-full
 slice-relend-prefix-read-full c = search needs

@@ -1,8 +1,8 @@
--- `walkprint_io::write_lines` is safe and ends. Assumes nothing.
+-- `print::moving::write_lines` is safe and ends. Assumes nothing.
 use Prim.Native.Nat.{_-_, _≤_}
 use borrow.Author.Needs.{needs}
-use Rattle.walkprint_io.proofs.write_lines.Statement.{statement}
-use Rattle.walkprint_io.proofs.write_lines.Tie as tie
+use Rattle.print.proofs.moving.write_lines.Statement.{statement}
+use Rattle.print.proofs.moving.write_lines.Tie as tie
 
 abbrev Inv-loop : tie.InvT-loop
 Inv-loop told list n k₀ k = k ≤ n
