@@ -10,8 +10,7 @@ use lib.ListN.{drop}
 use lib.Ieee.{Float, binary64, lt, le, add}
 use Rattle.floats.specs.Floats.{E, nought, larger}
 use Rattle.cells.specs.RangeLaws.{fold-stays}
-use Rattle.cells.specs.Regions.{toCome}
-use Rattle.cells.specs.RegionLaws.{ended}
+use Rattle.cells.specs.RegionLaws.{toCome, ended}
 use Rattle.cells.specs.declared.regions.Region.{Region}
 use Rattle.cells.specs.declared.regions.Spot.{Spot}
 use Rattle.cells.specs.declared.regions.Cursor.{Cursor}
