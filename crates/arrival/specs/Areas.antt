@@ -1,24 +1,22 @@
 -- Points and boxes that differ at most in signs of zeros: an area is clear where the other one is, and a point supports itself and what is alike.
-use Prim.Native.Nat.{ℕ, zero, suc}
 use mathlib.Core.Path.{_≡_, refl, sym, ap, _∙_}
-use mathlib.Core.Bool.{Bool, true, cond}
+use mathlib.Core.Bool.{true, cond}
 use mathlib.Core.Option.{Option, none, some}
 use mathlib.Core.List.{List, [], _∷_}
 use lib.Dec.{T}
-use lib.IntN.{ℤ, pos, _+ℤ_}
 use lib.Ieee.{Float, binary64, fits, lt, le, eq, add, sub, ofBits}
 use lib.Ieee.Fits.{add-fits, sub-fits}
 use Rattle.floats.specs.Floats.{E, nought, smaller, larger, canonical}
 use Rattle.cells.specs.Cells.{floorCell, ceilCell}
-use Rattle.cells.specs.declared.ranges.Range.{Range}
+use Rattle.cells.specs.declared.regions.Spot.{Spot}
 use Rattle.world.specs.declared.Point.{Point}
 use Rattle.world.specs.declared.Aabb.{Aabb}
 use Rattle.world.specs.Boxes.{one, plus, minZero, maxZero, fromFeet, expandTowards, meets, corner, voxel}
 use Rattle.world.specs.Space.{Space, Block}
 use Rattle.request.specs.Laws.{FinitePoint}
-use Rattle.clear.specs.Clear.{holds, each, hits, free, rowFree, layerFree, allFree, clear}
+use Rattle.clear.specs.Clear.{hits, free, allFree, around, clear}
 use Rattle.support.specs.declared.Interval.{Interval}
-use Rattle.support.specs.Support.{footprint, Shape, shapesUnder, counts, narrowed, andThen, interval, counting, intervals, carried, supported}
+use Rattle.support.specs.Support.{footprint, Shape, beneath, shapesUnder, counts, narrowed, andThen, interval, counting, intervals, carried, supported}
 use Rattle.arrival.specs.Alike.{Alike, Zero, zero-alike, add-alike, sub-alike, no-difference, with-zero, lt-alike, le-alike, eq-alike, smaller-alike, larger-alike, floor-alike, ceil-alike}
 
 pub record AlikePoint (p q : Point) : Type 0 where
@@ -99,15 +97,6 @@ swept-alike width height p q d h k z =
 
 -- ---- clear
 
-holds-alike : (f g : ℕ → Bool) → ((k : ℕ) → f k ≡ g k) → (k n : ℕ) → holds f k n ≡ holds g k n
-unfolding holds
-holds-alike f g e k zero = refl
-holds-alike f g e k (suc n) = rw (e k, holds-alike f g e (suc k) n)
-
-each-alike : (f g : ℤ → Bool) → ((z : ℤ) → f z ≡ g z) → (r : Range) → each f r ≡ each g r
-unfolding each
-each-alike f g e r = holds-alike _ _ (λ k. e (r .first +ℤ pos k)) 0 (r .count)
-
 module _ (a b : Aabb) (h : AlikeBox a b) where
   meets-alike : (v : Aabb) → meets v a ≡ meets v b
   unfolding meets
@@ -130,20 +119,13 @@ module _ (a b : Aabb) (h : AlikeBox a b) where
   free-alike p k = rw (meets-alike (voxel p), hits-alike (k .boxes))
 
   module _ (sp : Space) where
-    row-alike : (x y : ℤ) (zs : Range) → rowFree sp a x y zs ≡ rowFree sp b x y zs
-    unfolding rowFree
-    row-alike x y zs = each-alike _ _ (λ z. free-alike (corner x y z) (sp x y z)) zs
-
-    layer-alike : (y : ℤ) (xs zs : Range) → layerFree sp a y xs zs ≡ layerFree sp b y xs zs
-    unfolding layerFree
-    layer-alike y xs zs = each-alike _ _ (λ x. row-alike x y zs) xs
-
-    all-alike : (ys xs zs : Range) → allFree sp a ys xs zs ≡ allFree sp b ys xs zs
+    all-alike : (ps : List Spot) → allFree sp a ps ≡ allFree sp b ps
     unfolding allFree
-    all-alike ys xs zs = each-alike _ _ (λ y. layer-alike y xs zs) ys
+    all-alike [] = refl
+    all-alike (p ∷ ps) = rw (free-alike (corner (p .x) (p .y) (p .z)) (sp (p .x) (p .y) (p .z)), all-alike ps)
 
     pub clear-alike : clear sp a ≡ clear sp b
-    unfolding clear
+    unfolding clear around
     clear-alike =
         rw (
           floor-alike (a .min .y) (b .min .y) (h .min .y),
@@ -152,7 +134,7 @@ module _ (a b : Aabb) (h : AlikeBox a b) where
           ceil-alike (a .max .x) (b .max .x) (h .max .x),
           floor-alike (a .min .z) (b .min .z) (h .min .z),
           ceil-alike (a .max .z) (b .max .z) (h .max .z),
-        ) (all-alike _ _ _)
+        ) (all-alike _)
 
 -- ---- supported
 
@@ -174,7 +156,7 @@ module _ (f g : Aabb) (h : AlikeBox f g) where
   counting-alike (s ∷ ss) = rw (counts-alike (s .box), counting-alike ss)
 
   shapes-alike : (sp : Space) → shapesUnder sp f ≡ shapesUnder sp g
-  unfolding shapesUnder
+  unfolding shapesUnder beneath
   shapes-alike sp =
       rw (
         floor-alike (f .min .y) (g .min .y) (h .min .y),

@@ -12,7 +12,7 @@ use lib.ListN.{length, getD, drop, length-map}
 use lib.Ieee.{Float}
 use Rattle.cells.specs.Cells.{floorCell}
 use Rattle.cells.specs.Parts.{over, under, sum, difference}
-use Rattle.cells.specs.Ranges.{range, across, along}
+use Rattle.cells.specs.Ranges.{count, along}
 use Rattle.world.specs.declared.Point.{Point}
 use Rattle.world.specs.declared.Aabb.{Aabb}
 use Rattle.world.specs.declared.Window.{Window}
@@ -142,8 +142,8 @@ module _ (w : Window) (cells perms shapes boxes : List ℕ) (good : GoodWorld w 
   cell-none cx y cz e = rw (outside w cells perms shapes boxes good cx y cz e) (omega (arith, cell-tops band x z boxes Unknown (corner cx y cz)))
 
   pub column-tops : length (tops sp band x z) ≤ 4096
-  unfolding tops along across range
-  column-tops = omega (arith, gather-within layer room step 0 (range low (floorCell (band .high)) .count), good .sizes .sy)
+  unfolding tops along
+  column-tops = omega (arith, gather-within layer room step 0 (count low (floorCell (band .high))), good .sizes .sy)
     where
       low : ℤ
       low = floorCell (band .low) -ℤ pos 2

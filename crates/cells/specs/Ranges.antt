@@ -9,19 +9,15 @@ use Rattle.cells.specs.declared.ranges.Range.{Range}
 unfoldable pub count : ℤ → ℤ → ℕ
 count low high = over (high -ℤ low +ℤ pos 1)
 
--- the cells from low to high: the first one, and how many there are
-unfoldable pub range : ℤ → ℤ → Range
-range low high = record { first = low; count = count low high }
+-- the cells from low to high
+abbrev pub range : ℤ → ℤ → Range
+range low high = record { first = low; last = high }
 
 -- what the n numbers from k up hold, one after the other
 unfoldable pub gather : {A : Type 0} → (ℕ → List A) → ℕ → ℕ → List A
 gather f k zero = []
 gather f k (suc n) = f k ++ gather f (suc k) n
 
--- what the cells of a range hold
-unfoldable pub across : {A : Type 0} → (ℤ → List A) → Range → List A
-across f r = gather (λ k. f (r .first +ℤ pos k)) 0 (r .count)
-
 -- what the cells from low to high hold
 unfoldable pub along : {A : Type 0} → (ℤ → List A) → ℤ → ℤ → List A
-along f low high = across f (range low high)
+along f low high = gather (λ k. f (low +ℤ pos k)) 0 (count low high)

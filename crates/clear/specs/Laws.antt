@@ -1,23 +1,25 @@
 -- Laws that the loops go by.
 use Prim.Native.Nat.{ℕ, zero, suc, _+_, _-_, _*_, _≤_, _<_}
 use native.Mathlib.Omega.{arith}
-use native.Mathlib.Numerals.{add-one}
-use mathlib.Core.Path.{_≡_, refl, sym, ap, _∙_}
+use mathlib.Core.Path.{_≡_, refl, sym}
 use mathlib.Core.Bool.{Bool, true, false, not, _&&_, _||_}
-use mathlib.Core.List.{List, map}
-use lib.IntN.{ℤ, pos, _+ℤ_}
+use mathlib.Core.List.{List, _∷_, map}
 use lib.Dec.{ltb}
 use lib.ListN.{length, drop}
 use borrow.Author.Tests.{ltb-true, ltb-false}
 use Rattle.world.specs.Laws.{run-past}
-use Rattle.cells.specs.declared.ranges.Range.{Range}
+use Rattle.cells.specs.declared.regions.Region.{Region}
+use Rattle.cells.specs.declared.regions.Spot.{Spot}
+use Rattle.cells.specs.declared.regions.Cursor.{Cursor}
+use Rattle.cells.specs.Regions.{toCome}
+use Rattle.cells.specs.RegionLaws.{ended}
 use Rattle.world.specs.declared.Point.{Point}
 use Rattle.world.specs.declared.Aabb.{Aabb}
 use Rattle.world.specs.declared.Found.the-variants.{Here, End}
 use Rattle.world.specs.declared.Cell.the-variants.{Unknown, Known}
 use Rattle.world.specs.Boxes.{meets, moved, cube, corner, voxel}
 use Rattle.world.specs.Space.{Space, run, boxHere, blockOf}
-use Rattle.clear.specs.Clear.{hits, holds, each, free, rowFree, layerFree, allFree}
+use Rattle.clear.specs.Clear.{hits, free, allFree}
 
 -- ---- a run of boxes
 
@@ -102,67 +104,28 @@ module _ (area : Aabb) (p : Point) (boxes : List ℕ) {met : Bool} (e : meets (v
     unfolding free blockOf
     may-be t = rw e (passed may met _ t)
 
--- ---- a loop over cells
-
-module _ (f : ℕ → Bool) (k n : ℕ) where
-  step : k < n → holds f k (n - k) ≡ f k && holds f (k + 1) (n - (k + 1))
-  unfolding holds
-  step h = let e : n - k ≡ suc (n - (k + 1)) = omega arith in rw (e, add-one)
-
-  -- a turn with all free so far, and the end
-  pub goes-on : (free next : Bool) → (ltb k n && free) ≡ true → f k ≡ next → free && holds f k (n - k) ≡ next && holds f (k + 1) (n - (k + 1))
-  goes-on free next t e = go (ltb k n) refl free t
-    where
-      go : (s : Bool) → ltb k n ≡ s → (b : Bool) → (s && b) ≡ true → b && holds f k (n - k) ≡ next && holds f (k + 1) (n - (k + 1))
-      go true p true t = step (ltb-true k n p) ∙ ap (λ (b : Bool). b && holds f (k + 1) (n - (k + 1))) e
-      go true p false t = cc
-      go false p b t = cc
-
-  past-last : n ≤ k → holds f k (n - k) ≡ true
-  unfolding holds
-  past-last h = let e : n - k ≡ 0 = omega arith in rw e
-
-  pub ends : (free : Bool) → (ltb k n && free) ≡ false → free && holds f k (n - k) ≡ free
-  ends free t = go (ltb k n) refl free t
-    where
-      go : (s : Bool) → ltb k n ≡ s → (b : Bool) → (s && b) ≡ false → b && holds f k (n - k) ≡ b
-      go s p false t = refl
-      go true p true t = cc
-      go false p true t = past-last (ltb-false k n p)
-
--- a turn is taken where a number is left
-pub turn : (k n : ℕ) (b : Bool) → (ltb k n && b) ≡ true → k < n
-turn k n b t = go (ltb k n) refl t
-  where
-    go : (s : Bool) → ltb k n ≡ s → (s && b) ≡ true → k < n
-    go true p t = ltb-true k n p
-    go false p t = absurd (let z : _≡_ {A = ℕ} 0 1 = cc in omega arith)
-
--- a loop begins with all that is asked
-pub begins : (f : ℕ → Bool) (n : ℕ) → holds f 0 n ≡ holds f 0 (n - 0)
-begins f n = let e : n - 0 ≡ n = omega arith in rw e
-
--- ---- what each turn of the three loops asks
+-- ---- the loop over the cells: a turn with all free so far, and the end
 
 module _ (sp : Space) (area : Aabb) where
-  -- cell k of a row, row k of a layer, and layer k
-  unfoldable pub cellOf : ℤ → ℤ → Range → ℕ → Bool
-  cellOf x y zs k = free area (corner x y (zs .first +ℤ pos k)) (sp x y (zs .first +ℤ pos k))
+  -- what a turn asks
+  abbrev pub freeAt : Spot → Bool
+  freeAt p = free area (corner (p .x) (p .y) (p .z)) (sp (p .x) (p .y) (p .z))
 
-  unfoldable pub rowOf : ℤ → Range → Range → ℕ → Bool
-  rowOf y xs zs k = rowFree sp area (xs .first +ℤ pos k) y zs
+  pub turn : (more free : Bool) → (more && free) ≡ true → (more ≡ true) × (free ≡ true)
+  turn true true t = (refl, refl)
+  turn true false t = (refl, t)
+  turn false free t = (t, absurd (let z : _≡_ {A = ℕ} 0 1 = cc in omega arith))
 
-  unfoldable pub layerOf : Range → Range → Range → ℕ → Bool
-  layerOf ys xs zs k = layerFree sp area (ys .first +ℤ pos k) xs zs
+  pub goes-on : (ps qs : List Spot) (p : Spot) (free next : Bool) → free ≡ true → ps ≡ p ∷ qs → freeAt p ≡ next →
+      free && allFree sp area ps ≡ next && allFree sp area qs
+  unfolding allFree
+  goes-on ps qs p free next t e f = rw (t, e, f)
 
-  pub row-is : (x y : ℤ) (zs : Range) → rowFree sp area x y zs ≡ holds (cellOf x y zs) 0 (zs .count)
-  unfolding rowFree each cellOf
-  row-is x y zs = refl
-
-  pub layer-is : (y : ℤ) (xs zs : Range) → layerFree sp area y xs zs ≡ holds (rowOf y xs zs) 0 (xs .count)
-  unfolding layerFree each rowOf
-  layer-is y xs zs = refl
-
-  pub all-is : (ys xs zs : Range) → allFree sp area ys xs zs ≡ holds (layerOf ys xs zs) 0 (ys .count)
-  unfolding allFree each layerOf
-  all-is ys xs zs = refl
+  pub ends : (r : Region) (c : Cursor) (free : Bool) → (c .more && free) ≡ false → free && allFree sp area (toCome r c) ≡ free
+  unfolding allFree
+  ends r c free t = go (c .more) refl free t
+    where
+      go : (more : Bool) → c .more ≡ more → (b : Bool) → (more && b) ≡ false → b && allFree sp area (toCome r c) ≡ b
+      go more p false t = refl
+      go true p true t = cc
+      go false p true t = rw (ended r c p)

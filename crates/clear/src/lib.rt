@@ -3,12 +3,12 @@ ghost use mathlib.Core.Path.{_≡_};
 ghost use mathlib.Core.List.{map};
 ghost use Prim.Native.Nat.{_*_};
 ghost use lib.ListN.{drop};
-ghost use Rattle.cells.specs.RangeLaws.{Near};
+ghost use Rattle.cells.specs.Regions.{cellsOf};
 ghost use Rattle.world.specs.declared.Aabb.{Aabb};
 ghost use Rattle.world.specs.Boxes.{moved, corner};
 ghost use Rattle.world.specs.Space.{run, space};
-ghost use Rattle.clear.specs.Clear.{hits, free, rowFree, layerFree, allFree, clear};
-use cells::Range;
+ghost use Rattle.clear.specs.Clear.{hits, free, allFree, clear};
+use cells::Region;
 use world::Aabb;
 use world::Cell;
 use world::Found;
@@ -77,57 +77,7 @@ fn cell_free(
     }
 }
 
-// Whether the cells of a row are free for an area, along z.
-fn row_free(
-    w: Window,
-    cells: &[u8],
-    perms: &[u8],
-    shapes: &[u8],
-    boxes: &[u8],
-    area: Aabb,
-    x: i64,
-    y: i64,
-    zs: Range,
-) -> bool
-    requires { ⌜ Near zs ⌝ }
-    ensures { λ r. ⌜ r ≡ rowFree (space w (now (cells .entry)) (now (perms .entry)) (now (shapes .entry)) (now (boxes .entry))) area x y zs ⌝ }
-{
-    let mut free = true;
-    let mut k: usize = 0;
-    while (k < zs.count) & free {
-        let z = zs.first + (k as i64);
-        free = cell_free(w, cells, perms, shapes, boxes, area, x, y, z);
-        k += 1;
-    }
-    free
-}
-
-// Whether the rows of a layer are free, along x.
-fn layer_free(
-    w: Window,
-    cells: &[u8],
-    perms: &[u8],
-    shapes: &[u8],
-    boxes: &[u8],
-    area: Aabb,
-    y: i64,
-    xs: Range,
-    zs: Range,
-) -> bool
-    requires { ⌜ Near xs × Near zs ⌝ }
-    ensures { λ r. ⌜ r ≡ layerFree (space w (now (cells .entry)) (now (perms .entry)) (now (shapes .entry)) (now (boxes .entry))) area y xs zs ⌝ }
-{
-    let mut free = true;
-    let mut k: usize = 0;
-    while (k < xs.count) & free {
-        let x = xs.first + (k as i64);
-        free = row_free(w, cells, perms, shapes, boxes, area, x, y, zs);
-        k += 1;
-    }
-    free
-}
-
-// Whether the layers are free, along y.
+// Whether the cells of a region are free for an area.
 fn all_free(
     w: Window,
     cells: &[u8],
@@ -135,19 +85,16 @@ fn all_free(
     shapes: &[u8],
     boxes: &[u8],
     area: Aabb,
-    ys: Range,
-    xs: Range,
-    zs: Range,
+    region: Region,
 ) -> bool
-    requires { ⌜ Near ys × Near xs × Near zs ⌝ }
-    ensures { λ r. ⌜ r ≡ allFree (space w (now (cells .entry)) (now (perms .entry)) (now (shapes .entry)) (now (boxes .entry))) area ys xs zs ⌝ }
+    ensures { λ r. ⌜ r ≡ allFree (space w (now (cells .entry)) (now (perms .entry)) (now (shapes .entry)) (now (boxes .entry))) area (cellsOf region) ⌝ }
 {
     let mut free = true;
-    let mut k: usize = 0;
-    while (k < ys.count) & free {
-        let y = ys.first + (k as i64);
-        free = layer_free(w, cells, perms, shapes, boxes, area, y, xs, zs);
-        k += 1;
+    let mut cursor = cells::first_in(region);
+    while cursor.more & free {
+        let at = cursor.at;
+        free = cell_free(w, cells, perms, shapes, boxes, area, at.x, at.y, at.z);
+        cursor = cells::next_in(region, at);
     }
     free
 }
@@ -166,5 +113,6 @@ pub fn clear_area(
     let ys = cells::reached(area.min.y, area.max.y, 1);
     let xs = cells::reached(area.min.x, area.max.x, 0);
     let zs = cells::reached(area.min.z, area.max.z, 0);
-    all_free(w, cells, perms, shapes, boxes, area, ys, xs, zs)
+    let region = Region { ys, xs, zs };
+    all_free(w, cells, perms, shapes, boxes, area, region)
 }

@@ -8,9 +8,7 @@ use lib.ListN.{length, drop, drop-of-length-le}
 use lib.Ieee.{Float, binary64, le, add, sub, isNan}
 use Rattle.floats.specs.Floats.{E}
 use Rattle.floats.specs.Order.{le-left}
-use lib.IntN.{ℤ, pos, _+ℤ_}
-use Rattle.cells.specs.declared.ranges.Range.{Range}
-use Rattle.cells.specs.Ranges.{range, gather, across, along}
+use Rattle.cells.specs.Ranges.{along}
 use Rattle.world.specs.declared.Point.{Point}
 use Rattle.world.specs.declared.Aabb.{Aabb}
 use Rattle.world.specs.declared.Found.{Found}
@@ -118,16 +116,5 @@ module _ (band : Band) (x z : Float) where
       pick false = tt
 
   pub numbers : (sp : Space) → Numbers (tops sp band x z)
-  unfolding tops along across
+  unfolding tops along
   numbers sp = numbers-gather _ (λ k. numbers-in _) 0 _
-
--- ---- the layers of a column, one after the other
-
-module _ (sp : Space) (band : Band) (x z : Float) (cx low cz : ℤ) where
-  unfoldable pub layerOf : ℕ → List Float
-  layerOf k = topsIn band x z (sp cx (low +ℤ pos k) cz)
-
-pub layers-are : (sp : Space) (band : Band) (x z : Float) (cx cz : ℤ) (layers : Range) →
-    across (λ y. topsIn band x z (sp cx y cz)) layers ≡ gather (layerOf sp band x z cx (layers .first) cz) 0 (layers .count)
-unfolding across layerOf
-layers-are sp band x z cx cz layers = refl

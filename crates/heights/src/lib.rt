@@ -7,10 +7,10 @@ use world::Point;
 use world::Window;
 ghost use mathlib.Core.Path.{_≡_};
 ghost use mathlib.Core.List.{map};
-ghost use Prim.Native.Nat.{_*_};
+ghost use Prim.Native.Nat.{_*_, _^_, _<_};
 ghost use lib.ListN.{drop};
-ghost use Rattle.cells.specs.Ranges.{across};
-ghost use Rattle.cells.specs.RangeLaws.{Near};
+ghost use lib.Signed.{mag};
+ghost use Rattle.cells.specs.Ranges.{along};
 ghost use Rattle.world.specs.declared.Aabb.{Aabb};
 ghost use Rattle.world.specs.Boxes.{moved};
 ghost use Rattle.world.specs.Space.{run, space};
@@ -154,7 +154,7 @@ fn cell_next(
     }
 }
 
-// The best of the cells of a column in some layers.
+// The best of the cells of a column in some layers, whose last one has a layer above it.
 fn column_next(
     w: Window,
     cells: &[u8],
@@ -169,17 +169,15 @@ fn column_next(
     cz: i64,
     after: Height,
 ) -> Height
-    requires { ⌜ Near layers ⌝ }
-    ensures { λ r. ⌜ r ≡ pass after Height.None (across (λ y. topsIn band x z (space w (now (cells .entry)) (now (perms .entry)) (now (shapes .entry)) (now (boxes .entry)) cx y cz)) layers) ⌝ }
+    requires { ⌜ mag (layers .last) < 2 ^ 31 ⌝ }
+    ensures { λ r. ⌜ r ≡ pass after Height.None (along (λ y. topsIn band x z (space w (now (cells .entry)) (now (perms .entry)) (now (shapes .entry)) (now (boxes .entry)) cx y cz)) (layers .first) (layers .last)) ⌝ }
 {
-    let low = layers.first;
-    let n = layers.count;
+    let last = layers.last;
     let mut best = Height::None;
-    let mut k: usize = 0;
-    while k < n {
-        let y = low + (k as i64);
+    let mut y = layers.first;
+    while y <= last {
         best = cell_next(w, cells, perms, shapes, boxes, band, x, z, cx, y, cz, after, best);
-        k += 1;
+        y += 1;
     }
     best
 }

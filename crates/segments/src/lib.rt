@@ -1,15 +1,15 @@
 // Supported segments (01, The graph): whether what lies under the way from one point to another carries a body.
 //
 // There is no list to gather intervals in. So the shapes under the footprint are passed over as often as the part of the centre line that is covered
-// grows. The first pass sees every shape, and so any that refuses. `pass` has the loops over the cells; one shape, and the definitions, are the crate
+// grows. The first pass sees every shape, and so any that refuses. `pass` has the loop over the cells; one shape, and the definitions, are the crate
 // `support`.
 mod pass;
 
 ghost use mathlib.Core.Path.{_≡_};
 ghost use Rattle.world.specs.Space.{space};
-ghost use Rattle.cells.specs.RangeLaws.{Near};
-ghost use Rattle.support.specs.Support.{allShapes, carried, supported};
-use cells::Range;
+ghost use Rattle.cells.specs.Regions.{cellsOf};
+ghost use Rattle.support.specs.Support.{shapesAt, carried, supported};
+use cells::Region;
 use support::Way;
 use world::Point;
 use world::Window;
@@ -22,16 +22,13 @@ fn carries(
     shapes: &[u8],
     boxes: &[u8],
     way: Way,
-    ys: Range,
-    xs: Range,
-    zs: Range,
+    region: Region,
 ) -> bool
-    requires { ⌜ Near ys × Near xs × Near zs ⌝ }
-    ensures { λ r. ⌜ r ≡ carried (way .under) (way .from) (way .to) (allShapes (space w (now (cells .entry)) (now (perms .entry)) (now (shapes .entry)) (now (boxes .entry))) ys xs zs) ⌝ }
+    ensures { λ r. ⌜ r ≡ carried (way .under) (way .from) (way .to) (shapesAt (space w (now (cells .entry)) (now (perms .entry)) (now (shapes .entry)) (now (boxes .entry))) (cellsOf region)) ⌝ }
 {
     let mut covered = 0.0;
     loop {
-        let reach = pass::reach_all(w, cells, perms, shapes, boxes, way, ys, xs, zs, covered);
+        let reach = pass::reach_all(w, cells, perms, shapes, boxes, way, region, covered);
         let enough = 1.0 - floats::E <= reach.to;
         if reach.refused | enough | !(covered < reach.to) {
             return enough & !reach.refused;
@@ -58,5 +55,5 @@ pub fn supported_segment(
     let xs = cells::reached(f.min.x, f.max.x, 0);
     let zs = cells::reached(f.min.z, f.max.z, 0);
     let way = Way { from, to, under: f };
-    carries(w, cells, perms, shapes, boxes, way, ys, xs, zs)
+    carries(w, cells, perms, shapes, boxes, way, Region { ys, xs, zs })
 }

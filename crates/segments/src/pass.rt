@@ -4,11 +4,11 @@
 ghost use mathlib.Core.Path.{_≡_};
 ghost use Prim.Native.Nat.{_*_};
 ghost use lib.ListN.{drop};
-ghost use Rattle.cells.specs.RangeLaws.{Near};
+ghost use Rattle.cells.specs.Regions.{cellsOf};
 ghost use Rattle.world.specs.Space.{space};
-ghost use Rattle.support.specs.Support.{shapesOf, rowShapes, layerShapes, allShapes};
+ghost use Rattle.support.specs.Support.{shapesOf, shapesAt};
 ghost use Rattle.support.specs.Pass.{pass, reached, runShapes};
-use cells::Range;
+use cells::Region;
 use support::Reach;
 use support::Way;
 use world::Cell;
@@ -98,65 +98,7 @@ fn reach_cell(
     }
 }
 
-// The shapes of a row of cells, along z.
-fn reach_row(
-    w: Window,
-    cells: &[u8],
-    perms: &[u8],
-    shapes: &[u8],
-    boxes: &[u8],
-    way: Way,
-    x: i64,
-    y: i64,
-    zs: Range,
-    covered: f64,
-) -> Reach
-    requires { ⌜ Near zs ⌝ }
-    ensures { λ r. ⌜ r ≡ pass way (reached covered) (rowShapes (space w (now (cells .entry)) (now (perms .entry)) (now (shapes .entry)) (now (boxes .entry))) x y zs) ⌝ }
-{
-    let mut reach = Reach {
-        to: covered,
-        refused: false,
-    };
-    let mut k: usize = 0;
-    while (k < zs.count) & !reach.refused {
-        let z = zs.first + (k as i64);
-        reach = reach_cell(w, cells, perms, shapes, boxes, way, x, y, z, reach.to);
-        k += 1;
-    }
-    reach
-}
-
-// The shapes of a layer's rows, along x.
-fn reach_layer(
-    w: Window,
-    cells: &[u8],
-    perms: &[u8],
-    shapes: &[u8],
-    boxes: &[u8],
-    way: Way,
-    y: i64,
-    xs: Range,
-    zs: Range,
-    covered: f64,
-) -> Reach
-    requires { ⌜ Near xs × Near zs ⌝ }
-    ensures { λ r. ⌜ r ≡ pass way (reached covered) (layerShapes (space w (now (cells .entry)) (now (perms .entry)) (now (shapes .entry)) (now (boxes .entry))) y xs zs) ⌝ }
-{
-    let mut reach = Reach {
-        to: covered,
-        refused: false,
-    };
-    let mut k: usize = 0;
-    while (k < xs.count) & !reach.refused {
-        let x = xs.first + (k as i64);
-        reach = reach_row(w, cells, perms, shapes, boxes, way, x, y, zs, reach.to);
-        k += 1;
-    }
-    reach
-}
-
-// The shapes of layers, along y.
+// The shapes of the cells of a region.
 pub(crate) fn reach_all(
     w: Window,
     cells: &[u8],
@@ -164,23 +106,20 @@ pub(crate) fn reach_all(
     shapes: &[u8],
     boxes: &[u8],
     way: Way,
-    ys: Range,
-    xs: Range,
-    zs: Range,
+    region: Region,
     covered: f64,
 ) -> Reach
-    requires { ⌜ Near ys × Near xs × Near zs ⌝ }
-    ensures { λ r. ⌜ r ≡ pass way (reached covered) (allShapes (space w (now (cells .entry)) (now (perms .entry)) (now (shapes .entry)) (now (boxes .entry))) ys xs zs) ⌝ }
+    ensures { λ r. ⌜ r ≡ pass way (reached covered) (shapesAt (space w (now (cells .entry)) (now (perms .entry)) (now (shapes .entry)) (now (boxes .entry))) (cellsOf region)) ⌝ }
 {
     let mut reach = Reach {
         to: covered,
         refused: false,
     };
-    let mut k: usize = 0;
-    while (k < ys.count) & !reach.refused {
-        let y = ys.first + (k as i64);
-        reach = reach_layer(w, cells, perms, shapes, boxes, way, y, xs, zs, reach.to);
-        k += 1;
+    let mut cursor = cells::first_in(region);
+    while cursor.more & !reach.refused {
+        let at = cursor.at;
+        reach = reach_cell(w, cells, perms, shapes, boxes, way, at.x, at.y, at.z, reach.to);
+        cursor = cells::next_in(region, at);
     }
     reach
 }

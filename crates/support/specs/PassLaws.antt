@@ -4,16 +4,18 @@ use native.Mathlib.Omega.{arith}
 use mathlib.Core.Path.{_≡_, refl, sym, ap, _∙_}
 use mathlib.Core.Bool.{Bool, true, false, not, _&&_, _||_, cond}
 use mathlib.Core.Option.{Option, none, some}
-use mathlib.Core.List.{List, [], _∷_}
-use lib.IntN.{ℤ, pos, _+ℤ_}
+use mathlib.Core.List.{List, [], _∷_, foldl-append}
 use lib.Dec.{ltb}
 use lib.ListN.{length, drop}
 use lib.Ieee.{Float, binary64, lt, le, add}
 use Rattle.floats.specs.Floats.{E, nought, larger}
-use Rattle.cells.specs.Ranges.{gather, across}
 use borrow.Author.Tests.{ltb-true, ltb-false}
-use Rattle.cells.specs.RangeLaws.{fold-stays, fold-goes-on, fold-ends}
-use Rattle.cells.specs.declared.ranges.Range.{Range}
+use Rattle.cells.specs.RangeLaws.{fold-stays}
+use Rattle.cells.specs.Regions.{toCome}
+use Rattle.cells.specs.RegionLaws.{ended}
+use Rattle.cells.specs.declared.regions.Region.{Region}
+use Rattle.cells.specs.declared.regions.Spot.{Spot}
+use Rattle.cells.specs.declared.regions.Cursor.{Cursor}
 use Rattle.world.specs.declared.Point.{Point}
 use Rattle.world.specs.declared.Aabb.{Aabb}
 use Rattle.world.specs.declared.Found.the-variants.{Here, End}
@@ -26,7 +28,7 @@ use Rattle.support.specs.declared.Reach.{Reach}
 use Rattle.support.specs.declared.Way.{Way}
 use Rattle.support.specs.Cover.{joins, reachOne, round, enough}
 use Rattle.support.specs.Rounds.{beyond, limit, begins, falls, goes-on, ends-short, ends-enough}
-use Rattle.support.specs.Support.{Shape, counts, interval, counting, ahead, intervals, allSupport, carried, shapesOf, rowShapes, layerShapes, allShapes}
+use Rattle.support.specs.Support.{Shape, counts, interval, counting, ahead, intervals, allSupport, carried, shapesOf, shapesAt}
 use Rattle.support.specs.Pass.{reachBy, reached, step, pass, runShapes}
 
 -- ---- a pass as a round
@@ -172,54 +174,35 @@ module _ (w : Way) (r : Reach) (boxes : List ℕ) (p : Point) where
     pub pass-empty : many ≡ 0 → pass w r (shapesOf (blockOf boxes (Known may support first many) p)) ≡ r
     pass-empty e = pass-known ∙ run-none w support p (drop (48 * first) boxes) 0 r many (omega arith)
 
--- ---- a loop over cells: what cell k makes of the pass, then the rest
+-- ---- a turn of a loop is taken: there is one more, and nothing has refused the pass
 
-module _ (w : Way) (f : ℕ → List Shape) (r : Reach) (k n : ℕ) (h : k < n) where
-  pub pass-on : (q : Reach) → pass w r (f k) ≡ q → pass w r (gather f k (n - k)) ≡ pass w q (gather f (k + 1) (n - (k + 1)))
-  pass-on q e = fold-goes-on (step w) f r k n h ∙ ap (λ (x : Reach). pass w x (gather f (k + 1) (n - (k + 1)))) e
-
--- the end, or a pass that is refused
-pub pass-stops : (w : Way) (f : ℕ → List Shape) (r : Reach) (k n : ℕ) → (ltb k n && not (r .refused)) ≡ false → pass w r (gather f k (n - k)) ≡ r
-pass-stops w f r k n e = go (ltb k n) refl (r .refused) refl e
+pub turned : (more : Bool) (r : Reach) → (more && not (r .refused)) ≡ true → (more ≡ true) × (reached (r .to) ≡ r)
+turned more r e = go more (r .refused) refl e
   where
-    go : (t : Bool) → ltb k n ≡ t → (b : Bool) → r .refused ≡ b → (t && not b) ≡ false → pass w r (gather f k (n - k)) ≡ r
-    go false p b q e = fold-ends (step w) f r k n (ltb-false k n p)
-    go true p true q e = refused-stays w r (gather f k (n - k)) q
-    go true p false q e = cc
+    go : (a b : Bool) → r .refused ≡ b → (a && not b) ≡ true → (a ≡ true) × (reached (r .to) ≡ r)
+    go true false q e = (refl, unrefused r q)
+    go true true q e = absurd (let z : _≡_ {A = ℕ} 0 1 = cc in omega arith)
+    go false b q e = absurd (let z : _≡_ {A = ℕ} 0 1 = cc in omega arith)
 
--- a turn is taken
 pub turns : (k n : ℕ) (r : Reach) → (ltb k n && not (r .refused)) ≡ true → (k < n) × (reached (r .to) ≡ r)
-turns k n r e = go (ltb k n) refl (r .refused) refl e
-  where
-    go : (t : Bool) → ltb k n ≡ t → (b : Bool) → r .refused ≡ b → (t && not b) ≡ true → (k < n) × (reached (r .to) ≡ r)
-    go true p false q e = (ltb-true k n p, unrefused r q)
-    go true p true q e = absurd (let z : _≡_ {A = ℕ} 0 1 = cc in omega arith)
-    go false p b q e = absurd (let z : _≡_ {A = ℕ} 0 1 = cc in omega arith)
+turns k n r e = let t = turned (ltb k n) r e in (ltb-true k n (t .0), t .1)
 
--- ---- what each turn of the three loops passes over
+-- ---- the loop over the cells: what a cell makes of the pass, then the rest; and the end, or a pass that is refused
 
-module _ (sp : Space) where
-  -- cell k of a row, row k of a layer, and layer k
-  unfoldable pub cellOf : ℤ → ℤ → Range → ℕ → List Shape
-  cellOf x y zs k = shapesOf (sp x y (zs .first +ℤ pos k))
+module _ (w : Way) (sp : Space) where
+  pub pass-on : (ps qs : List Spot) (p : Spot) (r q : Reach) → ps ≡ p ∷ qs → pass w r (shapesOf (sp (p .x) (p .y) (p .z))) ≡ q →
+      pass w r (shapesAt sp ps) ≡ pass w q (shapesAt sp qs)
+  unfolding shapesAt
+  pass-on ps qs p r q e f = rw e (foldl-append (step w) r (shapesOf (sp (p .x) (p .y) (p .z))) (shapesAt sp qs) ∙ ap (λ (x : Reach). pass w x (shapesAt sp qs)) f)
 
-  unfoldable pub rowOf : ℤ → Range → Range → ℕ → List Shape
-  rowOf y xs zs k = rowShapes sp (xs .first +ℤ pos k) y zs
-
-  unfoldable pub layerOf : Range → Range → Range → ℕ → List Shape
-  layerOf ys xs zs k = layerShapes sp (ys .first +ℤ pos k) xs zs
-
-  pub row-is : (x y : ℤ) (zs : Range) → rowShapes sp x y zs ≡ gather (cellOf x y zs) 0 (zs .count)
-  unfolding rowShapes across cellOf
-  row-is x y zs = refl
-
-  pub layer-is : (y : ℤ) (xs zs : Range) → layerShapes sp y xs zs ≡ gather (rowOf y xs zs) 0 (xs .count)
-  unfolding layerShapes across rowOf
-  layer-is y xs zs = refl
-
-  pub all-is : (ys xs zs : Range) → allShapes sp ys xs zs ≡ gather (layerOf ys xs zs) 0 (ys .count)
-  unfolding allShapes across layerOf
-  all-is ys xs zs = refl
+  pub pass-stops : (region : Region) (c : Cursor) (r : Reach) → (c .more && not (r .refused)) ≡ false → pass w r (shapesAt sp (toCome region c)) ≡ r
+  unfolding shapesAt
+  pass-stops region c r e = go (c .more) refl (r .refused) refl e
+    where
+      go : (t : Bool) → c .more ≡ t → (b : Bool) → r .refused ≡ b → (t && not b) ≡ false → pass w r (shapesAt sp (toCome region c)) ≡ r
+      go false p b q e = rw (ended region c p)
+      go true p true q e = refused-stays w r (shapesAt sp (toCome region c)) q
+      go true p false q e = cc
 
 -- ---- passes, as long as they cover more
 

@@ -1,13 +1,15 @@
 -- 01, The graph, "Supported segment". Definitions only.
 use mathlib.Core.Bool.{Bool, true, _&&_, _||_, cond}
 use mathlib.Core.Option.{Option, none, some}
-use mathlib.Core.List.{List, [], _∷_, map}
-use lib.IntN.{ℤ, pos, _-ℤ_}
+use mathlib.Core.List.{List, [], _∷_, _++_, map}
+use lib.IntN.{pos, _-ℤ_}
 use lib.Ieee.{Float, binary64, lt, le, eq, add, sub, mul, div, ofBits}
 use Rattle.floats.specs.Floats.{E, nought, smaller, larger}
 use Rattle.cells.specs.Cells.{floorCell, ceilCell}
-use Rattle.cells.specs.Ranges.{range, across}
-use Rattle.cells.specs.declared.ranges.Range.{Range}
+use Rattle.cells.specs.Ranges.{range}
+use Rattle.cells.specs.Regions.{cellsOf}
+use Rattle.cells.specs.declared.regions.Region.{Region}
+use Rattle.cells.specs.declared.regions.Spot.{Spot}
 use Rattle.world.specs.declared.Point.{Point}
 use Rattle.world.specs.declared.Aabb.{Aabb}
 use Rattle.world.specs.Boxes.{one}
@@ -38,23 +40,21 @@ pub record Shape : Type 0 where
 unfoldable pub shapesOf : Block → List Shape
 shapesOf b = map (λ (x : Aabb). record { support = b .support; box = x }) (b .boxes)
 
--- the shapes of a row of cells along z, of a layer's rows along x, and of layers along y
-unfoldable pub rowShapes : Space → ℤ → ℤ → Range → List Shape
-rowShapes sp x y zs = across (λ z. shapesOf (sp x y z)) zs
-
-unfoldable pub layerShapes : Space → ℤ → Range → Range → List Shape
-layerShapes sp y xs zs = across (λ x. rowShapes sp x y zs) xs
-
-unfoldable pub allShapes : Space → Range → Range → Range → List Shape
-allShapes sp ys xs zs = across (λ y. layerShapes sp y xs zs) ys
+-- the shapes of some cells, one after the other
+unfoldable pub shapesAt : Space → List Spot → List Shape
+shapesAt sp [] = []
+shapesAt sp (p ∷ ps) = shapesOf (sp (p .x) (p .y) (p .z)) ++ shapesAt sp ps
 
 -- "cells run from floor(low y) - 2 to floor(high y), in x and z from its floor(min) to ceil(max) - 1"
+unfoldable pub beneath : Aabb → Region
+beneath f = record {
+  ys = range (floorCell (f .min .y) -ℤ pos 2) (floorCell (f .max .y));
+  xs = range (floorCell (f .min .x)) (ceilCell (f .max .x) -ℤ pos 1);
+  zs = range (floorCell (f .min .z)) (ceilCell (f .max .z) -ℤ pos 1);
+}
+
 unfoldable pub shapesUnder : Space → Aabb → List Shape
-shapesUnder sp f =
-    allShapes sp
-    (range (floorCell (f .min .y) -ℤ pos 2) (floorCell (f .max .y)))
-    (range (floorCell (f .min .x)) (ceilCell (f .max .x) -ℤ pos 1))
-    (range (floorCell (f .min .z)) (ceilCell (f .max .z) -ℤ pos 1))
+shapesUnder sp f = shapesAt sp (cellsOf (beneath f))
 
 -- "A shape counts if its top is within E of the span and it overlaps the footprint strictly in x and z."
 unfoldable pub counts : Aabb → Aabb → Bool

@@ -10,7 +10,7 @@ use lib.Ieee.Bits.{ofBits-fits}
 use lib.Ieee.Fits.{add-fits, sub-fits, cond-fits}
 use Rattle.floats.specs.Floats.{E, nought, larger}
 use Rattle.cells.specs.Cells.{floorCell}
-use Rattle.cells.specs.Ranges.{gather, across, along}
+use Rattle.cells.specs.Ranges.{gather, along}
 use Rattle.world.specs.declared.Point.{Point}
 use Rattle.world.specs.declared.Aabb.{Aabb}
 use Rattle.world.specs.declared.Body.{Body}
@@ -114,7 +114,7 @@ thinned-fits (more {x = t} p ps) = more p (after-fits t ps)
 
 module _ (sp : Space) (topped : ToppedSpace sp) where
   tops-fit : (band : Band) (x z : Float) → Each F64 (tops sp band x z)
-  unfolding tops along across
+  unfolding tops along
   tops-fit band x z = each-gather _ (λ k. tops-in band x z (sp (floorCell x) _ (floorCell z)) (topped (floorCell x) _ (floorCell z))) 0 _
 
   heights-fit : (band : Band) (x z : Float) → Each F64 (heights sp band x z)

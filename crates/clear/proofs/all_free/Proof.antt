@@ -1,74 +1,68 @@
 -- `clear::all_free` meets its contract. Assumes nothing.
-use Prim.Native.Nat.{ℕ, _-_, _<_}
-use native.Mathlib.Omega.{arith}
-use mathlib.Core.Bool.{Bool, _&&_}
-use mathlib.Core.List.{List}
-use mathlib.Core.Path.{_≡_, sym, _∙_}
+use mathlib.Core.Bool.{true, _&&_}
+use mathlib.Core.Path.{_≡_, sym, ap, _∙_}
 use denote.Ref.{now}
+use lib.ListN.{length}
 use mir.Syntax.{w64}
-use mir.Val.{toZ, ofZ}
+use mir.Val.{SFits}
 use mir.Facts.{toZ-ofZ}
-use Rattle.cells.specs.RangeLaws.{number-fits, number-is}
-use Rattle.cells.specs.declared.ranges.Range.{Range}
-use Rattle.world.specs.declared.Window.{Window}
-use Rattle.world.specs.declared.Aabb.{Aabb}
-use Rattle.world.specs.Space.{space}
-use Rattle.clear.specs.Clear.{holds, allFree}
-use Rattle.clear.specs.Laws.{layerOf, all-is, begins, turn, goes-on, ends}
+use borrow.Author.Needs.{needs}
+use Rattle.cells.specs.Regions.{cellsOf, toCome, Proper}
+use Rattle.cells.specs.RegionLaws.{taken, still-proper, fewer}
+use Rattle.world.specs.Space.{Space, space}
+use Rattle.clear.specs.Clear.{allFree}
+use Rattle.clear.specs.Laws.{freeAt, turn, goes-on, ends}
 use Rattle.clear.proofs.all_free.Statement.{statement}
 use Rattle.clear.proofs.all_free.Tie as tie
 
--- what turn k asks. The loop has its signed numbers as bits
-abbrev Turn : Window → List ℕ → List ℕ → List ℕ → List ℕ → Aabb → Range → Range → Range → ℕ → Bool
-Turn w cells perms shapes boxes area ys xs zs = layerOf (space w cells perms shapes boxes) area ys xs zs
-
 abbrev Inv-loop : tie.InvT-loop
-Inv-loop w cells perms shapes boxes area ys xs zs free₀ k₀ free k =
-    holds (Turn w cells perms shapes boxes area ys xs zs) 0 (ys .count) ≡ free && holds (Turn w cells perms shapes boxes area ys xs zs) k (ys .count - k)
+Inv-loop w cells perms shapes boxes area region free₀ cursor₀ free cursor =
+    Proper region cursor
+    × (allFree (space w cells perms shapes boxes) area (cellsOf region) ≡ free && allFree (space w cells perms shapes boxes) area (toCome region cursor))
 
 abbrev μ-loop : tie.MeasureT-loop
-μ-loop w cells perms shapes boxes area ys xs zs free₀ k₀ free k = ys .count - k
+μ-loop w cells perms shapes boxes area region free₀ cursor₀ free cursor = length (toCome region cursor)
 
--- the same, of a start
-abbrev at : (s : tie.Start Inv-loop μ-loop) → ℕ → Bool
-at s = Turn (s .args .w) (now (s .args .cells)) (now (s .args .perms)) (now (s .args .shapes)) (now (s .args .boxes)) (s .args .area) (s .args .ys) (s .args .xs) (s .args .zs)
+-- the space of a start
+abbrev within : (s : tie.Start Inv-loop μ-loop) → Space
+within s = space (s .args .w) (now (s .args .cells)) (now (s .args .perms)) (now (s .args .shapes)) (now (s .args .boxes))
 
-whole : (s : tie.Start Inv-loop μ-loop) →
-    allFree (space (s .args .w) (now (s .args .cells)) (now (s .args .perms)) (now (s .args .shapes)) (now (s .args .boxes))) (s .args .area) (s .args .ys) (s .args .xs) (s .args .zs) ≡ holds (at s) 0 (s .args .ys .count)
-whole s = all-is _ _ _ _ _
+-- a turn: there is a cell, all are free so far, and whether that cell is
+module _ (c : tie.After-cell-free Inv-loop μ-loop) where
+  tested : (c .before .before .before .before .before .before .before .loop .cursor .more ≡ true) × (c .before .before .before .before .before .before .before .loop .free ≡ true)
+  tested = turn (within (c .before .before .before .before .before .before .before .before .before .before .before .before .before)) (c .before .before .before .before .before .before .before .before .before .before .before .before .before .args .area) (c .before .before .before .before .before .before .before .loop .cursor .more) (c .before .before .before .before .before .before .before .loop .free) (c .before .before .before .before .before .if1 .taken)
 
--- a turn, and what it asks
-module _ (c : tie.After-layer-free Inv-loop μ-loop) where
-  inside : c .before .before .before .before .before .loop .k < c .before .before .before .before .before .before .before .before .before .before .args .ys .count
-  inside = turn (c .before .before .before .before .before .loop .k) (c .before .before .before .before .before .before .before .before .before .before .args .ys .count) (c .before .before .before .before .before .loop .free) (c .before .before .before .if1 .taken)
+  one : freeAt (within (c .before .before .before .before .before .before .before .before .before .before .before .before .before)) (c .before .before .before .before .before .before .before .before .before .before .before .before .before .args .area) (c .before .before .before .before .before .before .before .loop .cursor .at) ≡ c .cell-free .result
+  one =
+      let f : SFits w64 (c .before .before .before .before .before .before .before .loop .cursor .at .x) = search needs in
+      let g : SFits w64 (c .before .before .before .before .before .before .before .loop .cursor .at .y) = search needs in
+      let h : SFits w64 (c .before .before .before .before .before .before .before .loop .cursor .at .z) = search needs in
+      sym (simp (toZ-ofZ, f, g, h) at (c .cell-free .ensures))
 
-  one : at (c .before .before .before .before .before .before .before .before .before .before) (c .before .before .before .before .before .loop .k) ≡ c .layer-free .result
-  unfolding layerOf
-  one = sym (rw (number-is (c .before .before .before .before .before .before .before .before .before .before .args .ys) (c .before .before .before .before .before .before .before .before .before .before .pre .0) (c .before .before .before .before .before .loop .k) inside) at (c .layer-free .ensures))
+first-in-requires : tie.Need-first-in-requires Inv-loop μ-loop
+first-in-requires c κs = tt
 
 loop-holds : tie.Need-loop-holds Inv-loop μ-loop
-loop-holds c = begins (at (c .before .before .before .before)) (c .before .before .before .before .args .ys .count)
+loop-holds c = (c .first-in .ensures .1, ap (allFree (within (c .before .before .before .before .before)) (c .before .before .before .before .before .args .area)) (sym (c .first-in .ensures .0)))
 
-cast-y : tie.Need-cast-y Inv-loop μ-loop
-cast-y c = record { sfits = omega (arith, c .before .before .before .before .before .before .before .pre .0 .count, turn (c .before .before .loop .k) (c .before .before .before .before .before .before .before .args .ys .count) (c .before .before .loop .free) (c .if1 .taken)) }
+cell-free-requires : tie.Need-cell-free-requires Inv-loop μ-loop
+cell-free-requires c κs = tt
 
-add-y : tie.Need-add-y Inv-loop μ-loop
-add-y c = number-fits (c .before .before .before .before .before .before .before .before .before .args .ys) (c .before .before .before .before .before .before .before .before .before .pre .0) (c .before .before .before .before .loop .k) (turn (c .before .before .before .before .loop .k) (c .before .before .before .before .before .before .before .before .before .args .ys .count) (c .before .before .before .before .loop .free) (c .before .before .if1 .taken))
-
-layer-free-requires : tie.Need-layer-free-requires Inv-loop μ-loop
-layer-free-requires c κs = (c .before .before .before .before .before .before .before .before .before .pre .1, c .before .before .before .before .before .before .before .before .before .pre .2)
-
-add-k : tie.Need-add-k Inv-loop μ-loop
-add-k c = omega (arith, c .before .before .before .before .before .before .before .before .before .before .pre .0 .count, inside c)
+next-in-requires : tie.Need-next-in-requires Inv-loop μ-loop
+next-in-requires c κs = tt
 
 loop-less : tie.Need-loop-less Inv-loop μ-loop
-loop-less c = omega (arith, inside c)
+loop-less c = fewer (c .before .before .before .before .before .before .before .before .before .before .before .before .before .before .args .region) (c .before .before .before .before .before .before .before .before .loop .cursor) (c .next-in .result) (c .before .before .before .before .before .before .before .before .loop .inv .0) (c .next-in .ensures) (tested (c .before) .0)
 
 loop-again : tie.Need-loop-again Inv-loop μ-loop
-loop-again c = c .before .before .before .before .before .loop .inv ∙ goes-on (at (c .before .before .before .before .before .before .before .before .before .before)) (c .before .before .before .before .before .loop .k) (c .before .before .before .before .before .before .before .before .before .before .args .ys .count) (c .before .before .before .before .before .loop .free) _ (c .before .before .before .if1 .taken) (one c)
+loop-again c =
+    let next = taken (c .before .before .before .before .before .before .before .before .before .before .before .before .before .before .args .region) (c .before .before .before .before .before .before .before .before .loop .cursor) (c .next-in .result) (c .before .before .before .before .before .before .before .before .loop .inv .0) (c .next-in .ensures) (tested (c .before) .0) in (
+      still-proper (c .before .before .before .before .before .before .before .before .before .before .before .before .before .before .args .region) (c .before .before .before .before .before .before .before .before .loop .cursor) (c .next-in .result) (c .before .before .before .before .before .before .before .before .loop .inv .0) (c .next-in .ensures) (tested (c .before) .0),
+      c .before .before .before .before .before .before .before .before .loop .inv .1 ∙ goes-on (within (c .before .before .before .before .before .before .before .before .before .before .before .before .before .before)) (c .before .before .before .before .before .before .before .before .before .before .before .before .before .before .args .area) _ _ _ (c .before .before .before .before .before .before .before .before .loop .free) _ (tested (c .before) .1) next (one (c .before)),
+    )
 
 returns : tie.Need-returns Inv-loop μ-loop
-returns c = sym (whole (c .before .before .before .before .before .before .before) ∙ c .before .before .loop .inv ∙ ends (at (c .before .before .before .before .before .before .before)) (c .before .before .loop .k) (c .before .before .before .before .before .before .before .args .ys .count) (c .before .before .loop .free) (c .if1 .left))
+returns c = sym (c .before .before .loop .inv .1 ∙ ends (within (c .before .before .before .before .before .before .before .before)) (c .before .before .before .before .before .before .before .before .args .area) (c .before .before .before .before .before .before .before .before .args .region) (c .before .before .loop .cursor) (c .before .before .loop .free) (c .if1 .left))
 
 pub all-free-spec : {M : Type 1} → statement M
 all-free-spec =
@@ -76,11 +70,10 @@ all-free-spec =
     (tie.spec
     Inv-loop
     μ-loop
+    first-in-requires
     loop-holds
-    cast-y
-    add-y
-    layer-free-requires
-    add-k
+    cell-free-requires
+    next-in-requires
     loop-less
     loop-again
     returns)

@@ -1,8 +1,7 @@
 -- `clear::clear_area` meets its contract. Assumes nothing.
-use native.Mathlib.Omega.{arith}
 use mathlib.Core.Path.{_∙_}
-use Rattle.cells.specs.RangeLaws.{less-none, reached-near}
-use Rattle.clear.specs.Clear.{clear}
+use Rattle.cells.specs.RangeLaws.{less-none}
+use Rattle.clear.specs.Clear.{around, clear}
 use Rattle.clear.proofs.clear_area.Statement.{statement}
 use Rattle.clear.proofs.clear_area.Tie as tie
 
@@ -16,14 +15,10 @@ reached-requires-3 : tie.Need-reached-requires-3
 reached-requires-3 c κs = tt
 
 all-free-requires : tie.Need-all-free-requires
-all-free-requires c κs = (
-  rw (c .before .before .reached .ensures) (reached-near _ _ 1 (omega arith)),
-  rw (c .before .reached2 .ensures) (reached-near _ _ 0 (omega arith)),
-  rw (c .reached3 .ensures) (reached-near _ _ 0 (omega arith)),
-)
+all-free-requires c κs = tt
 
 returns : tie.Need-returns
-unfolding clear
+unfolding clear around
 returns c = c .all-free .ensures ∙ rw (c .before .before .before .reached .ensures, c .before .before .reached2 .ensures, c .before .reached3 .ensures, less-none, less-none)
 
 pub clear-area-spec : {M : Type 1} → statement M

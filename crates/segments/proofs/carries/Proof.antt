@@ -2,30 +2,31 @@
 use mathlib.Core.Path.{_≡_, sym, _∙_}
 use mathlib.Core.List.{List}
 use denote.Ref.{now}
+use Rattle.cells.specs.Regions.{cellsOf}
 use Rattle.world.specs.Space.{space}
 use Rattle.support.specs.Cover.{enough}
-use Rattle.support.specs.Support.{Shape, allShapes, carried}
+use Rattle.support.specs.Support.{Shape, shapesAt, carried}
 use Rattle.support.specs.PassLaws.{verdict, left, carried-begins, carried-ends, carried-on, carried-falls}
 use Rattle.segments.proofs.carries.Statement.{statement}
 use Rattle.segments.proofs.carries.Tie as tie
 
 abbrev Inv-loop : tie.InvT-loop
-Inv-loop w cells perms shapes boxes way ys xs zs covered₀ covered =
-    carried (way .under) (way .from) (way .to) (allShapes (space w cells perms shapes boxes) ys xs zs)
-    ≡ verdict way (allShapes (space w cells perms shapes boxes) ys xs zs) covered
+Inv-loop w cells perms shapes boxes way region covered₀ covered =
+    carried (way .under) (way .from) (way .to) (shapesAt (space w cells perms shapes boxes) (cellsOf region))
+    ≡ verdict way (shapesAt (space w cells perms shapes boxes) (cellsOf region)) covered
 
 abbrev μ-loop : tie.MeasureT-loop
-μ-loop w cells perms shapes boxes way ys xs zs covered₀ covered = left way (allShapes (space w cells perms shapes boxes) ys xs zs) covered
+μ-loop w cells perms shapes boxes way region covered₀ covered = left way (shapesAt (space w cells perms shapes boxes) (cellsOf region)) covered
 
 -- the shapes that a start passes over
 abbrev under : (s : tie.Start Inv-loop μ-loop) → List Shape
-under s = allShapes (space (s .args .w) (now (s .args .cells)) (now (s .args .perms)) (now (s .args .shapes)) (now (s .args .boxes))) (s .args .ys) (s .args .xs) (s .args .zs)
+under s = shapesAt (space (s .args .w) (now (s .args .cells)) (now (s .args .perms)) (now (s .args .shapes)) (now (s .args .boxes))) (cellsOf (s .args .region))
 
 loop-holds : tie.Need-loop-holds Inv-loop μ-loop
 loop-holds c = carried-begins (c .before .before .before .before .args .way) (under (c .before .before .before .before))
 
 reach-all-requires : tie.Need-reach-all-requires Inv-loop μ-loop
-reach-all-requires c κs = (c .before .before .before .before .before .pre .0, c .before .before .before .before .before .pre .1, c .before .before .before .before .before .pre .2)
+reach-all-requires c κs = tt
 
 returns : tie.Need-returns Inv-loop μ-loop
 unfolding enough

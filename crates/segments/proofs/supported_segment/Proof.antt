@@ -1,8 +1,7 @@
 -- `segments::supported_segment` meets its contract. Assumes nothing.
-use native.Mathlib.Omega.{arith}
 use mathlib.Core.Path.{_∙_}
-use Rattle.cells.specs.RangeLaws.{less-none, floors-near, reached-near}
-use Rattle.support.specs.Support.{shapesUnder, supported}
+use Rattle.cells.specs.RangeLaws.{less-none}
+use Rattle.support.specs.Support.{beneath, shapesUnder, supported}
 use Rattle.segments.proofs.supported_segment.Statement.{statement}
 use Rattle.segments.proofs.supported_segment.Tie as tie
 
@@ -19,14 +18,10 @@ reached-requires-2 : tie.Need-reached-requires-2
 reached-requires-2 c κs = tt
 
 carries-requires : tie.Need-carries-requires
-carries-requires c κs = (
-  rw (c .before .before .floors .ensures) (floors-near _ _ 2 (omega arith)),
-  rw (c .before .reached .ensures) (reached-near _ _ 0 (omega arith)),
-  rw (c .reached2 .ensures) (reached-near _ _ 0 (omega arith)),
-)
+carries-requires c κs = tt
 
 returns : tie.Need-returns
-unfolding supported shapesUnder
+unfolding supported shapesUnder beneath
 returns c =
     c .carries .ensures
     ∙ rw (c .before .before .before .floors .ensures, c .before .before .reached .ensures, c .before .reached2 .ensures, c .before .before .before .before .footprint .ensures, less-none, less-none)

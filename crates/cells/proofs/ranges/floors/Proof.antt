@@ -10,7 +10,7 @@ use mir.Facts.{toZ-ofZ, toZ-pos}
 use borrow.Author.Needs.{needs}
 use Rattle.cells.specs.Cells.{floorCell}
 use Rattle.cells.specs.CellLaws.{floor-range}
-use Rattle.cells.specs.RangeLaws.{less-fits, less-near}
+use Rattle.cells.specs.RangeLaws.{less-fits}
 use Rattle.cells.proofs.ranges.floors.Statement.{statement}
 use Rattle.cells.proofs.ranges.floors.Tie as tie
 
@@ -48,13 +48,8 @@ sub-first c = rw (floor c, step c) (fits c)
 floor-cell-requires-2 : tie.Need-floor-cell-requires-2
 floor-cell-requires-2 c κs = tt
 
-between-requires : tie.Need-between-requires
-between-requires c κs =
-    rw (first (c .before), last c)
-    (less-near (floorCell (c .before .before .args .low)) (c .before .before .args .below) (small (c .before)) (few (c .before)), omega (arith, floor-range (c .before .before .args .high)))
-
 returns : tie.Need-returns
-returns c = rw (first (c .before .before), last (c .before)) at (c .between .ensures)
+returns c = cc (first (c .before), last c)
 
 pub floors-spec : {M : Type 1} → statement M
-floors-spec = tie.close (tie.spec floor-cell-requires cast-first sub-first floor-cell-requires-2 between-requires returns)
+floors-spec = tie.close (tie.spec floor-cell-requires cast-first sub-first floor-cell-requires-2 returns)

@@ -10,7 +10,7 @@ use mir.Facts.{toZ-ofZ, toZ-pos}
 use borrow.Author.Needs.{needs}
 use Rattle.cells.specs.Cells.{floorCell, ceilCell}
 use Rattle.cells.specs.CellLaws.{floor-range, ceil-range}
-use Rattle.cells.specs.RangeLaws.{less-fits, less-near}
+use Rattle.cells.specs.RangeLaws.{less-fits}
 use Rattle.cells.proofs.ranges.reached.Statement.{statement}
 use Rattle.cells.proofs.ranges.reached.Tie as tie
 
@@ -49,27 +49,20 @@ module _ (c : tie.After-ceil-cell) where
 floor-cell-requires : tie.Need-floor-cell-requires
 floor-cell-requires c κs = tt
 
-cast-low : tie.Need-cast-low
-cast-low c = search needs
+cast-first : tie.Need-cast-first
+cast-first c = search needs
 
-sub-low : tie.Need-sub-low
-sub-low c = rw (floor c, step c) (fits c)
+sub-first : tie.Need-sub-first
+sub-first c = rw (floor c, step c) (fits c)
 
 ceil-cell-requires : tie.Need-ceil-cell-requires
 ceil-cell-requires c κs = tt
 
-sub-high : tie.Need-sub-high
-sub-high c = rw (ceil c) (ceil-fits c)
-
-between-requires : tie.Need-between-requires
-between-requires c κs =
-    rw (low (c .before), high c) (
-      less-near (floorCell (c .before .before .args .least)) (c .before .before .args .below) (small (c .before)) (few (c .before)),
-      less-near (ceilCell (c .before .before .args .greatest)) 1 (ceil-small c) (omega arith),
-    )
+sub-last : tie.Need-sub-last
+sub-last c = rw (ceil c) (ceil-fits c)
 
 returns : tie.Need-returns
-returns c = rw (low (c .before .before), high (c .before)) at (c .between .ensures)
+returns c = cc (low (c .before), high c)
 
 pub reached-spec : {M : Type 1} → statement M
-reached-spec = tie.close (tie.spec floor-cell-requires cast-low sub-low ceil-cell-requires sub-high between-requires returns)
+reached-spec = tie.close (tie.spec floor-cell-requires cast-first sub-first ceil-cell-requires sub-last returns)

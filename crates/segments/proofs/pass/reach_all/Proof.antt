@@ -1,83 +1,75 @@
 -- `segments::pass::reach_all` meets its contract. Assumes nothing.
-use Prim.Native.Nat.{ℕ, _-_, _<_}
-use native.Mathlib.Omega.{arith}
+use mathlib.Core.Bool.{true}
 use mathlib.Core.Path.{_≡_, sym, ap, _∙_}
 use mathlib.Core.List.{List}
 use denote.Ref.{now}
+use lib.ListN.{length}
 use mir.Syntax.{w64}
-use mir.Val.{toZ, ofZ}
+use mir.Val.{SFits}
 use mir.Facts.{toZ-ofZ}
-use Rattle.cells.specs.Ranges.{gather}
-use Rattle.cells.specs.RangeLaws.{fold-begins, number-fits, number-is}
-use Rattle.cells.specs.declared.ranges.Range.{Range}
-use Rattle.world.specs.declared.Window.{Window}
-use Rattle.world.specs.Space.{space}
+use borrow.Author.Needs.{needs}
+use Rattle.cells.specs.declared.regions.Spot.{Spot}
+use Rattle.cells.specs.Regions.{cellsOf, toCome, Proper}
+use Rattle.cells.specs.RegionLaws.{taken, still-proper, fewer}
+use Rattle.world.specs.Space.{Space, space}
 use Rattle.support.specs.declared.Reach.{Reach}
-use Rattle.support.specs.Support.{Shape, allShapes}
-use Rattle.support.specs.Pass.{reached, step, pass}
-use Rattle.support.specs.PassLaws.{layerOf, all-is, turns, pass-on, pass-stops}
+use Rattle.support.specs.Support.{Shape, shapesOf, shapesAt}
+use Rattle.support.specs.Pass.{reached, pass}
+use Rattle.support.specs.PassLaws.{turned, pass-on, pass-stops}
 use Rattle.segments.proofs.pass.reach_all.Statement.{statement}
 use Rattle.segments.proofs.pass.reach_all.Tie as tie
 
--- what turn k passes over. The loop has its signed numbers as bits
-abbrev Turn : Window → List ℕ → List ℕ → List ℕ → List ℕ → Range → Range → Range → ℕ → List Shape
-Turn w cells perms shapes boxes ys xs zs = layerOf (space w cells perms shapes boxes) ys xs zs
-
 abbrev Inv-loop : tie.InvT-loop
-Inv-loop w cells perms shapes boxes way ys xs zs covered reach₀ k₀ reach k =
-    pass way (reached covered) (gather (Turn w cells perms shapes boxes ys xs zs) 0 (ys .count))
-    ≡ pass way reach (gather (Turn w cells perms shapes boxes ys xs zs) k (ys .count - k))
+Inv-loop w cells perms shapes boxes way region covered reach₀ cursor₀ reach cursor =
+    Proper region cursor
+    × (pass way (reached covered) (shapesAt (space w cells perms shapes boxes) (cellsOf region)) ≡ pass way reach (shapesAt (space w cells perms shapes boxes) (toCome region cursor)))
 
 abbrev μ-loop : tie.MeasureT-loop
-μ-loop w cells perms shapes boxes way ys xs zs covered reach₀ k₀ reach k = ys .count - k
+μ-loop w cells perms shapes boxes way region covered reach₀ cursor₀ reach cursor = length (toCome region cursor)
 
--- the same, of a start
-abbrev at : (s : tie.Start Inv-loop μ-loop) → ℕ → List Shape
-at s = Turn (s .args .w) (now (s .args .cells)) (now (s .args .perms)) (now (s .args .shapes)) (now (s .args .boxes)) (s .args .ys) (s .args .xs) (s .args .zs)
+-- the space of a start
+abbrev within : (s : tie.Start Inv-loop μ-loop) → Space
+within s = space (s .args .w) (now (s .args .cells)) (now (s .args .perms)) (now (s .args .shapes)) (now (s .args .boxes))
 
-whole : (s : tie.Start Inv-loop μ-loop) →
-    allShapes (space (s .args .w) (now (s .args .cells)) (now (s .args .perms)) (now (s .args .shapes)) (now (s .args .boxes))) (s .args .ys) (s .args .xs) (s .args .zs) ≡ gather (at s) 0 (s .args .ys .count)
-whole s = all-is _ _ _ _
+-- a turn: there is a cell, nothing has refused the pass, and what that cell makes of it
+module _ (c : tie.After-reach-cell Inv-loop μ-loop) where
+  tested : (c .before .before .before .before .before .before .before .before .loop .cursor .more ≡ true) × (reached (c .before .before .before .before .before .before .before .before .loop .reach .to) ≡ c .before .before .before .before .before .before .before .before .loop .reach)
+  tested = turned (c .before .before .before .before .before .before .before .before .loop .cursor .more) (c .before .before .before .before .before .before .before .before .loop .reach) (c .before .before .before .before .before .if1 .taken)
 
-passed : (s : tie.Start Inv-loop μ-loop) →
-    pass (s .args .way) (reached (s .args .covered)) (allShapes (space (s .args .w) (now (s .args .cells)) (now (s .args .perms)) (now (s .args .shapes)) (now (s .args .boxes))) (s .args .ys) (s .args .xs) (s .args .zs))
-    ≡ pass (s .args .way) (reached (s .args .covered)) (gather (at s) 0 (s .args .ys .count))
-passed s = ap (λ (l : List Shape). pass (s .args .way) (reached (s .args .covered)) l) (whole s)
+  abbrev held : List Shape
+  held = shapesOf (within (c .before .before .before .before .before .before .before .before .before .before .before .before .before .before) (c .before .before .before .before .before .before .before .before .loop .cursor .at .x) (c .before .before .before .before .before .before .before .before .loop .cursor .at .y) (c .before .before .before .before .before .before .before .before .loop .cursor .at .z))
 
--- a turn, and what it makes of the pass
-module _ (c : tie.After-reach-layer Inv-loop μ-loop) where
-  turn : (c .before .before .before .before .before .before .loop .k < c .before .before .before .before .before .before .before .before .before .before .before .args .ys .count) × (reached (c .before .before .before .before .before .before .loop .reach .to) ≡ c .before .before .before .before .before .before .loop .reach)
-  turn = turns (c .before .before .before .before .before .before .loop .k) (c .before .before .before .before .before .before .before .before .before .before .before .args .ys .count) (c .before .before .before .before .before .before .loop .reach) (c .before .before .before .if1 .taken)
-
-  one : pass (c .before .before .before .before .before .before .before .before .before .before .before .args .way) (c .before .before .before .before .before .before .loop .reach) (at (c .before .before .before .before .before .before .before .before .before .before .before) (c .before .before .before .before .before .before .loop .k)) ≡ c .reach-layer .result
-  unfolding layerOf
+  one : pass (c .before .before .before .before .before .before .before .before .before .before .before .before .before .before .args .way) (c .before .before .before .before .before .before .before .before .loop .reach) held ≡ c .reach-cell .result
   one =
-      ap (λ (r : Reach). pass (c .before .before .before .before .before .before .before .before .before .before .before .args .way) r (at (c .before .before .before .before .before .before .before .before .before .before .before) (c .before .before .before .before .before .before .loop .k))) (sym (turn .1))
-      ∙ sym (rw (number-is (c .before .before .before .before .before .before .before .before .before .before .before .args .ys) (c .before .before .before .before .before .before .before .before .before .before .before .pre .0) (c .before .before .before .before .before .before .loop .k) (turn .0)) at (c .reach-layer .ensures))
+      let f : SFits w64 (c .before .before .before .before .before .before .before .before .loop .cursor .at .x) = search needs in
+      let g : SFits w64 (c .before .before .before .before .before .before .before .before .loop .cursor .at .y) = search needs in
+      let h : SFits w64 (c .before .before .before .before .before .before .before .before .loop .cursor .at .z) = search needs in
+      ap (λ (r : Reach). pass (c .before .before .before .before .before .before .before .before .before .before .before .before .before .before .args .way) r held) (sym (tested .1)) ∙ sym (simp (toZ-ofZ, f, g, h) at (c .reach-cell .ensures))
+
+first-in-requires : tie.Need-first-in-requires Inv-loop μ-loop
+first-in-requires c κs = tt
 
 loop-holds : tie.Need-loop-holds Inv-loop μ-loop
-loop-holds c = fold-begins (step (c .before .before .before .before .args .way)) (at (c .before .before .before .before)) (reached (c .before .before .before .before .args .covered)) (c .before .before .before .before .args .ys .count)
+loop-holds c = (c .first-in .ensures .1, ap (λ (ps : List Spot). pass (c .before .before .before .before .before .args .way) (reached (c .before .before .before .before .before .args .covered)) (shapesAt (within (c .before .before .before .before .before)) ps)) (sym (c .first-in .ensures .0)))
 
-cast-y : tie.Need-cast-y Inv-loop μ-loop
-cast-y c = record { sfits = omega (arith, c .before .before .before .before .before .before .before .before .pre .0 .count, turns (c .before .before .before .loop .k) (c .before .before .before .before .before .before .before .before .args .ys .count) (c .before .before .before .loop .reach) (c .if1 .taken) .0) }
+reach-cell-requires : tie.Need-reach-cell-requires Inv-loop μ-loop
+reach-cell-requires c κs = tt
 
-add-y : tie.Need-add-y Inv-loop μ-loop
-add-y c = number-fits (c .before .before .before .before .before .before .before .before .before .before .args .ys) (c .before .before .before .before .before .before .before .before .before .before .pre .0) (c .before .before .before .before .before .loop .k) (turns (c .before .before .before .before .before .loop .k) (c .before .before .before .before .before .before .before .before .before .before .args .ys .count) (c .before .before .before .before .before .loop .reach) (c .before .before .if1 .taken) .0)
-
-reach-layer-requires : tie.Need-reach-layer-requires Inv-loop μ-loop
-reach-layer-requires c κs = (c .before .before .before .before .before .before .before .before .before .before .pre .1, c .before .before .before .before .before .before .before .before .before .before .pre .2)
-
-add-k : tie.Need-add-k Inv-loop μ-loop
-add-k c = omega (arith, c .before .before .before .before .before .before .before .before .before .before .before .pre .0 .count, turn c .0)
+next-in-requires : tie.Need-next-in-requires Inv-loop μ-loop
+next-in-requires c κs = tt
 
 loop-less : tie.Need-loop-less Inv-loop μ-loop
-loop-less c = omega (arith, turn c .0)
+loop-less c = fewer (c .before .before .before .before .before .before .before .before .before .before .before .before .before .before .before .args .region) (c .before .before .before .before .before .before .before .before .before .loop .cursor) (c .next-in .result) (c .before .before .before .before .before .before .before .before .before .loop .inv .0) (c .next-in .ensures) (tested (c .before) .0)
 
 loop-again : tie.Need-loop-again Inv-loop μ-loop
-loop-again c = c .before .before .before .before .before .before .loop .inv ∙ pass-on (c .before .before .before .before .before .before .before .before .before .before .before .args .way) (at (c .before .before .before .before .before .before .before .before .before .before .before)) (c .before .before .before .before .before .before .loop .reach) (c .before .before .before .before .before .before .loop .k) (c .before .before .before .before .before .before .before .before .before .before .before .args .ys .count) (turn c .0) _ (one c)
+loop-again c =
+    let next = taken (c .before .before .before .before .before .before .before .before .before .before .before .before .before .before .before .args .region) (c .before .before .before .before .before .before .before .before .before .loop .cursor) (c .next-in .result) (c .before .before .before .before .before .before .before .before .before .loop .inv .0) (c .next-in .ensures) (tested (c .before) .0) in (
+      still-proper (c .before .before .before .before .before .before .before .before .before .before .before .before .before .before .before .args .region) (c .before .before .before .before .before .before .before .before .before .loop .cursor) (c .next-in .result) (c .before .before .before .before .before .before .before .before .before .loop .inv .0) (c .next-in .ensures) (tested (c .before) .0),
+      c .before .before .before .before .before .before .before .before .before .loop .inv .1 ∙ pass-on (c .before .before .before .before .before .before .before .before .before .before .before .before .before .before .before .args .way) (within (c .before .before .before .before .before .before .before .before .before .before .before .before .before .before .before)) _ _ _ (c .before .before .before .before .before .before .before .before .before .loop .reach) _ next (one (c .before)),
+    )
 
 returns : tie.Need-returns Inv-loop μ-loop
-returns c = sym (passed (c .before .before .before .before .before .before .before .before) ∙ c .before .before .before .loop .inv ∙ pass-stops (c .before .before .before .before .before .before .before .before .args .way) (at (c .before .before .before .before .before .before .before .before)) (c .before .before .before .loop .reach) (c .before .before .before .loop .k) (c .before .before .before .before .before .before .before .before .args .ys .count) (c .if1 .left))
+returns c = sym (c .before .before .before .loop .inv .1 ∙ pass-stops (c .before .before .before .before .before .before .before .before .before .args .way) (within (c .before .before .before .before .before .before .before .before .before)) (c .before .before .before .before .before .before .before .before .before .args .region) (c .before .before .before .loop .cursor) (c .before .before .before .loop .reach) (c .if1 .left))
 
 pub reach-all-spec : {M : Type 1} → statement M
 reach-all-spec =
@@ -85,11 +77,10 @@ reach-all-spec =
     (tie.spec
     Inv-loop
     μ-loop
+    first-in-requires
     loop-holds
-    cast-y
-    add-y
-    reach-layer-requires
-    add-k
+    reach-cell-requires
+    next-in-requires
     loop-less
     loop-again
     returns)

@@ -1,0 +1,174 @@
+-- Laws of regions: a cursor begins with all cells, and each turn of it takes one of them.
+use Prim.Native.Nat.{ℕ, _<_}
+use native.Mathlib.Omega.{arith}
+use mathlib.Core.Path.{_≡_, refl, sym, ap, _∙_}
+use mathlib.Core.Bool.{Bool, true, false, _&&_}
+use mathlib.Core.List.{List, [], _∷_, _++_, append-assoc}
+use lib.IntN.{ℤ, pos, _+ℤ_}
+use lib.ListN.{length}
+use lib.Signed.{ltZ, leZ}
+use Rattle.cells.specs.declared.ranges.Range.{Range}
+use Rattle.cells.specs.declared.regions.Region.{Region}
+use Rattle.cells.specs.declared.regions.Spot.{Spot}
+use Rattle.cells.specs.declared.regions.Cursor.{Cursor}
+use Rattle.cells.specs.Parts.{sum, lt-yes, lt-no, le-yes, le-is}
+use Rattle.cells.specs.Regions.{rowFrom, layerFrom, layersFrom, cellsOf, from, toCome, Within, Inside, Proper, Follows}
+use Rattle.cells.specs.RangeLaws.{along-more, along-none, along-empty}
+
+-- ---- the number after one of a range, and the first of a range
+
+module _ (r : Range) (k : ℤ) where
+  below-next : ltZ k (r .last) ≡ true → leZ (k +ℤ pos 1) (r .last) ≡ true
+  below-next e = le-is (k +ℤ pos 1) (r .last) (omega (arith, sum k (pos 1), lt-yes k (r .last) e))
+
+  past-last : ltZ k (r .last) ≡ false → leZ (k +ℤ pos 1) (r .last) ≡ false
+  past-last e = go (leZ (k +ℤ pos 1) (r .last)) refl
+    where
+      go : (b : Bool) → leZ (k +ℤ pos 1) (r .last) ≡ b → leZ (k +ℤ pos 1) (r .last) ≡ false
+      go false p = p
+      go true p = absurd (omega (arith, sum k (pos 1), lt-no k (r .last) e, le-yes (k +ℤ pos 1) (r .last) p))
+
+  next-within : Within r k → ltZ k (r .last) ≡ true → Within r (k +ℤ pos 1)
+  next-within h e = record { low = le-is (r .first) (k +ℤ pos 1) (omega (arith, sum k (pos 1), le-yes (r .first) k (h .low))); high = below-next e }
+
+first-within : (r : Range) → leZ (r .first) (r .last) ≡ true → Within r (r .first)
+first-within r e = record { low = le-is (r .first) (r .first) (omega arith); high = e }
+
+-- a range that has a number has a first one
+some-first : (r : Range) (k : ℤ) → Within r k → leZ (r .first) (r .last) ≡ true
+some-first r k h = le-is (r .first) (r .last) (omega (arith, le-yes (r .first) k (h .low), le-yes k (r .last) (h .high)))
+
+module _ (r : Region) where
+  -- ---- the first of what is to come
+
+  row-more : (y x z : ℤ) → leZ z (r .zs .last) ≡ true → rowFrom r y x z ≡ record { x = x; y = y; z = z } ∷ rowFrom r y x (z +ℤ pos 1)
+  unfolding rowFrom
+  row-more y x z e = along-more _ z (r .zs .last) e
+
+  row-none : (y x z : ℤ) → leZ z (r .zs .last) ≡ false → rowFrom r y x z ≡ []
+  unfolding rowFrom
+  row-none y x z e = along-none _ z (r .zs .last) e
+
+  layer-more : (y x : ℤ) → leZ x (r .xs .last) ≡ true → layerFrom r y x ≡ rowFrom r y x (r .zs .first) ++ layerFrom r y (x +ℤ pos 1)
+  unfolding layerFrom
+  layer-more y x e = along-more _ x (r .xs .last) e
+
+  layer-none : (y x : ℤ) → leZ x (r .xs .last) ≡ false → layerFrom r y x ≡ []
+  unfolding layerFrom
+  layer-none y x e = along-none _ x (r .xs .last) e
+
+  layers-more : (y : ℤ) → leZ y (r .ys .last) ≡ true → layersFrom r y ≡ layerFrom r y (r .xs .first) ++ layersFrom r (y +ℤ pos 1)
+  unfolding layersFrom
+  layers-more y e = along-more _ y (r .ys .last) e
+
+  layers-none : (y : ℤ) → leZ y (r .ys .last) ≡ false → layersFrom r y ≡ []
+  unfolding layersFrom
+  layers-none y e = along-none _ y (r .ys .last) e
+
+  -- a row and a layer from their beginnings on
+  abbrev corner : ℤ → ℤ → Spot
+  corner y x = record { x = x; y = y; z = r .zs .first }
+
+  layer-from : (y x : ℤ) → leZ x (r .xs .last) ≡ true → layerFrom r y x ++ layersFrom r (y +ℤ pos 1) ≡ from r (corner y x)
+  unfolding from
+  layer-from y x e = rw (layer-more y x e) (append-assoc (rowFrom r y x (r .zs .first)) (layerFrom r y (x +ℤ pos 1)) (layersFrom r (y +ℤ pos 1)))
+
+  layers-from : (y : ℤ) → leZ y (r .ys .last) ≡ true → leZ (r .xs .first) (r .xs .last) ≡ true → layersFrom r y ≡ from r (corner y (r .xs .first))
+  layers-from y e f = layers-more y e ∙ layer-from y (r .xs .first) f
+
+  -- ---- where an axis has no cells, there are none
+
+  no-rows : leZ (r .zs .first) (r .zs .last) ≡ false → (y x : ℤ) → layerFrom r y x ≡ []
+  unfolding layerFrom
+  no-rows e y x = along-empty _ x (r .xs .last) (λ k. row-none y k (r .zs .first) e)
+
+  no-layers : ((y : ℤ) → layerFrom r y (r .xs .first) ≡ []) → (y : ℤ) → layersFrom r y ≡ []
+  unfolding layersFrom
+  no-layers h y = along-empty _ y (r .ys .last) h
+
+  -- ---- the first cell
+
+  abbrev pub any : Bool
+  any = leZ (r .ys .first) (r .ys .last) && leZ (r .xs .first) (r .xs .last) && leZ (r .zs .first) (r .zs .last)
+
+  abbrev start : Bool → Cursor
+  start more = record { at = corner (r .ys .first) (r .xs .first); more = more }
+
+  pub begins : (toCome r (start any) ≡ cellsOf r) × Proper r (start any)
+  unfolding toCome cellsOf
+  begins = go (leZ (r .ys .first) (r .ys .last)) refl (leZ (r .xs .first) (r .xs .last)) refl (leZ (r .zs .first) (r .zs .last)) refl
+    where
+      none : layersFrom r (r .ys .first) ≡ [] → (toCome r (start false) ≡ layersFrom r (r .ys .first)) × Proper r (start false)
+      none e = (sym e, λ t. absurd (let z : _≡_ {A = ℕ} 0 1 = cc in omega arith))
+
+      go : (a : Bool) → leZ (r .ys .first) (r .ys .last) ≡ a → (b : Bool) → leZ (r .xs .first) (r .xs .last) ≡ b → (c : Bool) → leZ (r .zs .first) (r .zs .last) ≡ c →
+          (toCome r (start (a && b && c)) ≡ layersFrom r (r .ys .first)) × Proper r (start (a && b && c))
+      go true p true q true s = (
+        sym (layers-from (r .ys .first) p q),
+        λ t. record { y = first-within (r .ys) p; x = first-within (r .xs) q; z = first-within (r .zs) s },
+      )
+      go true p true q false s = none (no-layers (λ y. no-rows s y (r .xs .first)) (r .ys .first))
+      go true p false q c s = none (no-layers (λ y. layer-none y (r .xs .first) q) (r .ys .first))
+      go false p b q c s = none (layers-none (r .ys .first) p)
+
+  -- ---- the next cell: of its row, else of its layer, else of the layer above, else none
+
+  module _ (p : Spot) (h : Inside r p) where
+    row-next : rowFrom r (p .y) (p .x) (p .z) ≡ p ∷ rowFrom r (p .y) (p .x) (p .z +ℤ pos 1)
+    row-next = row-more (p .y) (p .x) (p .z) (h .z .high)
+
+    pub next-z : ltZ (p .z) (r .zs .last) ≡ true → Follows r p (record { at = record { x = p .x; y = p .y; z = p .z +ℤ pos 1 }; more = true })
+    unfolding from toCome
+    next-z e = (rw row-next, λ t. record { y = h .y; x = h .x; z = next-within (r .zs) (p .z) (h .z) e })
+
+    module _ (e : ltZ (p .z) (r .zs .last) ≡ false) where
+      -- the row ends with this cell
+      row-ends : from r p ≡ p ∷ (layerFrom r (p .y) (p .x +ℤ pos 1) ++ layersFrom r (p .y +ℤ pos 1))
+      unfolding from
+      row-ends = rw (row-next, row-none (p .y) (p .x) (p .z +ℤ pos 1) (past-last (r .zs) (p .z) e))
+
+      first-z : Within (r .zs) (r .zs .first)
+      first-z = first-within (r .zs) (some-first (r .zs) (p .z) (h .z))
+
+      pub next-x : ltZ (p .x) (r .xs .last) ≡ true → Follows r p (record { at = corner (p .y) (p .x +ℤ pos 1); more = true })
+      unfolding toCome
+      next-x f = (
+        row-ends ∙ ap (λ (l : List Spot). p ∷ l) (layer-from (p .y) (p .x +ℤ pos 1) (below-next (r .xs) (p .x) f)),
+        λ t. record { y = h .y; x = next-within (r .xs) (p .x) (h .x) f; z = first-z },
+      )
+
+      module _ (f : ltZ (p .x) (r .xs .last) ≡ false) where
+        -- the layer ends with it too
+        layer-ends : from r p ≡ p ∷ layersFrom r (p .y +ℤ pos 1)
+        layer-ends = row-ends ∙ rw (layer-none (p .y) (p .x +ℤ pos 1) (past-last (r .xs) (p .x) f))
+
+        pub next-y : ltZ (p .y) (r .ys .last) ≡ true → Follows r p (record { at = corner (p .y +ℤ pos 1) (r .xs .first); more = true })
+        unfolding toCome
+        next-y g = (
+          layer-ends ∙ ap (λ (l : List Spot). p ∷ l) (layers-from (p .y +ℤ pos 1) (below-next (r .ys) (p .y) g) (some-first (r .xs) (p .x) (h .x))),
+          λ t. record { y = next-within (r .ys) (p .y) (h .y) g; x = first-within (r .xs) (some-first (r .xs) (p .x) (h .x)); z = first-z },
+        )
+
+        pub next-none : ltZ (p .y) (r .ys .last) ≡ false → (q : Spot) → Follows r p (record { at = q; more = false })
+        unfolding toCome
+        next-none g q = (
+          layer-ends ∙ rw (layers-none (p .y +ℤ pos 1) (past-last (r .ys) (p .y) g)),
+          λ t. absurd (let z : _≡_ {A = ℕ} 0 1 = cc in omega arith),
+        )
+
+-- ---- a loop with a cursor: its end, and a turn of it
+
+pub ended : (r : Region) (c : Cursor) → c .more ≡ false → toCome r c ≡ []
+unfolding toCome
+ended r c e = rw e
+
+module _ (r : Region) (c d : Cursor) (proper : Proper r c) (next : Inside r (c .at) → Follows r (c .at) d) (more : c .more ≡ true) where
+  pub taken : toCome r c ≡ c .at ∷ toCome r d
+  unfolding toCome
+  taken = rw more (next (proper more) .0)
+
+  pub still-proper : Proper r d
+  still-proper = next (proper more) .1
+
+  pub fewer : length (toCome r d) < length (toCome r c)
+  fewer = rw taken (omega arith)
