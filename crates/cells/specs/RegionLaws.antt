@@ -2,7 +2,7 @@
 use Prim.Native.Nat.{ℕ, _<_}
 use native.Mathlib.Omega.{arith}
 use mathlib.Core.Path.{_≡_, refl, sym, ap, _∙_}
-use mathlib.Core.Bool.{Bool, true, false, _&&_}
+use mathlib.Core.Bool.{Bool, true, false, _&&_, cond}
 use mathlib.Core.List.{List, [], _∷_, _++_, append-assoc}
 use lib.IntN.{ℤ, pos, _+ℤ_}
 use lib.ListN.{length}
@@ -12,8 +12,48 @@ use Rattle.cells.specs.declared.regions.Region.{Region}
 use Rattle.cells.specs.declared.regions.Spot.{Spot}
 use Rattle.cells.specs.declared.regions.Cursor.{Cursor}
 use Rattle.cells.specs.Parts.{sum, lt-yes, lt-no, le-yes, le-is}
-use Rattle.cells.specs.Regions.{rowFrom, layerFrom, layersFrom, cellsOf, from, toCome, Within, Inside, Proper, Follows}
+use Rattle.cells.specs.Ranges.{along}
+use Rattle.cells.specs.Regions.{cellsOf, firstIn, nextIn}
 use Rattle.cells.specs.RangeLaws.{along-more, along-none, along-empty}
+
+-- ---- what is left from a cell on
+
+module _ (r : Region) where
+  -- the cells of a row from z on, those of a layer from the row x on, and those from the layer y on
+  rowFrom : ℤ → ℤ → ℤ → List Spot
+  rowFrom y x z = along (λ k. record { x = x; y = y; z = k } ∷ []) z (r .zs .last)
+
+  layerFrom : ℤ → ℤ → List Spot
+  layerFrom y x = along (λ k. rowFrom y k (r .zs .first)) x (r .xs .last)
+
+  layersFrom : ℤ → List Spot
+  layersFrom y = along (λ k. layerFrom k (r .xs .first)) y (r .ys .last)
+
+  -- the rest of the cell's row, of its layer, and of the region
+  from : Spot → List Spot
+  from p = rowFrom (p .y) (p .x) (p .z) ++ (layerFrom (p .y) (p .x +ℤ pos 1) ++ layersFrom (p .y +ℤ pos 1))
+
+  -- what a cursor has before it
+  pub toCome : Cursor → List Spot
+  toCome c = cond (c .more) (from (c .at)) []
+
+-- a number is one of a range, and a cell one of a region
+pub record Within (r : Range) (k : ℤ) : Type 0 where
+  pub low : leZ (r .first) k ≡ true
+  pub high : leZ k (r .last) ≡ true
+
+pub record Inside (r : Region) (p : Spot) : Type 0 where
+  pub y : Within (r .ys) (p .y)
+  pub x : Within (r .xs) (p .x)
+  pub z : Within (r .zs) (p .z)
+
+-- a cursor's cell, if there is more, is one of the region
+abbrev pub Proper : Region → Cursor → Type 0
+Proper r c = c .more ≡ true → Inside r (c .at)
+
+-- a cursor follows a cell: the cells from that one on are it and those that the cursor has before it
+abbrev Follows : Region → Spot → Cursor → Type 0
+Follows r p c = (from r p ≡ p ∷ toCome r c) × Proper r c
 
 -- ---- the number after one of a range, and the first of a range
 
@@ -88,28 +128,25 @@ module _ (r : Region) where
 
   -- ---- the first cell
 
-  abbrev pub any : Bool
-  any = leZ (r .ys .first) (r .ys .last) && leZ (r .xs .first) (r .xs .last) && leZ (r .zs .first) (r .zs .last)
+  none-left : (p : Spot) → Proper r (record { at = p; more = false })
+  none-left p t = absurd (let z : _≡_ {A = ℕ} 0 1 = cc in omega arith)
 
-  abbrev start : Bool → Cursor
-  start more = record { at = corner (r .ys .first) (r .xs .first); more = more }
-
-  pub begins : (toCome r (start any) ≡ cellsOf r) × Proper r (start any)
-  unfolding toCome cellsOf
+  begins : (toCome r (firstIn r) ≡ cellsOf r) × Proper r (firstIn r)
+  unfolding toCome cellsOf firstIn layersFrom layerFrom rowFrom
   begins = go (leZ (r .ys .first) (r .ys .last)) refl (leZ (r .xs .first) (r .xs .last)) refl (leZ (r .zs .first) (r .zs .last)) refl
     where
-      none : layersFrom r (r .ys .first) ≡ [] → (toCome r (start false) ≡ layersFrom r (r .ys .first)) × Proper r (start false)
-      none e = (sym e, λ t. absurd (let z : _≡_ {A = ℕ} 0 1 = cc in omega arith))
+      first : Spot
+      first = corner (r .ys .first) (r .xs .first)
 
       go : (a : Bool) → leZ (r .ys .first) (r .ys .last) ≡ a → (b : Bool) → leZ (r .xs .first) (r .xs .last) ≡ b → (c : Bool) → leZ (r .zs .first) (r .zs .last) ≡ c →
-          (toCome r (start (a && b && c)) ≡ layersFrom r (r .ys .first)) × Proper r (start (a && b && c))
+          (cond (a && b && c) (from r first) [] ≡ layersFrom r (r .ys .first)) × Proper r (record { at = first; more = a && b && c })
       go true p true q true s = (
         sym (layers-from (r .ys .first) p q),
         λ t. record { y = first-within (r .ys) p; x = first-within (r .xs) q; z = first-within (r .zs) s },
       )
-      go true p true q false s = none (no-layers (λ y. no-rows s y (r .xs .first)) (r .ys .first))
-      go true p false q c s = none (no-layers (λ y. layer-none y (r .xs .first) q) (r .ys .first))
-      go false p b q c s = none (layers-none (r .ys .first) p)
+      go true p true q false s = (sym (no-layers (λ y. no-rows s y (r .xs .first)) (r .ys .first)), none-left first)
+      go true p false q c s = (sym (no-layers (λ y. layer-none y (r .xs .first) q) (r .ys .first)), none-left first)
+      go false p b q c s = (sym (layers-none (r .ys .first) p), none-left first)
 
   -- ---- the next cell: of its row, else of its layer, else of the layer above, else none
 
@@ -117,7 +154,7 @@ module _ (r : Region) where
     row-next : rowFrom r (p .y) (p .x) (p .z) ≡ p ∷ rowFrom r (p .y) (p .x) (p .z +ℤ pos 1)
     row-next = row-more (p .y) (p .x) (p .z) (h .z .high)
 
-    pub next-z : ltZ (p .z) (r .zs .last) ≡ true → Follows r p (record { at = record { x = p .x; y = p .y; z = p .z +ℤ pos 1 }; more = true })
+    next-z : ltZ (p .z) (r .zs .last) ≡ true → Follows r p (record { at = record { x = p .x; y = p .y; z = p .z +ℤ pos 1 }; more = true })
     unfolding from toCome
     next-z e = (rw row-next, λ t. record { y = h .y; x = h .x; z = next-within (r .zs) (p .z) (h .z) e })
 
@@ -130,7 +167,7 @@ module _ (r : Region) where
       first-z : Within (r .zs) (r .zs .first)
       first-z = first-within (r .zs) (some-first (r .zs) (p .z) (h .z))
 
-      pub next-x : ltZ (p .x) (r .xs .last) ≡ true → Follows r p (record { at = corner (p .y) (p .x +ℤ pos 1); more = true })
+      next-x : ltZ (p .x) (r .xs .last) ≡ true → Follows r p (record { at = corner (p .y) (p .x +ℤ pos 1); more = true })
       unfolding toCome
       next-x f = (
         row-ends ∙ ap (λ (l : List Spot). p ∷ l) (layer-from (p .y) (p .x +ℤ pos 1) (below-next (r .xs) (p .x) f)),
@@ -142,33 +179,46 @@ module _ (r : Region) where
         layer-ends : from r p ≡ p ∷ layersFrom r (p .y +ℤ pos 1)
         layer-ends = row-ends ∙ rw (layer-none (p .y) (p .x +ℤ pos 1) (past-last (r .xs) (p .x) f))
 
-        pub next-y : ltZ (p .y) (r .ys .last) ≡ true → Follows r p (record { at = corner (p .y +ℤ pos 1) (r .xs .first); more = true })
+        next-y : ltZ (p .y) (r .ys .last) ≡ true → Follows r p (record { at = corner (p .y +ℤ pos 1) (r .xs .first); more = true })
         unfolding toCome
         next-y g = (
           layer-ends ∙ ap (λ (l : List Spot). p ∷ l) (layers-from (p .y +ℤ pos 1) (below-next (r .ys) (p .y) g) (some-first (r .xs) (p .x) (h .x))),
           λ t. record { y = next-within (r .ys) (p .y) (h .y) g; x = first-within (r .xs) (some-first (r .xs) (p .x) (h .x)); z = first-z },
         )
 
-        pub next-none : ltZ (p .y) (r .ys .last) ≡ false → (q : Spot) → Follows r p (record { at = q; more = false })
+        next-none : ltZ (p .y) (r .ys .last) ≡ false → Follows r p (record { at = p; more = false })
         unfolding toCome
-        next-none g q = (
-          layer-ends ∙ rw (layers-none (p .y +ℤ pos 1) (past-last (r .ys) (p .y) g)),
-          λ t. absurd (let z : _≡_ {A = ℕ} 0 1 = cc in omega arith),
-        )
+        next-none g = (layer-ends ∙ rw (layers-none (p .y +ℤ pos 1) (past-last (r .ys) (p .y) g)), none-left p)
 
--- ---- a loop with a cursor: its end, and a turn of it
+    follows : Follows r p (nextIn r p)
+    unfolding nextIn
+    follows = go (ltZ (p .z) (r .zs .last)) refl (ltZ (p .x) (r .xs .last)) refl (ltZ (p .y) (r .ys .last)) refl
+      where
+        go : (a : Bool) → ltZ (p .z) (r .zs .last) ≡ a → (b : Bool) → ltZ (p .x) (r .xs .last) ≡ b → (c : Bool) → ltZ (p .y) (r .ys .last) ≡ c → Follows r p (nextIn r p)
+        go true e b f c g = rw e (next-z e)
+        go false e true f c g = rw (e, f) (next-x e f)
+        go false e false f true g = rw (e, f, g) (next-y e f g)
+        go false e false f false g = rw (e, f, g) (next-none e f g)
+
+-- ---- a loop with a cursor: its beginning, its end, and a turn of it
+
+pub begun : (r : Region) (c : Cursor) → c ≡ firstIn r → (toCome r c ≡ cellsOf r) × Proper r c
+begun r c e = rw e (begins r)
 
 pub ended : (r : Region) (c : Cursor) → c .more ≡ false → toCome r c ≡ []
 unfolding toCome
 ended r c e = rw e
 
-module _ (r : Region) (c d : Cursor) (proper : Proper r c) (next : Inside r (c .at) → Follows r (c .at) d) (more : c .more ≡ true) where
+module _ (r : Region) (c d : Cursor) (proper : Proper r c) (next : d ≡ nextIn r (c .at)) (more : c .more ≡ true) where
+  turn : Follows r (c .at) d
+  turn = rw next (follows r (c .at) (proper more))
+
   pub taken : toCome r c ≡ c .at ∷ toCome r d
   unfolding toCome
-  taken = rw more (next (proper more) .0)
+  taken = rw more (turn .0)
 
   pub still-proper : Proper r d
-  still-proper = next (proper more) .1
+  still-proper = turn .1
 
   pub fewer : length (toCome r d) < length (toCome r c)
   fewer = rw taken (omega arith)

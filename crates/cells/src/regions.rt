@@ -2,7 +2,7 @@
 //
 // One loop goes through them all: it begins with `first_in`, and goes on with `next_in` as long as the cursor says that there is a cell.
 ghost use mathlib.Core.Path.{_≡_};
-ghost use Rattle.cells.specs.Regions.{cellsOf, toCome, Inside, Proper, Follows};
+ghost use Rattle.cells.specs.Regions.{firstIn, nextIn};
 use crate::Range;
 
 pub struct Region {
@@ -24,9 +24,9 @@ pub struct Cursor {
     pub more: bool,
 }
 
-// The first cell of a region: all are still to come.
+// The first cell of a region, if there is one.
 pub fn first_in(r: Region) -> Cursor
-    ensures { λ c. ⌜ (toCome r c ≡ cellsOf r) × Proper r c ⌝ }
+    ensures { λ c. ⌜ c ≡ firstIn r ⌝ }
 {
     let more = (r.ys.first <= r.ys.last) & (r.xs.first <= r.xs.last) & (r.zs.first <= r.zs.last);
     let at = Spot {
@@ -37,22 +37,30 @@ pub fn first_in(r: Region) -> Cursor
     Cursor { at, more }
 }
 
-// The cell after one of the region.
+// The cell after one, if there is one: a row goes along z, the rows of a layer along x, the layers along y.
 pub fn next_in(r: Region, at: Spot) -> Cursor
-    ensures { λ c. ⌜ (Inside r at → Follows r at c) ⌝ }
+    ensures { λ c. ⌜ c ≡ nextIn r at ⌝ }
 {
     let x = at.x;
     let y = at.y;
     let z = at.z;
     if z < r.zs.last {
-        let next = Spot { x, y, z: z + 1 };
-        Cursor { at: next, more: true }
+        let at = Spot { x, y, z: z + 1 };
+        Cursor { at, more: true }
     } else if x < r.xs.last {
-        let next = Spot { x: x + 1, y, z: r.zs.first };
-        Cursor { at: next, more: true }
+        let at = Spot {
+            x: x + 1,
+            y,
+            z: r.zs.first,
+        };
+        Cursor { at, more: true }
     } else if y < r.ys.last {
-        let next = Spot { x: r.xs.first, y: y + 1, z: r.zs.first };
-        Cursor { at: next, more: true }
+        let at = Spot {
+            x: r.xs.first,
+            y: y + 1,
+            z: r.zs.first,
+        };
+        Cursor { at, more: true }
     } else {
         Cursor { at, more: false }
     }

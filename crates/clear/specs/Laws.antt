@@ -11,8 +11,7 @@ use Rattle.world.specs.Laws.{run-past}
 use Rattle.cells.specs.declared.regions.Region.{Region}
 use Rattle.cells.specs.declared.regions.Spot.{Spot}
 use Rattle.cells.specs.declared.regions.Cursor.{Cursor}
-use Rattle.cells.specs.Regions.{toCome}
-use Rattle.cells.specs.RegionLaws.{ended}
+use Rattle.cells.specs.RegionLaws.{toCome, ended}
 use Rattle.world.specs.declared.Point.{Point}
 use Rattle.world.specs.declared.Aabb.{Aabb}
 use Rattle.world.specs.declared.Found.the-variants.{Here, End}

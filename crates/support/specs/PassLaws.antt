@@ -11,8 +11,7 @@ use lib.Ieee.{Float, binary64, lt, le, add}
 use Rattle.floats.specs.Floats.{E, nought, larger}
 use borrow.Author.Tests.{ltb-true, ltb-false}
 use Rattle.cells.specs.RangeLaws.{fold-stays}
-use Rattle.cells.specs.Regions.{toCome}
-use Rattle.cells.specs.RegionLaws.{ended}
+use Rattle.cells.specs.RegionLaws.{toCome, ended}
 use Rattle.cells.specs.declared.regions.Region.{Region}
 use Rattle.cells.specs.declared.regions.Spot.{Spot}
 use Rattle.cells.specs.declared.regions.Cursor.{Cursor}

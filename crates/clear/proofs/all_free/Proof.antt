@@ -7,8 +7,8 @@ use mir.Syntax.{w64}
 use mir.Val.{SFits}
 use mir.Facts.{toZ-ofZ}
 use borrow.Author.Needs.{needs}
-use Rattle.cells.specs.Regions.{cellsOf, toCome, Proper}
-use Rattle.cells.specs.RegionLaws.{taken, still-proper, fewer}
+use Rattle.cells.specs.Regions.{cellsOf}
+use Rattle.cells.specs.RegionLaws.{toCome, Proper, begun, taken, still-proper, fewer}
 use Rattle.world.specs.Space.{Space, space}
 use Rattle.clear.specs.Clear.{allFree}
 use Rattle.clear.specs.Laws.{freeAt, turn, goes-on, ends}
@@ -43,7 +43,9 @@ first-in-requires : tie.Need-first-in-requires Inv-loop μ-loop
 first-in-requires c κs = tt
 
 loop-holds : tie.Need-loop-holds Inv-loop μ-loop
-loop-holds c = (c .first-in .ensures .1, ap (allFree (within (c .before .before .before .before .before)) (c .before .before .before .before .before .args .area)) (sym (c .first-in .ensures .0)))
+loop-holds c =
+    let b = begun (c .before .before .before .before .before .args .region) (c .first-in .result) (c .first-in .ensures) in
+    (b .1, ap (allFree (within (c .before .before .before .before .before)) (c .before .before .before .before .before .args .area)) (sym (b .0)))
 
 cell-free-requires : tie.Need-cell-free-requires Inv-loop μ-loop
 cell-free-requires c κs = tt

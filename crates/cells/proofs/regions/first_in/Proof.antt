@@ -4,7 +4,7 @@ use mir.Syntax.{w64}
 use mir.Val.{toZ, ofZ}
 use mir.Facts.{toZ-ofZ}
 use borrow.Author.Needs.{needs}
-use Rattle.cells.specs.RegionLaws.{begins}
+use Rattle.cells.specs.Regions.{firstIn}
 use Rattle.cells.proofs.regions.first_in.Statement.{statement}
 use Rattle.cells.proofs.regions.first_in.Tie as tie
 
@@ -29,9 +29,10 @@ module _ (c : tie.After-struct-told) where
   most-z = toZ-ofZ (search needs)
 
 returns : tie.Need-returns
+unfolding firstIn
 returns c =
     let d = c .before .before .before .before .before in
-    rw (least-y d, least-x d, least-z d, most-y d, most-x d, most-z d) (begins (d .before .before .args .r))
+    rw (least-y d, least-x d, least-z d, most-y d, most-x d, most-z d)
 
 pub first-in-spec : {M : Type 1} → statement M
 first-in-spec = tie.close (tie.spec returns)

@@ -1,7 +1,7 @@
 -- `cells::regions::next_in` meets its contract. Assumes nothing.
 use native.Mathlib.Omega.{arith}
 use mathlib.Core.Bool.{Bool, true}
-use mathlib.Core.Path.{_≡_, sym, _∙_, subst}
+use mathlib.Core.Path.{_≡_, _∙_}
 use lib.IntN.{ℤ, pos, _+ℤ_}
 use lib.Signed.{ltZ}
 use mir.Syntax.{w64}
@@ -9,8 +9,7 @@ use mir.Val.{SFits, toZ, ofZ}
 use mir.Facts.{toZ-ofZ}
 use borrow.Author.Needs.{needs}
 use Rattle.cells.specs.Parts.{sum, lt-yes, within, upper, lower}
-use Rattle.cells.specs.Regions.{Follows}
-use Rattle.cells.specs.RegionLaws.{next-z, next-x, next-y, next-none}
+use Rattle.cells.specs.Regions.{nextIn}
 use Rattle.cells.proofs.regions.next_in.Statement.{statement}
 use Rattle.cells.proofs.regions.next_in.Tie as tie
 
@@ -65,42 +64,27 @@ add-t17 : tie.Need-add-t17
 add-t17 c = more-fits _ _ (fits-y (c .before .before .before .before .before .before .before .before .before .before .before)) (most-y (c .before .before .before .before .before .before .before)) (c .if3 .taken)
 
 returns : tie.Need-returns
-returns c h =
-    let s = c .before .before .before .before .before .before in
-    let z = more-is _ _ (fits-z (c .before .before .before .before .before)) (most-z (c .before)) (c .if1 .taken) in
-    subst (Follows (s .args .r) (s .args .at))
-    (λ i. record { at = record { x = sym (toZ-ofZ (fits-x (c .before .before .before .before .before))) i; y = sym (toZ-ofZ (fits-y (c .before .before .before .before .before))) i; z = sym z i }; more = true })
-    (next-z (s .args .r) (s .args .at) h (test _ _ (fits-z (c .before .before .before .before .before)) (most-z (c .before)) (c .if1 .taken)))
+unfolding nextIn
+returns c =
+    rw (test _ _ (fits-z (c .before .before .before .before .before)) (most-z (c .before)) (c .if1 .taken))
+    (cc (toZ-ofZ (fits-x (c .before .before .before .before .before)), toZ-ofZ (fits-y (c .before .before .before .before .before)), more-is _ _ (fits-z (c .before .before .before .before .before)) (most-z (c .before)) (c .if1 .taken)))
 
 returns-2 : tie.Need-returns-2
-returns-2 c h =
-    let s = c .before .before .before .before .before .before .before .before .before .before in
-    let x = more-is _ _ (fits-x (c .before .before .before .before .before .before .before .before .before)) (most-x (c .before .before .before .before .before)) (c .before .if2 .taken) in
-    subst (Follows (s .args .r) (s .args .at))
-    (λ i. record { at = record { x = sym x i; y = sym (toZ-ofZ (fits-y (c .before .before .before .before .before .before .before .before .before))) i; z = sym (toZ-ofZ (least-z (c .before .before .before .before .before))) i }; more = true })
-    (next-x (s .args .r) (s .args .at) h
-    (test _ _ (fits-z (c .before .before .before .before .before .before .before .before .before)) (most-z (c .before .before .before .before .before)) (c .before .before .before .before .if1 .left))
-    (test _ _ (fits-x (c .before .before .before .before .before .before .before .before .before)) (most-x (c .before .before .before .before .before)) (c .before .if2 .taken)))
+unfolding nextIn
+returns-2 c =
+    rw (test _ _ (fits-z (c .before .before .before .before .before .before .before .before .before)) (most-z (c .before .before .before .before .before)) (c .before .before .before .before .if1 .left), test _ _ (fits-x (c .before .before .before .before .before .before .before .before .before)) (most-x (c .before .before .before .before .before)) (c .before .if2 .taken))
+    (cc (more-is _ _ (fits-x (c .before .before .before .before .before .before .before .before .before)) (most-x (c .before .before .before .before .before)) (c .before .if2 .taken), toZ-ofZ (fits-y (c .before .before .before .before .before .before .before .before .before)), toZ-ofZ (least-z (c .before .before .before .before .before))))
 
 returns-3 : tie.Need-returns-3
-returns-3 c h =
-    let s = c .before .before .before .before .before .before .before .before .before .before .before .before .before in
-    let y = more-is _ _ (fits-y (c .before .before .before .before .before .before .before .before .before .before .before .before)) (most-y (c .before .before .before .before .before .before .before .before)) (c .before .if3 .taken) in
-    subst (Follows (s .args .r) (s .args .at))
-    (λ i. record { at = record { x = sym (toZ-ofZ (least-x (c .before .before .before .before .before .before .before .before))) i; y = sym y i; z = sym (toZ-ofZ (least-z (c .before .before .before .before .before .before .before .before))) i }; more = true })
-    (next-y (s .args .r) (s .args .at) h
-    (test _ _ (fits-z (c .before .before .before .before .before .before .before .before .before .before .before .before)) (most-z (c .before .before .before .before .before .before .before .before)) (c .before .before .before .before .before .before .before .if1 .left))
-    (test _ _ (fits-x (c .before .before .before .before .before .before .before .before .before .before .before .before)) (most-x (c .before .before .before .before .before .before .before .before)) (c .before .before .before .before .if2 .left))
-    (test _ _ (fits-y (c .before .before .before .before .before .before .before .before .before .before .before .before)) (most-y (c .before .before .before .before .before .before .before .before)) (c .before .if3 .taken)))
+unfolding nextIn
+returns-3 c =
+    rw (test _ _ (fits-z (c .before .before .before .before .before .before .before .before .before .before .before .before)) (most-z (c .before .before .before .before .before .before .before .before)) (c .before .before .before .before .before .before .before .if1 .left), test _ _ (fits-x (c .before .before .before .before .before .before .before .before .before .before .before .before)) (most-x (c .before .before .before .before .before .before .before .before)) (c .before .before .before .before .if2 .left), test _ _ (fits-y (c .before .before .before .before .before .before .before .before .before .before .before .before)) (most-y (c .before .before .before .before .before .before .before .before)) (c .before .if3 .taken))
+    (cc (toZ-ofZ (least-x (c .before .before .before .before .before .before .before .before)), more-is _ _ (fits-y (c .before .before .before .before .before .before .before .before .before .before .before .before)) (most-y (c .before .before .before .before .before .before .before .before)) (c .before .if3 .taken), toZ-ofZ (least-z (c .before .before .before .before .before .before .before .before))))
 
 returns-4 : tie.Need-returns-4
-returns-4 c h =
-    let s = c .before .before .before .before .before .before .before .before .before .before .before .before in
-    next-none (s .args .r) (s .args .at) h
-    (test _ _ (fits-z (c .before .before .before .before .before .before .before .before .before .before .before)) (most-z (c .before .before .before .before .before .before .before)) (c .before .before .before .before .before .before .if1 .left))
-    (test _ _ (fits-x (c .before .before .before .before .before .before .before .before .before .before .before)) (most-x (c .before .before .before .before .before .before .before)) (c .before .before .before .if2 .left))
-    (test _ _ (fits-y (c .before .before .before .before .before .before .before .before .before .before .before)) (most-y (c .before .before .before .before .before .before .before)) (c .if3 .left))
-    _
+unfolding nextIn
+returns-4 c =
+    rw (test _ _ (fits-z (c .before .before .before .before .before .before .before .before .before .before .before)) (most-z (c .before .before .before .before .before .before .before)) (c .before .before .before .before .before .before .if1 .left), test _ _ (fits-x (c .before .before .before .before .before .before .before .before .before .before .before)) (most-x (c .before .before .before .before .before .before .before)) (c .before .before .before .if2 .left), test _ _ (fits-y (c .before .before .before .before .before .before .before .before .before .before .before)) (most-y (c .before .before .before .before .before .before .before)) (c .if3 .left))
 
 pub next-in-spec : {M : Type 1} → statement M
 next-in-spec = tie.close (tie.spec add-t11 add-t14 add-t17 returns returns-2 returns-3 returns-4)

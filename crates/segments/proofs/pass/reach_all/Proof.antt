@@ -9,8 +9,8 @@ use mir.Val.{SFits}
 use mir.Facts.{toZ-ofZ}
 use borrow.Author.Needs.{needs}
 use Rattle.cells.specs.declared.regions.Spot.{Spot}
-use Rattle.cells.specs.Regions.{cellsOf, toCome, Proper}
-use Rattle.cells.specs.RegionLaws.{taken, still-proper, fewer}
+use Rattle.cells.specs.Regions.{cellsOf}
+use Rattle.cells.specs.RegionLaws.{toCome, Proper, begun, taken, still-proper, fewer}
 use Rattle.world.specs.Space.{Space, space}
 use Rattle.support.specs.declared.Reach.{Reach}
 use Rattle.support.specs.Support.{Shape, shapesOf, shapesAt}
@@ -50,7 +50,9 @@ first-in-requires : tie.Need-first-in-requires Inv-loop μ-loop
 first-in-requires c κs = tt
 
 loop-holds : tie.Need-loop-holds Inv-loop μ-loop
-loop-holds c = (c .first-in .ensures .1, ap (λ (ps : List Spot). pass (c .before .before .before .before .before .args .way) (reached (c .before .before .before .before .before .args .covered)) (shapesAt (within (c .before .before .before .before .before)) ps)) (sym (c .first-in .ensures .0)))
+loop-holds c =
+    let b = begun (c .before .before .before .before .before .args .region) (c .first-in .result) (c .first-in .ensures) in
+    (b .1, ap (λ (ps : List Spot). pass (c .before .before .before .before .before .args .way) (reached (c .before .before .before .before .before .args .covered)) (shapesAt (within (c .before .before .before .before .before)) ps)) (sym (b .0)))
 
 reach-cell-requires : tie.Need-reach-cell-requires Inv-loop μ-loop
 reach-cell-requires c κs = tt
