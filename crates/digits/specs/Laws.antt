@@ -1,7 +1,7 @@
 -- Laws of digits and of decimal places.
-use Prim.Native.Nat.{ℕ, zero, suc, _+_, _-_, _*_, _/_, _%_, _^_, _<_, _≤_}
+use Prim.Native.Nat.{ℕ, zero, suc, _+_, _-_, _/_, _%_, _^_, _<_, _≤_}
 use native.Mathlib.Omega.{arith}
-use native.Mathlib.Nat.{pow-suc, pow-zero, div-lt-iff-lt-mul}
+use native.Mathlib.Nat.{pow-suc, div-lt-iff-lt-mul}
 use mathlib.Core.Path.{_≡_, refl, sym, ap, _∙_}
 use mathlib.Core.Bool.{Bool, true, false, cond}
 use mathlib.Core.List.{List, [], _∷_, _++_}
@@ -149,14 +149,6 @@ length-hex v = length-digits 16 16 v
 pub length-decimal : (v : ℕ) → length (decimal v) ≡ places v
 unfolding decimal
 length-decimal v = length-digits 10 (places v) v
-
-pub hex-is : (v : ℕ) → hex v ≡ digits 16 16 v
-unfolding hex
-hex-is v = refl
-
-pub decimal-is : (v n : ℕ) → n ≡ places v → decimal v ≡ digits 10 n v
-unfolding decimal
-decimal-is v n e = rw e
 
 -- for those who write a line: a number's field, and n bytes left behind it
 

@@ -1,11 +1,8 @@
 // Numbers in digits, written into a lent buffer (01, "Scenes and walkprint"): bits in 16 hexadecimal digits, counts in decimal. Each is a field of a
 // line, with the byte that ends it. A field has at most 21 bytes: where the buffer has fewer left it stays as it was, and so does the offset.
 ghost use mathlib.Core.Path.{_≡_};
-ghost use mathlib.Core.List.{[], _∷_, _++_};
 ghost use Prim.Native.Nat.{_+_, _≤_, _<_};
 ghost use lib.Dec.{leb};
-ghost use lib.ListN.{length};
-ghost use lib.Seq.{sets};
 ghost use Rattle.digits.specs.Digits.{digit, digits, places, hex, decimal};
 ghost use Rattle.digits.specs.Writing.{withField, behind};
 
@@ -34,11 +31,16 @@ fn digit_of(d: u64) -> u8
     }
 }
 
-// The last `width` digits of a number, from an offset on, and the byte that ends them: written from the last one to the first.
-fn put_digits(out: &mut [u8], at: usize, base: u64, width: usize, v: u64, end: u8)
-    requires { ⌜ (at + width < length (now out)) × (1 < base) × (base ≤ 16) ⌝ }
-    ensures { λ _. ⌜ now (out .exit) ≡ sets (now (out .entry)) at (digits base width v ++ (end ∷ [])) ⌝ }
+// The last `width` digits of a number, from an offset on, and the byte that ends them: written from the last one to the first. The answer is the
+// offset behind them.
+fn put_digits(out: &mut [u8], at: usize, base: u64, width: usize, v: u64, end: u8) -> usize
+    requires { ⌜ (1 < base) × (base ≤ 16) × (width ≤ 20) ⌝ }
+    ensures next { λ r. ⌜ r ≡ behind (digits base width v) at (now (out .entry)) ⌝ }
+    ensures bytes { λ _. ⌜ now (out .exit) ≡ withField (digits base width v) end at (now (out .entry)) ⌝ }
 {
+    if !has_room(out.len(), at) {
+        return at;
+    }
     out[at + width] = end;
     let mut k = width;
     let mut rest = v;
@@ -47,6 +49,7 @@ fn put_digits(out: &mut [u8], at: usize, base: u64, width: usize, v: u64, end: u
         out[at + k] = digit_of(rest % base);
         rest = rest / base;
     }
+    at + width + 1
 }
 
 // How many decimal digits a number has.
@@ -67,11 +70,7 @@ pub fn put_hex(out: &mut [u8], at: usize, v: u64, end: u8) -> usize
     ensures next { λ r. ⌜ r ≡ behind (hex v) at (now (out .entry)) ⌝ }
     ensures bytes { λ _. ⌜ now (out .exit) ≡ withField (hex v) end at (now (out .entry)) ⌝ }
 {
-    if !has_room(out.len(), at) {
-        return at;
-    }
-    put_digits(out, at, 16, 16, v, end);
-    at + 17
+    put_digits(out, at, 16, 16, v, end)
 }
 
 // A count in decimal and the byte that ends the field.
@@ -79,10 +78,5 @@ pub fn put_decimal(out: &mut [u8], at: usize, v: u64, end: u8) -> usize
     ensures next { λ r. ⌜ r ≡ behind (decimal v) at (now (out .entry)) ⌝ }
     ensures bytes { λ _. ⌜ now (out .exit) ≡ withField (decimal v) end at (now (out .entry)) ⌝ }
 {
-    if !has_room(out.len(), at) {
-        return at;
-    }
-    let n = places_of(v);
-    put_digits(out, at, 10, n, v, end);
-    at + n + 1
+    put_digits(out, at, 10, places_of(v), v, end)
 }

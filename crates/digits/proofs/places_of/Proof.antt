@@ -1,5 +1,5 @@
 -- `digits::places_of` meets its contract. Assumes nothing.
-use Prim.Native.Nat.{_+_, _≤_}
+use Prim.Native.Nat.{_+_}
 use mathlib.Core.Path.{_≡_}
 use Rattle.digits.specs.Digits.{places}
 use Rattle.digits.specs.Laws.{one-place, more-places, most-places, some-place}
