@@ -11,15 +11,12 @@ use lib.Ieee.{Float, nan, inf, fin, binary64, fits, up, down, size, span, climb,
 use lib.Ieee.Fits.{down-pos}
 use lib.Ieee.Scale.{finite, round-same}
 use Rattle.floats.specs.Floats.{nought, smaller, larger, absolute, canonical}
-use Rattle.floats.specs.Zeros.{lt-canonical, canonical-lt, le-canonical, canonical-le, eq-canonical, canonical-eq}
+use Rattle.floats.specs.Zeros.{nil, by-zeros, lt-canonical, canonical-lt, le-canonical, canonical-le, eq-canonical, canonical-eq}
 use Rattle.cells.specs.Cells.{downDiv, upDiv, ends, cellBy, floorCell, ceilCell}
 use Rattle.arrival.specs.Exact.{round-itself}
 
 abbrev pub Alike : Float → Float → Type 0
 Alike x y = canonical x ≡ canonical y
-
-abbrev nil : Float
-nil = fin false zero (pos zero)
 
 -- a zero of either sign
 abbrev pub Zero : Float → Type 0
@@ -32,14 +29,24 @@ nought-zero = refl
 pub zero-alike : (x : Float) → Zero x → Alike x nought
 zero-alike x z = z ∙ sym nought-zero
 
+-- floats that are alike answer alike where no zero is told from 0.0
+alike-by : {A : Type 0} (f : Float → A) → ((s : Bool) (e : ℤ) → f nil ≡ f (fin s zero e)) → (x y : Float) → Alike x y → f x ≡ f y
+alike-by f h x y e = sym (by-zeros f h x) ∙ ap f e ∙ by-zeros f h y
+
+-- and so on either side of what has two sides
+both-alike : {A : Type 0} (f : Float → Float → A) → ((x y : Float) → f (canonical x) y ≡ f x y) → ((x y : Float) → f x (canonical y) ≡ f x y) →
+    (x y a b : Float) → Alike x a → Alike y b → f x y ≡ f a b
+both-alike f left right x y a b e g =
+    let between : f (canonical x) (canonical y) ≡ f (canonical a) (canonical b) = cc in
+    sym (left x y) ∙ sym (right (canonical x) y) ∙ between ∙ right (canonical a) b ∙ left a b
+
+-- one of two, by the same test
+pick-alike : (q : Bool) (x y a b : Float) → Alike x a → Alike y b → Alike (cond q x y) (cond q a b)
+pick-alike true x y a b e f = e
+pick-alike false x y a b e f = f
+
 pub finite-alike : (x y : Float) → Alike x y → finite x ≡ finite y
-finite-alike x y e = sym (kept x) ∙ ap finite e ∙ kept y
-  where
-    kept : (x : Float) → finite (canonical x) ≡ finite x
-    kept nan = unfold canonical in refl
-    kept (inf s) = unfold canonical in refl
-    kept (fin s zero e) = unfold canonical in refl
-    kept (fin s (suc m) e) = unfold canonical in refl
+finite-alike = alike-by finite (λ s e. refl)
 
 -- ---- a sum with a zero is one rounding
 
@@ -79,46 +86,35 @@ module _ (c : ℕ) (p : 0 < c) where
 -- ---- sums and differences
 
 add-left : (x y : Float) → Alike (add binary64 (canonical x) y) (add binary64 x y)
-unfolding canonical add
-add-left nan y = refl
-add-left (inf s) y = refl
-add-left (fin s zero e) nan = refl
-add-left (fin s zero e) (inf t) = refl
-add-left (fin s zero e) (fin t n d) =
-    zero-left (1 * down d) (mul-pos {m = 1} {n = down d} (omega arith) (down-pos d)) false t (0 * 1 * down d) (n * up d * 1) (simp zero-mul)
-    ∙ ap canonical (round-same binary64 t (n * up d * 1) (1 * down d) (n * up d * down e) (down e * down d) (mul-pos {m = 1} {n = down d} (omega arith) (down-pos d)) (mul-pos (down-pos e) (down-pos d)) (simp (mul-one, one-mul, mul-assoc)))
-    ∙ sym (zero-left (down e * down d) (mul-pos (down-pos e) (down-pos d)) s t (0 * up e * down d) (n * up d * down e) (simp zero-mul))
-add-left (fin s (suc m) e) y = refl
+add-left x y = by-zeros (λ v. canonical (add binary64 v y)) (λ s e. zero-first s e y) x
+  where
+    zero-first : (s : Bool) (e : ℤ) (y : Float) → Alike (add binary64 nil y) (add binary64 (fin s zero e) y)
+    zero-first s e nan = unfold add in refl
+    zero-first s e (inf t) = unfold add in refl
+    zero-first s e (fin t n d) =
+        unfold add in
+        zero-left (1 * down d) (mul-pos {m = 1} {n = down d} (omega arith) (down-pos d)) false t (0 * 1 * down d) (n * up d * 1) (simp zero-mul)
+        ∙ ap canonical (round-same binary64 t (n * up d * 1) (1 * down d) (n * up d * down e) (down e * down d) (mul-pos {m = 1} {n = down d} (omega arith) (down-pos d)) (mul-pos (down-pos e) (down-pos d)) (simp (mul-one, one-mul, mul-assoc)))
+        ∙ sym (zero-left (down e * down d) (mul-pos (down-pos e) (down-pos d)) s t (0 * up e * down d) (n * up d * down e) (simp zero-mul))
 
 add-right : (x y : Float) → Alike (add binary64 x (canonical y)) (add binary64 x y)
-unfolding canonical add
-add-right nan y = refl
-add-right (inf s) nan = refl
-add-right (inf s) (inf t) = refl
-add-right (inf s) (fin t zero d) = refl
-add-right (inf s) (fin t (suc n) d) = refl
-add-right (fin s m e) nan = refl
-add-right (fin s m e) (inf t) = refl
-add-right (fin s m e) (fin t zero d) =
-    zero-right (down e * 1) (mul-pos {m = down e} {n = 1} (down-pos e) (omega arith)) s false (m * up e * 1) (0 * 1 * down e) (simp zero-mul)
-    ∙ ap canonical (round-same binary64 s (m * up e * 1) (down e * 1) (m * up e * down d) (down e * down d) (mul-pos {m = down e} {n = 1} (down-pos e) (omega arith)) (mul-pos (down-pos e) (down-pos d)) (simp (mul-one, mul-assoc) (rw (mul-comm (down e) (down d)))))
-    ∙ sym (zero-right (down e * down d) (mul-pos (down-pos e) (down-pos d)) s t (m * up e * down d) (0 * up d * down e) (simp zero-mul))
-add-right (fin s m e) (fin t (suc n) d) = refl
+add-right x y = by-zeros (λ v. canonical (add binary64 x v)) (λ t d. zero-second t d x) y
+  where
+    zero-second : (t : Bool) (d : ℤ) (x : Float) → Alike (add binary64 x nil) (add binary64 x (fin t zero d))
+    zero-second t d nan = unfold add in refl
+    zero-second t d (inf s) = unfold add in refl
+    zero-second t d (fin s m e) =
+        unfold add in
+        zero-right (down e * 1) (mul-pos {m = down e} {n = 1} (down-pos e) (omega arith)) s false (m * up e * 1) (0 * 1 * down e) (simp zero-mul)
+        ∙ ap canonical (round-same binary64 s (m * up e * 1) (down e * 1) (m * up e * down d) (down e * down d) (mul-pos {m = down e} {n = 1} (down-pos e) (omega arith)) (mul-pos (down-pos e) (down-pos d)) (simp (mul-one, mul-assoc) (rw (mul-comm (down e) (down d)))))
+        ∙ sym (zero-right (down e * down d) (mul-pos (down-pos e) (down-pos d)) s t (m * up e * down d) (0 * up d * down e) (simp zero-mul))
 
-neg-canonical : (x : Float) → Alike (neg (canonical x)) (neg x)
+neg-alike : (x y : Float) → Alike x y → Alike (neg x) (neg y)
 unfolding canonical neg
-neg-canonical nan = refl
-neg-canonical (inf s) = refl
-neg-canonical (fin s zero e) = refl
-neg-canonical (fin s (suc m) e) = refl
-
-pub neg-alike : (x y : Float) → Alike x y → Alike (neg x) (neg y)
-neg-alike x y e = sym (neg-canonical x) ∙ ap (λ (v : Float). canonical (neg v)) e ∙ neg-canonical y
+neg-alike = alike-by (λ v. canonical (neg v)) (λ s e. refl)
 
 pub add-alike : (x y a b : Float) → Alike x a → Alike y b → Alike (add binary64 x y) (add binary64 a b)
-add-alike x y a b e f =
-    let between : canonical (add binary64 (canonical x) (canonical y)) ≡ canonical (add binary64 (canonical a) (canonical b)) = cc in
-    sym (add-left x y) ∙ sym (add-right (canonical x) y) ∙ between ∙ add-right (canonical a) b ∙ add-left a b
+add-alike = both-alike (λ x y. canonical (add binary64 x y)) add-left add-right
 
 pub sub-alike : (x y a b : Float) → Alike x a → Alike y b → Alike (sub binary64 x y) (sub binary64 a b)
 unfolding sub
@@ -157,53 +153,34 @@ with-zero x z h e = sym (add-right x z) ∙ ap (λ (v : Float). canonical (add b
 
 module _ (x y a b : Float) (e : Alike x a) (f : Alike y b) where
   pub lt-alike : lt x y ≡ lt a b
-  lt-alike =
-      let between : lt (canonical x) (canonical y) ≡ lt (canonical a) (canonical b) = cc in
-      sym (lt-canonical x y) ∙ sym (canonical-lt (canonical x) y) ∙ between ∙ canonical-lt (canonical a) b ∙ lt-canonical a b
+  lt-alike = both-alike lt lt-canonical canonical-lt x y a b e f
 
   pub le-alike : le x y ≡ le a b
-  le-alike =
-      let between : le (canonical x) (canonical y) ≡ le (canonical a) (canonical b) = cc in
-      sym (le-canonical x y) ∙ sym (canonical-le (canonical x) y) ∙ between ∙ canonical-le (canonical a) b ∙ le-canonical a b
+  le-alike = both-alike le le-canonical canonical-le x y a b e f
 
   pub eq-alike : eq x y ≡ eq a b
-  eq-alike =
-      let between : eq (canonical x) (canonical y) ≡ eq (canonical a) (canonical b) = cc in
-      sym (eq-canonical x y) ∙ sym (canonical-eq (canonical x) y) ∙ between ∙ canonical-eq (canonical a) b ∙ eq-canonical a b
+  eq-alike = both-alike eq eq-canonical canonical-eq x y a b e f
 
   pub smaller-alike : Alike (smaller x y) (smaller a b)
   unfolding smaller
-  smaller-alike = rw lt-alike (pick (lt a b))
-    where
-      pick : (q : Bool) → Alike (cond q x y) (cond q a b)
-      pick true = e
-      pick false = f
+  smaller-alike = rw lt-alike (pick-alike (lt a b) x y a b e f)
 
 pub larger-alike : (x y a b : Float) → Alike x a → Alike y b → Alike (larger x y) (larger a b)
 unfolding larger
-larger-alike x y a b e f = rw (lt-alike y x b a f e) (pick (lt b a))
-  where
-    pick : (q : Bool) → Alike (cond q x y) (cond q a b)
-    pick true = e
-    pick false = f
+larger-alike x y a b e f = rw (lt-alike y x b a f e) (pick-alike (lt b a) x y a b e f)
 
 pub absolute-alike : (x y : Float) → Alike x y → Alike (absolute x) (absolute y)
 unfolding absolute
-absolute-alike x y e = rw (lt-alike x nought y nought e refl) (pick (lt y nought))
-  where
-    pick : (q : Bool) → Alike (cond q (neg x) x) (cond q (neg y) y)
-    pick true = neg-alike x y e
-    pick false = e
+absolute-alike x y e = rw (lt-alike x nought y nought e refl) (pick-alike (lt y nought) (neg x) x (neg y) y (neg-alike x y e) e)
 
 -- ---- cells
 
-cell-canonical : (f g : ℕ → ℕ → ℕ) → ((d : ℕ) → f 0 d ≡ 0) → ((d : ℕ) → g 0 d ≡ 0) → (x : Float) → cellBy f g (canonical x) ≡ cellBy f g x
-unfolding canonical
-cell-canonical f g p q nan = refl
-cell-canonical f g p q (inf s) = refl
-cell-canonical f g p q (fin false zero e) = rw (zero-mul (up e), q 1, q (down e))
-cell-canonical f g p q (fin true zero e) = rw (zero-mul (up e), q 1, p (down e))
-cell-canonical f g p q (fin s (suc m) e) = refl
+cell-alike : (f g : ℕ → ℕ → ℕ) → ((d : ℕ) → f 0 d ≡ 0) → ((d : ℕ) → g 0 d ≡ 0) → (x y : Float) → Alike x y → cellBy f g x ≡ cellBy f g y
+cell-alike f g p q = alike-by (cellBy f g) zeros
+  where
+    zeros : (s : Bool) (e : ℤ) → cellBy f g nil ≡ cellBy f g (fin s zero e)
+    zeros false e = rw (zero-mul (up e), q 1, q (down e))
+    zeros true e = rw (zero-mul (up e), q 1, p (down e))
 
 down-nil : (d : ℕ) → downDiv 0 d ≡ 0
 down-nil d = zero-div d
@@ -213,8 +190,8 @@ up-nil d = rw (zero-mod d, zero-div d)
 
 pub floor-alike : (x y : Float) → Alike x y → floorCell x ≡ floorCell y
 unfolding floorCell
-floor-alike x y e = sym (cell-canonical upDiv downDiv up-nil down-nil x) ∙ ap (cellBy upDiv downDiv) e ∙ cell-canonical upDiv downDiv up-nil down-nil y
+floor-alike = cell-alike upDiv downDiv up-nil down-nil
 
 pub ceil-alike : (x y : Float) → Alike x y → ceilCell x ≡ ceilCell y
 unfolding ceilCell
-ceil-alike x y e = sym (cell-canonical downDiv upDiv down-nil up-nil x) ∙ ap (cellBy downDiv upDiv) e ∙ cell-canonical downDiv upDiv down-nil up-nil y
+ceil-alike = cell-alike downDiv upDiv down-nil up-nil

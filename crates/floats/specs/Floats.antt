@@ -1,9 +1,8 @@
 -- What 01 asks of floats beside the operations of IEEE 754, which are lib.Ieee's. 0.0 is the float of the bit pattern 0.
-use Prim.Native.Nat.{ℕ, zero, suc}
-use mathlib.Core.Bool.{Bool, false, cond}
-use lib.Dec.{eqb}
+use Prim.Native.Nat.{zero, suc}
+use mathlib.Core.Bool.{false, cond}
 use lib.IntN.{pos}
-use lib.Ieee.{Float, nan, inf, fin, binary64, ofBits, toBits, lt, neg}
+use lib.Ieee.{Float, nan, inf, fin, binary64, ofBits, lt, neg}
 
 -- 01, The graph: "E is 1.0e-7 as f64"
 abbrev pub E : Float
@@ -30,7 +29,3 @@ canonical nan = nan
 canonical (inf s) = inf s
 canonical (fin s zero e) = fin false zero (pos zero)
 canonical (fin s (suc m) e) = fin s (suc m) e
-
--- 01, Same point, of one coordinate: "equal bits, with -0.0 as 0"
-unfoldable pub same : Float → Float → Bool
-same x y = eqb (toBits binary64 (canonical x)) (toBits binary64 (canonical y))

@@ -3,5 +3,4 @@ pub mod Patterns
 pub mod Laws
 pub mod Order
 pub mod Zeros
-pub mod Identical
 pub mod Sums

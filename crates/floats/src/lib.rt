@@ -1,8 +1,8 @@
-// Floats (01, Numbers): bit patterns, the smaller, the larger, the size, the canonical zero, E. Every function is total, NaN included.
+// Floats (01, Numbers): bit patterns, the smaller, the larger, the size, E. Every function is total, NaN included.
 ghost use mathlib.Core.Path.{_≡_};
 ghost use lib.Ieee.{binary64, ofBits, toBits};
 ghost use lib.Ieee.Scale.{finite};
-ghost use Rattle.floats.specs.Floats.{smaller, larger, absolute, canonical};
+ghost use Rattle.floats.specs.Floats.{smaller, larger, absolute};
 
 // 01: "E is 1.0e-7 as f64".
 pub const E: f64 = 1.0e-7;
@@ -48,13 +48,6 @@ pub fn abs(x: f64) -> f64
     ensures { λ r. ⌜ r ≡ absolute x ⌝ }
 {
     if x < 0.0 { -x } else { x }
-}
-
-// -0.0 as 0.0, and every other float itself.
-pub fn canonical(x: f64) -> f64
-    ensures { λ r. ⌜ r ≡ canonical x ⌝ }
-{
-    if x == 0.0 { 0.0 } else { x }
 }
 
 // Whether a float is a number: neither an infinity nor a NaN.
