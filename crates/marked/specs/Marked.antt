@@ -4,7 +4,7 @@ use Prim.Native.Nat.{ℕ}
 use mathlib.Core.Bool.{Bool, true, false, _&&_, Bool·beq}
 use mathlib.Core.List.{List, [], _∷_, map}
 use lib.Dec.{T, eqb}
-use lib.Ieee.{Float, nan, binary64, ofBits, toBits, le, lt, eq, add, sub, neg}
+use lib.Ieee.{nan, binary64, ofBits, toBits, le, lt, eq, add, sub, neg}
 use Rattle.floats.specs.Floats.{larger}
 use Rattle.root.specs.Root.{Given, value, refusal, quanta}
 use Rattle.root.specs.Method.{answer, rootOf, isqrt}

@@ -1,6 +1,6 @@
 -- `root::whole::whole_root` meets its contract: each turn keeps the root in the range and halves it (`Ranges`). Assumes nothing.
 use native.Mathlib.Omega.{arith}
-use mathlib.Core.Path.{_≡_, sym, subst, _∙_}
+use mathlib.Core.Path.{sym, subst, _∙_}
 use mathlib.Core.Bool.{Bool, not}
 use lib.Dec.{T, leb→le, nleb→lt}
 use Prim.Native.Nat.{_+_, _/_, _^_, _<_}
