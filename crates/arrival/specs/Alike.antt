@@ -1,9 +1,9 @@
 -- Floats that differ at most in the sign of a zero. No comparison and no cell tells them apart, and no sum but for that sign.
-use Prim.Native.Nat.{ℕ, zero, suc, _+_, _-_, _*_, _/_, _%_, _<_}
+use Prim.Native.Nat.{ℕ, zero, suc, _-_, _*_, _<_}
 use native.Mathlib.Nat.{zero-mul, mul-one, one-mul, mul-assoc, mul-comm, mul-pos, zero-add, add-zero, zero-div, zero-mod}
 use native.Mathlib.Omega.{arith}
 use mathlib.Core.Path.{_≡_, refl, sym, ap, _∙_, subst}
-use mathlib.Core.Bool.{Bool, true, false, not, _&&_, cond}
+use mathlib.Core.Bool.{Bool, true, false, _&&_, cond}
 use borrow.Author.Tests.{ltb-false, le-ltb}
 use lib.Dec.{T, ltb}
 use lib.IntN.{ℤ, pos}
@@ -12,7 +12,7 @@ use lib.Ieee.Fits.{down-pos}
 use lib.Ieee.Scale.{finite, round-same}
 use Rattle.floats.specs.Floats.{nought, smaller, larger, absolute, canonical}
 use Rattle.floats.specs.Zeros.{nil, by-zeros, lt-canonical, canonical-lt, le-canonical, canonical-le, eq-canonical, canonical-eq}
-use Rattle.cells.specs.Cells.{downDiv, upDiv, ends, cellBy, floorCell, ceilCell}
+use Rattle.cells.specs.Cells.{downDiv, upDiv, cellBy, floorCell, ceilCell}
 use Rattle.arrival.specs.Exact.{round-itself}
 
 abbrev pub Alike : Float → Float → Type 0

@@ -3,9 +3,9 @@ use mathlib.Core.Path.{_≡_, refl, ap, _∙_}
 use mathlib.Core.Bool.{Bool, true, false, _&&_}
 use mathlib.Core.List.{[], _∷_}
 use Prim.Native.Nat.{ℕ, zero, suc}
-use lib.IntN.{ℤ, pos}
-use lib.Ieee.{Float, nan, inf, fin, binary64, add, sub, mul, neg, lt, round}
-use Rattle.jump.specs.Jump.{Jump, none, drag, rises, tick, after, apexOf, jumpApex}
+use lib.IntN.{ℤ}
+use lib.Ieee.{Float, nan, inf, fin, add, sub, mul, neg, lt, round}
+use Rattle.jump.specs.Jump.{Jump, none, drag, tick, after, apexOf, jumpApex}
 use Rattle.jump.specs.Laws.{at-rest, goes}
 
 -- a jump that rose without end

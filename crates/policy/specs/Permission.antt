@@ -1,7 +1,7 @@
 -- The permission byte of a state, and the table of them. 01, Policy and Tables.
 use mathlib.Core.Bool.{Bool, not, _&&_, _||_, cond}
 use mathlib.Core.List.{List, map}
-use Prim.Native.Nat.{ℕ, _+_, _*_}
+use Prim.Native.Nat.{ℕ, _+_}
 use lib.Dec.{eqb}
 use lib.ListN.{length}
 use Rattle.policy.specs.declared.policy.WalkPolicy.{WalkPolicy}

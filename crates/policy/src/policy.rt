@@ -1,10 +1,8 @@
 // What one search may walk on and through, and the functions that make permission bytes of flags (01, Policy).
 ghost use mathlib.Core.Path.{_≡_};
-ghost use mathlib.Core.Bool.{true};
 ghost use Rattle.policy.specs.Answers.{passageNumber, filledNumber};
-ghost use Rattle.policy.specs.Doors.{doorPassage, doorCase};
-ghost use Rattle.policy.specs.Flags.{has, OPEN, IRON-DOOR};
-ghost use Rattle.policy.specs.Permission.{forbidden, permission, filled, permissionTable};
+ghost use Rattle.policy.specs.Doors.{doorPassage};
+ghost use Rattle.policy.specs.Permission.{permission, filled, permissionTable};
 ghost use Rattle.policy.specs.Request.{asked};
 use crate::doors::Passage;
 use crate::flags::Flags;

@@ -2,7 +2,7 @@
 use mathlib.Core.Path.{_≡_, refl}
 use mathlib.Core.Bool.{true, _&&_}
 use mathlib.Core.List.{List, [], _∷_}
-use mathlib.Core.Logic.{_⊎_, ⊎-elim}
+use mathlib.Core.Logic.{⊎-elim}
 use Rattle.exploration.specs.Graph.{Graph, Way, arrived, connected, stepped, Route, route, hasStep, connects}
 use Rattle.exploration.specs.WalkBack.{isLast, isWay, isRoute}
 use Rattle.exploration.specs.Laws.Lists.{true-false, or-left, or-right, or-cases, and-both, and-first, and-second}

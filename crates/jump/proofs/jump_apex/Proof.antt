@@ -1,5 +1,5 @@
 -- `jump::jump_apex` meets its contract. The invariant: the answer for the whole jump is the answer for what is left of its ticks, from where it is now. Assumes nothing.
-use mathlib.Core.Path.{_≡_, refl, sym, ap, _∙_}
+use mathlib.Core.Path.{_≡_, sym, ap, _∙_}
 use Prim.Native.Nat.{_≤_, _-_}
 use native.Mathlib.Omega.{arith}
 use lib.Ieee.{ofBits}

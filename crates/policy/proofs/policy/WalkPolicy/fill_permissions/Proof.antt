@@ -1,5 +1,5 @@
 -- `policy::policy::WalkPolicy::fill_permissions` meets its contract. The invariant: the first i bytes are those of the first i flag bytes, the rest as it came. Assumes nothing.
-use mathlib.Core.Path.{_≡_, refl, sym, ap, _∙_}
+use mathlib.Core.Path.{_≡_, refl, _∙_}
 use mathlib.Core.List.{map, _++_}
 use Prim.Native.Nat.{_≤_, _-_}
 use native.Mathlib.Omega.{arith}
