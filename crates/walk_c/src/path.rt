@@ -25,23 +25,12 @@ pub extern "C" fn walkprint_find_walk_path(
     answer: &mut [u8],
 ) -> u64
     ensures outcome { λ r. ⌜ r ≡ outcomeNumber (found (windowIn (now (window .entry))) (now (cells .entry)) (now (permissions .entry)) (now (shapes .entry)) (now (boxes .entry)) (requestIn (now (request .entry))) (bodyIn (now (body .entry))) (length (now (nodes .entry))) (length (now (front .entry))) (length (now (out .entry))) .outcome) ⌝ }
+    ensures answer { λ _. ⌜ now (answer .exit) ≡ answerWritten (found (windowIn (now (window .entry))) (now (cells .entry)) (now (permissions .entry)) (now (shapes .entry)) (now (boxes .entry)) (requestIn (now (request .entry))) (bodyIn (now (body .entry))) (length (now (nodes .entry))) (length (now (front .entry))) (length (now (out .entry)))) (now (answer .entry)) ⌝ }
     ensures nodes { λ _. ⌜ now (nodes .exit) ≡ nodesAfter (windowIn (now (window .entry))) (now (cells .entry)) (now (permissions .entry)) (now (shapes .entry)) (now (boxes .entry)) (requestIn (now (request .entry))) (bodyIn (now (body .entry))) (now (nodes .entry)) (now (front .entry)) (now (out .entry)) ⌝ }
     ensures front { λ _. ⌜ now (front .exit) ≡ frontAfter (windowIn (now (window .entry))) (now (cells .entry)) (now (permissions .entry)) (now (shapes .entry)) (now (boxes .entry)) (requestIn (now (request .entry))) (bodyIn (now (body .entry))) (now (nodes .entry)) (now (front .entry)) (now (out .entry)) ⌝ }
     ensures out { λ _. ⌜ now (out .exit) ≡ outAfter (windowIn (now (window .entry))) (now (cells .entry)) (now (permissions .entry)) (now (shapes .entry)) (now (boxes .entry)) (requestIn (now (request .entry))) (bodyIn (now (body .entry))) (now (nodes .entry)) (now (front .entry)) (now (out .entry)) ⌝ }
-    ensures answer { λ _. ⌜ now (answer .exit) ≡ answerWritten (found (windowIn (now (window .entry))) (now (cells .entry)) (now (permissions .entry)) (now (shapes .entry)) (now (boxes .entry)) (requestIn (now (request .entry))) (bodyIn (now (body .entry))) (length (now (nodes .entry))) (length (now (front .entry))) (length (now (out .entry)))) (now (answer .entry)) ⌝ }
 {
     let q = question_in(window, request, body);
-    let a = search::find_walk_path(
-        q.window,
-        cells,
-        permissions,
-        shapes,
-        boxes,
-        q.request,
-        q.body,
-        nodes,
-        front,
-        out,
-    );
+    let a = search::find_walk_path(q.window, cells, permissions, shapes, boxes, q.request, q.body, nodes, front, out);
     put_answer(a, answer)
 }

@@ -16,11 +16,11 @@ pub extern "C" fn walkprint_read_scene(
     made: &mut [u8],
 ) -> u64
     ensures number { λ r. ⌜ r ≡ sceneNumber (read (now (bytes .entry)) (now (cells .entry)) (now (permissions .entry)) (now (shapes .entry)) (now (boxes .entry)) .answer) ⌝ }
+    ensures made { λ _. ⌜ now (made .exit) ≡ sceneWritten (read (now (bytes .entry)) (now (cells .entry)) (now (permissions .entry)) (now (shapes .entry)) (now (boxes .entry)) .answer) (now (made .entry)) ⌝ }
     ensures cells { λ _. ⌜ now (cells .exit) ≡ read (now (bytes .entry)) (now (cells .entry)) (now (permissions .entry)) (now (shapes .entry)) (now (boxes .entry)) .tables .cells ⌝ }
     ensures permissions { λ _. ⌜ now (permissions .exit) ≡ read (now (bytes .entry)) (now (cells .entry)) (now (permissions .entry)) (now (shapes .entry)) (now (boxes .entry)) .tables .perms ⌝ }
     ensures shapes { λ _. ⌜ now (shapes .exit) ≡ read (now (bytes .entry)) (now (cells .entry)) (now (permissions .entry)) (now (shapes .entry)) (now (boxes .entry)) .tables .shapes ⌝ }
     ensures boxes { λ _. ⌜ now (boxes .exit) ≡ read (now (bytes .entry)) (now (cells .entry)) (now (permissions .entry)) (now (shapes .entry)) (now (boxes .entry)) .tables .boxes ⌝ }
-    ensures made { λ _. ⌜ now (made .exit) ≡ sceneWritten (read (now (bytes .entry)) (now (cells .entry)) (now (permissions .entry)) (now (shapes .entry)) (now (boxes .entry)) .answer) (now (made .entry)) ⌝ }
 {
     let a = read_scene::read_scene(bytes, cells, permissions, shapes, boxes);
     put_answer(a, made)

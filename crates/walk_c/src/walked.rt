@@ -31,15 +31,6 @@ pub extern "C" fn walkprint_walk_back(
     ensures { λ r. ⌜ r ≡ walkedNumber (walked (windowIn (now (window .entry))) (now (cells .entry)) (now (permissions .entry)) (now (shapes .entry)) (now (boxes .entry)) (requestIn (now (request .entry))) (bodyIn (now (body .entry))) (now (list .entry))) ⌝ }
 {
     let q = question_in(window, request, body);
-    let a = walk_back::walk_back(
-        q.window,
-        cells,
-        permissions,
-        shapes,
-        boxes,
-        q.request,
-        q.body,
-        list,
-    );
+    let a = walk_back::walk_back(q.window, cells, permissions, shapes, boxes, q.request, q.body, list);
     walked_number(a)
 }

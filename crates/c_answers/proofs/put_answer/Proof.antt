@@ -6,7 +6,6 @@ use mathlib.Core.List.{List}
 use borrow.Author.Tests.{le-leb, lt-leb}
 use Rattle.fields.specs.Little.{withField}
 use Rattle.c_answers.specs.Answers.{answerWritten}
-use borrow.Author.Needs.{needs}
 use Rattle.c_answers.proofs.put_answer.Statement.{statement}
 use Rattle.c_answers.proofs.put_answer.Tie as tie
 
@@ -25,7 +24,8 @@ written c =
     let closed = c .before .before .put-u644 .ensures ∙ ap (λ (t : List ℕ). withField 8 t 24 (a .a .closed)) retained in
     (number, rw (le-leb _ _ (c .before .before .before .before .before .before .before .before .before .before .before .before .before .before .before .before .if1 .left)) closed)
 
+same-length : tie.Need-same-length
+same-length c = c .before .answer4 .given ∙ c .before .before .before .before .before .answer3 .given ∙ c .before .before .before .before .before .before .before .before .before .answer2 .given ∙ c .before .before .before .before .before .before .before .before .before .before .before .before .before .answer .given
+
 pub put-answer-spec : {M : Type 1} → statement M
-put-answer-spec =
-    tie.close
-    (tie.spec (λ c κs. tt) too-short (λ c κs. tt) (λ c κs. tt) (λ c κs. tt) (λ c κs. tt) (λ c. search needs) written)
+put-answer-spec = tie.close (tie.spec (λ c κs. tt) too-short (λ c κs. tt) (λ c κs. tt) (λ c κs. tt) (λ c κs. tt) same-length written)

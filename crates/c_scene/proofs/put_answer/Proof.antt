@@ -4,7 +4,6 @@ use denote.Ref.{now}
 use Rattle.scene_state.specs.declared.state.SceneAnswer.{SceneAnswer}
 use Rattle.scene_state.specs.Answers.{sceneAnswer}
 use Rattle.c_scene.specs.Scenes.{sceneNumber, sceneWritten}
-use borrow.Author.Needs.{needs}
 use Rattle.c_scene.proofs.put_answer.Statement.{statement}
 use Rattle.c_scene.proofs.put_answer.Tie as tie
 
@@ -27,13 +26,13 @@ pub put-answer-spec : {M : Type 1} → statement M
 put-answer-spec =
     tie.close
     (tie.spec
-    (λ c. search needs)
+    (λ c. c .match .keys1)
     (λ c κs. tt)
-    (λ c. search needs)
+    (λ c. c .match .keys2)
     (λ c κs. tt)
-    (λ c. search needs)
-    (λ c. search needs)
+    (λ c. c .match .keys3)
+    (λ c. c .before .made .given)
     whole
-    (λ c. search needs)
+    (λ c. c .before .made2 .given)
     bad-scene
     no-room)

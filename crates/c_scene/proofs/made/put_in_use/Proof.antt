@@ -4,7 +4,6 @@ use Prim.Native.Nat.{ℕ}
 use mathlib.Core.List.{List}
 use Rattle.fields.specs.Little.{withField}
 use Rattle.c_scene.specs.Scenes.{withInUse}
-use borrow.Author.Needs.{needs}
 use Rattle.c_scene.proofs.made.put_in_use.Statement.{statement}
 use Rattle.c_scene.proofs.made.put_in_use.Tie as tie
 
@@ -16,5 +15,8 @@ returns c =
     let shapes = c .before .before .before .before .before .before .put-u643 .ensures ∙ ap (λ (t : List ℕ). withField 8 t 152 (u .shapes)) perms in
     c .before .before .put-u644 .ensures ∙ ap (λ (t : List ℕ). withField 8 t 160 (u .boxes)) shapes
 
+same-length : tie.Need-same-length
+same-length c = c .before .made4 .given ∙ c .before .before .before .before .before .made3 .given ∙ c .before .before .before .before .before .before .before .before .before .made2 .given ∙ c .before .before .before .before .before .before .before .before .before .before .before .before .before .made .given
+
 pub put-in-use-spec : {M : Type 1} → statement M
-put-in-use-spec = tie.close (tie.spec (λ c κs. tt) (λ c κs. tt) (λ c κs. tt) (λ c κs. tt) (λ c. search needs) returns)
+put-in-use-spec = tie.close (tie.spec (λ c κs. tt) (λ c κs. tt) (λ c κs. tt) (λ c κs. tt) same-length returns)

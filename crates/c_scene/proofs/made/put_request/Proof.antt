@@ -2,9 +2,9 @@
 use mathlib.Core.Path.{ap, _∙_}
 use Prim.Native.Nat.{ℕ}
 use mathlib.Core.List.{List}
+use lib.Dec.{lit<}
 use Rattle.fields.specs.Little.{withField, withFloat}
 use Rattle.c_scene.specs.Scenes.{withThree, withPoint, withRequest}
-use borrow.Author.Needs.{needs}
 use Rattle.c_scene.proofs.made.put_request.Statement.{statement}
 use Rattle.c_scene.proofs.made.put_request.Tie as tie
 
@@ -17,14 +17,8 @@ returns c =
     let drop = c .before .before .before .before .before .before .put-f64 .ensures ∙ ap (λ (t : List ℕ). withFloat t 72 (r .«max_drop»)) three in
     c .before .before .put-u64 .ensures ∙ ap (λ (t : List ℕ). withField 8 t 80 (r .«node_budget»)) drop
 
+same-length : tie.Need-same-length
+same-length c = c .before .made5 .given ∙ c .before .before .before .before .before .made4 .given ∙ c .before .before .before .before .before .before .before .before .before .made3 .given ∙ c .before .before .before .before .before .before .before .before .before .before .before .before .before .made2 .given ∙ c .before .before .before .before .before .before .before .before .before .before .before .before .before .before .before .before .before .made .given
+
 pub put-request-spec : {M : Type 1} → statement M
-put-request-spec =
-    tie.close
-    (tie.spec
-    (λ c κs. search needs)
-    (λ c κs. search needs)
-    (λ c κs. search needs)
-    (λ c κs. tt)
-    (λ c κs. tt)
-    (λ c. search needs)
-    returns)
+put-request-spec = tie.close (tie.spec (λ c κs. lit< tt) (λ c κs. lit< tt) (λ c κs. lit< tt) (λ c κs. tt) (λ c κs. tt) same-length returns)

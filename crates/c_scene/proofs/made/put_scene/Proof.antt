@@ -1,8 +1,8 @@
 -- `c_scene::made::put_scene` meets its contract. Assumes nothing.
 use mathlib.Core.Path.{ap, _∙_}
 use borrow.Author.Tests.{le-leb, lt-leb}
+use lib.Dec.{lit<}
 use Rattle.c_scene.specs.Scenes.{withBody, withWindow, withInUse, withScene, withThree}
-use borrow.Author.Needs.{needs}
 use Rattle.c_scene.proofs.made.put_scene.Statement.{statement}
 use Rattle.c_scene.proofs.made.put_scene.Tie as tie
 
@@ -18,7 +18,8 @@ written c =
     let window = c .before .before .before .before .before .before .put-window .ensures ∙ ap (withWindow (x .window)) body in
     rw (le-leb _ _ (c .before .before .before .before .before .before .before .before .before .before .before .before .before .before .before .before .before .if1 .left)) (c .before .before .put-in-use .ensures ∙ ap (withInUse (x .«in_use»)) window)
 
+same-length : tie.Need-same-length
+same-length c = c .before .made4 .given ∙ c .before .before .before .before .before .made3 .given ∙ c .before .before .before .before .before .before .before .before .before .made2 .given ∙ c .before .before .before .before .before .before .before .before .before .before .before .before .before .made .given
+
 pub put-scene-spec : {M : Type 1} → statement M
-put-scene-spec =
-    tie.close
-    (tie.spec too-short (λ c κs. tt) (λ c κs. search needs) (λ c κs. tt) (λ c κs. tt) (λ c. search needs) written)
+put-scene-spec = tie.close (tie.spec too-short (λ c κs. tt) (λ c κs. lit< tt) (λ c κs. tt) (λ c κs. tt) same-length written)

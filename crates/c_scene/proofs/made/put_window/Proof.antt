@@ -25,7 +25,8 @@ returns c =
     let sy = c .before .before .before .before .before .before .put-u322 .ensures ∙ ap (λ (t : List ℕ). withField 4 t 128 (w .sy)) sx in
     c .before .before .put-u323 .ensures ∙ ap (λ (t : List ℕ). withField 4 t 132 (w .sz)) sy
 
+same-length : tie.Need-same-length
+same-length c = c .before .made6 .given ∙ c .before .before .before .before .before .made5 .given ∙ c .before .before .before .before .before .before .before .before .before .made4 .given ∙ c .before .before .before .before .before .before .before .before .before .before .before .before .before .made3 .given ∙ c .before .before .before .before .before .before .before .before .before .before .before .before .before .before .before .before .before .before .made2 .given ∙ c .before .before .before .before .before .before .before .before .before .before .before .before .before .before .before .before .before .before .before .before .before .before .before .made .given
+
 pub put-window-spec : {M : Type 1} → statement M
-put-window-spec =
-    tie.close
-    (tie.spec (λ c κs. tt) (λ c κs. tt) (λ c κs. tt) (λ c κs. tt) (λ c κs. tt) (λ c κs. tt) (λ c. search needs) returns)
+put-window-spec = tie.close (tie.spec (λ c κs. tt) (λ c κs. tt) (λ c κs. tt) (λ c κs. tt) (λ c κs. tt) (λ c κs. tt) same-length returns)

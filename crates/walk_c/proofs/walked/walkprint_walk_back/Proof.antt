@@ -2,28 +2,12 @@
 use mathlib.Core.Path.{_∙_, ap}
 use Rattle.walk_back.specs.WalkBack.{walkedNumber}
 use Rattle.c_records.specs.Asked.{questionIn}
-use borrow.Author.Needs.{needs}
 use Rattle.walk_c.proofs.walked.walkprint_walk_back.Statement.{statement}
 use Rattle.walk_c.proofs.walked.walkprint_walk_back.Tie as tie
-
-question-in-requires : tie.Need-question-in-requires
-question-in-requires c κs = search needs
-
-walk-back-requires : tie.Need-walk-back-requires
-walk-back-requires c κs = search needs
-
-walked-number-requires : tie.Need-walked-number-requires
-walked-number-requires c κs = search needs
 
 returns : tie.Need-returns
 unfolding questionIn
 returns c = c .walked-number .ensures ∙ ap walkedNumber (rw (c .before .before .question-in .ensures) at (c .before .walk-back .ensures))
 
 pub walkprint-walk-back-spec : {M : Type 1} → statement M
-walkprint-walk-back-spec =
-    tie.close
-    (tie.spec
-    question-in-requires
-    walk-back-requires
-    walked-number-requires
-    returns)
+walkprint-walk-back-spec = tie.close (tie.spec (λ c κs. tt) (λ c κs. tt) (λ c κs. tt) returns)
