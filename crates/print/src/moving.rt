@@ -1,21 +1,8 @@
 // Moves the bytes: a scene from standard input, record by record, and its lines to standard output.
-ghost use Prim.Native.Nat.{_≤_};
-ghost use Rattle.io.specs.Counts.{Counts};
 use crate::telling;
-use libc::STDIN_FILENO;
 use libc::STDOUT_FILENO;
 use print_lines::Told;
 use scene_state::SceneAnswer;
-
-// The next bytes of the input, at most n and as many as the buffer has.
-fn read_some(n: usize, buffer: &mut [u8]) -> usize
-    ensures { λ r. ⌜ (r ≤ n) × Counts r (now (buffer .exit)) ⌝ }
-{
-    if n < buffer.len() {
-        return io::read_full(STDIN_FILENO, &mut buffer[..n]);
-    }
-    io::read_full(STDIN_FILENO, buffer)
-}
 
 fn write_line(told: Told, list: &[u8], k: usize) {
     let mut buffer = [0u8; 128];
@@ -61,7 +48,7 @@ pub fn print_scene(bytes: usize) {
     let mut record = [0u8; 64];
     let mut progress = scene_progress::begin(&cells, &perms, &shapes, &boxes);
     let mut left = bytes;
-    let mut count = read_some(left, &mut record);
+    let mut count = input::take(left, &mut record);
     while 0 < count {
         progress = scene_progress::take_record(
             progress,
@@ -72,7 +59,7 @@ pub fn print_scene(bytes: usize) {
             &mut boxes,
         );
         left -= count;
-        count = read_some(left, &mut record);
+        count = input::take(left, &mut record);
     }
     print_told(scene_progress::end(progress), &cells, &perms, &shapes, &boxes);
 }

@@ -1,7 +1,7 @@
 // A question about a scene, and its answer by the proved functions.
 use crate::columns;
 use crate::digest;
-use crate::input;
+use crate::stored;
 use crate::trial;
 use scene::Scene;
 use scene_state::SceneAnswer;
@@ -9,21 +9,23 @@ use walk_back::Walked;
 use world::Aabb;
 use world::Point;
 
-// A kind (oracle/README.md, `store`) and two numbers, mostly places of points in the pool. The word of the pool at a goes to `to` before the question is asked:
-// to b by the kind that copies it, and by any other to where it is.
+// A kind (oracle/README.md, `store`) and two numbers, mostly places of points in the pool.
 struct Question {
     kind: u32,
     a: u32,
     b: u32,
-    to: u32,
 }
 
-fn next_question() -> Question {
-    let kind = input::number();
-    let a = input::number();
-    let b = input::number();
-    let to = if kind == 0 { b } else { a };
-    Question { kind, a, b, to }
+// The next question. One of kind 0 is no question: the word of the pool at a goes to b.
+fn next_question(pool: &mut [u8]) -> Question {
+    let kind = stored::number();
+    let a = stored::number();
+    let b = stored::number();
+    if kind == 0 {
+        let word = fields::u64_at(pool, a as usize);
+        stores::put_u64(pool, b as usize, word);
+    }
+    Question { kind, a, b }
 }
 
 // The walk-back of a list in the pool: 1 for a route, 0 for none, or 01's number of a refusal.
@@ -36,7 +38,7 @@ fn walked(
     pool: &[u8],
     q: Question,
 ) -> u64 {
-    let list = input::part(pool, q.a as usize, q.b as usize);
+    let list = stored::part(pool, q.a as usize, q.b as usize);
     match walk_back::walk_back(
         s.window,
         cells,
@@ -127,18 +129,16 @@ fn questions(answer: SceneAnswer, cells: &[u8], perms: &[u8], shapes: &[u8], box
     let SceneAnswer::Whole(s) = answer else {
         return 0;
     };
-    let c = input::part(cells, 0, s.in_use.cells);
-    let p = input::part(perms, 0, s.in_use.perms);
-    let h = input::part(shapes, 0, s.in_use.shapes);
-    let x = input::part(boxes, 0, s.in_use.boxes);
+    let c = stored::part(cells, 0, s.in_use.cells);
+    let p = stored::part(perms, 0, s.in_use.perms);
+    let h = stored::part(shapes, 0, s.in_use.shapes);
+    let x = stored::part(boxes, 0, s.in_use.boxes);
     let mut pool = [0u8; 8192];
-    input::take(0, input::number(), &mut pool);
-    let count = input::number();
+    input::take(stored::number() as usize, &mut pool);
+    let count = stored::number();
     let mut d: u64 = 0;
     for _ in 0..count {
-        let q = next_question();
-        let word = fields::u64_at(&pool, q.a as usize);
-        stores::put_u64(&mut pool, q.to as usize, word);
+        let q = next_question(&mut pool);
         d = answered(s, c, p, h, x, &pool, q, d);
     }
     d
@@ -151,9 +151,9 @@ pub(crate) fn next_scene() -> u64 {
     let mut perms = [0u8; 256];
     let mut shapes = [0u8; 2048];
     let mut boxes = [0u8; 12288];
-    let count = input::number();
-    input::records(count, &mut records);
-    let bytes = input::part(&records, 0, 64 * (count as usize));
+    let count = stored::number();
+    stored::records(count, &mut records);
+    let bytes = stored::part(&records, 0, 64 * (count as usize));
     let answer = read_scene::read_scene(bytes, &mut cells, &mut perms, &mut shapes, &mut boxes);
     questions(answer, &cells, &perms, &shapes, &boxes)
 }

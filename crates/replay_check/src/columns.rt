@@ -9,69 +9,7 @@ use world::Point;
 // More heights than any column has.
 const MOST: u32 = 65536;
 
-// The next height of column n around a point.
-fn next_height(
-    s: Scene,
-    cells: &[u8],
-    perms: &[u8],
-    shapes: &[u8],
-    boxes: &[u8],
-    from: Point,
-    n: usize,
-    last: Height,
-) -> Height {
-    let band = steps::band_of(s.request, s.body, from);
-    let at = steps::column_centre(from, n);
-    heights::next_height(
-        s.window,
-        cells,
-        perms,
-        shapes,
-        boxes,
-        band,
-        at.x,
-        at.z,
-        last,
-    )
-}
-
-// One more height of column n, and the edge to it.
-fn with_height(
-    s: Scene,
-    cells: &[u8],
-    perms: &[u8],
-    shapes: &[u8],
-    boxes: &[u8],
-    from: Point,
-    n: usize,
-    y: f64,
-    c: Reached,
-) -> Reached {
-    let at = steps::column_centre(from, n);
-    let to = Point {
-        x: at.x,
-        y,
-        z: at.z,
-    };
-    let a = edges::edge(
-        s.window,
-        cells,
-        perms,
-        shapes,
-        boxes,
-        s.request,
-        s.body,
-        from,
-        to,
-    );
-    let e = digest::with_edge(digest::with_float(c.digest, y), from, a);
-    Reached {
-        digest: e.digest,
-        level: c.level | e.level,
-    }
-}
-
-// All heights of column n, and the edges to them.
+// All heights of column n around a point, and the edges to them.
 fn column(
     s: Scene,
     cells: &[u8],
@@ -82,14 +20,18 @@ fn column(
     n: usize,
     first: Reached,
 ) -> Reached {
+    let band = steps::band_of(s.request, s.body, from);
+    let at = steps::column_centre(from, n);
     let mut c = first;
     let mut last = Height::None;
     for _ in 0..MOST {
-        last = next_height(s, cells, perms, shapes, boxes, from, n, last);
+        last = heights::next_height(s.window, cells, perms, shapes, boxes, band, at.x, at.z, last);
         let Height::At(y) = last else {
             return c;
         };
-        c = with_height(s, cells, perms, shapes, boxes, from, n, y, c);
+        let to = Point { x: at.x, y, z: at.z };
+        let a = edges::edge(s.window, cells, perms, shapes, boxes, s.request, s.body, from, to);
+        c = digest::with_height(c, y, from, a);
     }
     c
 }

@@ -47,6 +47,15 @@ pub(crate) fn with_edge(d: u64, from: Point, a: EdgeAnswer) -> Reached {
     }
 }
 
+// One more height, and the edge to it.
+pub(crate) fn with_height(c: Reached, y: f64, from: Point, a: EdgeAnswer) -> Reached {
+    let e = with_edge(with_float(c.digest, y), from, a);
+    Reached {
+        digest: e.digest,
+        level: c.level | e.level,
+    }
+}
+
 // The outcome and the three counts.
 pub(crate) fn with_answer(d: u64, a: Answer) -> u64 {
     let outcome = a.outcome;

@@ -3,16 +3,19 @@
 mod ask;
 mod columns;
 mod digest;
-mod input;
+mod stored;
 mod trial;
 
 use libc::STDOUT_FILENO;
 
+fn print_next() {
+    io::print_hex(STDOUT_FILENO, ask::next_scene(), 16);
+    io::write_all(STDOUT_FILENO, b"\n");
+}
+
 fn main() {
-    let count = input::number();
+    let count = stored::number();
     for _ in 0..count {
-        let d = ask::next_scene();
-        io::print_hex(STDOUT_FILENO, d, 16);
-        io::write_all(STDOUT_FILENO, b"\n");
+        print_next();
     }
 }

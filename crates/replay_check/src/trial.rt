@@ -3,7 +3,7 @@ ghost use mathlib.Core.Path.{_≡_};
 ghost use Prim.Native.Nat.{_≤_};
 ghost use lib.ListN.{length};
 use crate::digest;
-use crate::input;
+use crate::stored;
 use scene::Scene;
 
 // A room as it is before a call.
@@ -52,7 +52,7 @@ pub(crate) fn tried(
     let f = size(24 * budget + extra, short == 2, 28800);
     let o = size(40 * (budget + 1) + extra, short == 3, 28800);
     let c = size(cells.len(), short == 4, cells.len());
-    let used = input::part(cells, 0, c);
+    let used = stored::part(cells, 0, c);
     let a = search::find_walk_path(
         s.window,
         used,

@@ -1,8 +1,8 @@
 // Reads the stored scenes, good and damaged, from standard input, and prints a line for each: its number (0, or 7 BadScene), the bad record, and a digest of
 // the answer and of every byte of the four tables. The tables go from scene to scene as they are, so that old bytes are seen too. What it must print is
 // the oracle's (oracle/README.md, `store`).
+mod cases;
 mod digest;
-mod input;
 
 use libc::STDOUT_FILENO;
 use scene_state::SceneAnswer;
@@ -54,11 +54,11 @@ fn main() {
     let mut perms = [0u8; 256];
     let mut shapes = [0u8; 2048];
     let mut boxes = [0u8; 12288];
-    let count = input::word();
+    let count = cases::word();
     for _ in 0..count {
-        let case = input::next();
-        let old = input::damage(case, &mut scene);
-        let bytes = input::front(&scene, case.length);
+        let case = cases::next();
+        let old = cases::damage(case, &mut scene);
+        let bytes = cases::front(&scene, case.length);
         let answer = read_scene::read_scene(bytes, &mut cells, &mut perms, &mut shapes, &mut boxes);
         stores::put_u64(&mut scene, case.place, old);
         print(answer, &cells, &perms, &shapes, &boxes);

@@ -30,11 +30,11 @@ slice-aggregate-begin-4 c = search needs
 begin-requires : tie.Need-begin-requires Inv-loop μ-loop
 begin-requires c κs = search needs
 
-slice-aggregate-read-some : tie.Need-slice-aggregate-read-some Inv-loop μ-loop
-slice-aggregate-read-some c = search needs
+slice-aggregate-take : tie.Need-slice-aggregate-take Inv-loop μ-loop
+slice-aggregate-take c = search needs
 
-read-some-requires : tie.Need-read-some-requires Inv-loop μ-loop
-read-some-requires c κs = search needs
+take-requires : tie.Need-take-requires Inv-loop μ-loop
+take-requires c κs = search needs
 
 loop-holds : tie.Need-loop-holds Inv-loop μ-loop
 loop-holds c = search needs
@@ -63,11 +63,11 @@ take-record-requires c κs = search needs
 sub-left : tie.Need-sub-left Inv-loop μ-loop
 sub-left c = search needs
 
-slice-aggregate-read-some-2 : tie.Need-slice-aggregate-read-some-2 Inv-loop μ-loop
-slice-aggregate-read-some-2 c = search needs
+slice-aggregate-take-2 : tie.Need-slice-aggregate-take-2 Inv-loop μ-loop
+slice-aggregate-take-2 c = search needs
 
-read-some-requires-2 : tie.Need-read-some-requires-2 Inv-loop μ-loop
-read-some-requires-2 c κs = search needs
+take-requires-2 : tie.Need-take-requires-2 Inv-loop μ-loop
+take-requires-2 c κs = search needs
 
 loop-less : tie.Need-loop-less Inv-loop μ-loop
 loop-less c = search needs
@@ -107,8 +107,8 @@ print-scene-spec =
     slice-aggregate-begin-3
     slice-aggregate-begin-4
     begin-requires
-    slice-aggregate-read-some
-    read-some-requires
+    slice-aggregate-take
+    take-requires
     loop-holds
     array-share-prefix-record
     slice-aggregate-take-record
@@ -118,8 +118,8 @@ print-scene-spec =
     slice-aggregate-take-record-5
     take-record-requires
     sub-left
-    slice-aggregate-read-some-2
-    read-some-requires-2
+    slice-aggregate-take-2
+    take-requires-2
     loop-less
     loop-again
     end-requires

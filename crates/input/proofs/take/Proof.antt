@@ -1,4 +1,4 @@
--- `print::moving::read_some` is safe and ends. Assumes nothing.
+-- `input::take` is safe and ends. Assumes nothing.
 use native.Mathlib.Omega.{arith}
 use mathlib.Core.Path.{_≡_, sym}
 use denote.Ref.{now}
@@ -6,8 +6,8 @@ use lib.ListN.{length, take, length-append}
 use lib.Seq.{length-take-le}
 use Rattle.io.proofs.Counting.{counts}
 use borrow.Author.Needs.{needs}
-use Rattle.print.proofs.moving.read_some.Statement.{statement}
-use Rattle.print.proofs.moving.read_some.Tie as tie
+use Rattle.input.proofs.take.Statement.{statement}
+use Rattle.input.proofs.take.Tie as tie
 
 slice-relend-prefix-read-full : tie.Need-slice-relend-prefix-read-full
 slice-relend-prefix-read-full c = search needs
@@ -38,8 +38,8 @@ same-length-2 c = search needs
 returns-2 : tie.Need-returns-2
 returns-2 c = (omega (arith, c .before .before .read-full2 .ensures .0, c .before .before .read-full2 .kept), c .before .before .read-full2 .ensures)
 
-pub read-some-spec : {M : Type 1} → statement M
-read-some-spec =
+pub take-spec : {M : Type 1} → statement M
+take-spec =
     tie.close
     (tie.spec
     slice-relend-prefix-read-full

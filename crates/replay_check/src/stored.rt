@@ -1,20 +1,18 @@
-// Standard input, piece by piece.
+// What is stored of a scene, on standard input.
 use libc::STDIN_FILENO;
 
+// The next number: two bytes, the lower first.
+pub(crate) fn number() -> u32 {
+    input::number(2)
+}
+
 // The next n bytes, at the place of record k, 64 bytes each, in a buffer that has room for them.
-pub(crate) fn take(k: u32, n: u32, into: &mut [u8]) {
+fn take(k: u32, n: u32, into: &mut [u8]) {
     let at = 64 * (k as usize);
     let end = at + n as usize;
     if end <= into.len() {
         io::read_full(STDIN_FILENO, &mut into[at..end]);
     }
-}
-
-// The next number: two bytes, the lower first.
-pub(crate) fn number() -> u32 {
-    let mut b = [0u8; 4];
-    take(0, 2, &mut b);
-    fields::u32_at(&b, 0)
 }
 
 // The next records of a scene, in a buffer of zeros: each its length without the zeros at its end, then its bytes.

@@ -1,5 +1,4 @@
 // The stored cases: new bytes for the scene, or none; a length; and 8 bytes to be written over the scene at a place, which are mended before the next case.
-use libc::STDIN_FILENO;
 
 // How many new bytes there are and how many the scene has; the place, and the 8 bytes for it.
 pub(crate) struct Case {
@@ -9,11 +8,9 @@ pub(crate) struct Case {
     pub bytes: u64,
 }
 
-// The next u32 of the input.
+// The next number of the input.
 pub(crate) fn word() -> usize {
-    let mut b = [0u8; 4];
-    io::read_full(STDIN_FILENO, &mut b);
-    fields::u32_at(&b, 0) as usize
+    input::number(4) as usize
 }
 
 // The next case, up to its new bytes.
@@ -26,16 +23,9 @@ pub(crate) fn next() -> Case {
     }
 }
 
-// The next n bytes of the input, at the start of a buffer that has room for them.
-fn take(n: usize, into: &mut [u8]) {
-    if n <= into.len() {
-        io::read_full(STDIN_FILENO, &mut into[..n]);
-    }
-}
-
 // The case, made in the scene; what the 8 bytes at the place were.
 pub(crate) fn damage(case: Case, scene: &mut [u8]) -> u64 {
-    take(case.fresh, scene);
+    input::take(case.fresh, scene);
     let old = fields::u64_at(scene, case.place);
     stores::put_u64(scene, case.place, case.bytes);
     old
