@@ -8,6 +8,8 @@ use native.Mathlib.Nat.{add-zero}
 use lib.ListN.{length, take, drop, length-reverseAux, take-append-drop}
 use lib.Seq.{take-append-le, take-take, drop-at, length-take-le}
 use borrow.Author.Tests.{le-leb, lt-leb}
+use mir.Syntax.{w64}
+use mir.Val.{Fits}
 use Rattle.fields.specs.RecordLaws.{with-record-is}
 use Rattle.rooms.specs.declared.Feet.{Feet}
 use Rattle.rooms.specs.declared.Label.{Label}
@@ -16,6 +18,12 @@ use Rattle.rooms.specs.Lists.{waypointAt, walk, listOf, waypointBytes, listByte
 use Rattle.rooms.specs.Laws.Lists.{walk-on, walk-off, in-or-out}
 
 -- ---- in a loop that counts
+
+pub next-fits : {m n : ℕ} → m < n → Fits w64 n → Fits w64 (m + 1)
+next-fits h f = omega arith
+
+pub next-within : {m n : ℕ} → m < n → m + 1 ≤ n
+next-within h = omega arith
 
 pub count-on : (a : List ℕ) (n k m at : ℕ) → m < n → at < n → length (walk n a n k) ≡ m + length (walk (n - m) a n at) → length (walk n a n k) ≡ m + 1 + length (walk (n - (m + 1)) a n (nodeAt a at .parent))
 count-on a n k m at h l e = omega (arith, e, ap length (walk-on (n - m) (n - (m + 1)) a n at (omega arith) l))
@@ -34,6 +42,10 @@ count-none a n k = let z : n ≡ n - 0 = omega arith in omega (arith, ap (λ (i 
 pub waypoint-is : (s : List ℕ) (j : ℕ) (p : Feet) (l : Label) → 40 * j + 40 ≤ length s → withWaypoint s j p l ≡ take (40 * j) s ++ (waypointBytes (p, l) ++ drop (40 * j + 40) s)
 unfolding withWaypoint
 waypoint-is s j p l h = let z = add-zero (40 * j) in with-record-is waypointLayout s (40 * j) 0 (waypointWords p l) refl (omega arith) ∙ rw z
+
+-- in a room for m points, the one before point j has its place
+pub place-before : {j m old out : ℕ} → 0 < j → j ≤ m → 40 * m ≤ old → out ≡ old → 40 * (j - 1) + 40 ≤ out
+place-before h i room e = omega arith
 
 -- all but the first j points are written
 pub record Backed (a : List ℕ) (n k m : ℕ) (old : List ℕ) (j at : ℕ) (out : List ℕ) : Type 0 where

@@ -3,9 +3,11 @@ use borrow.Author.Needs.{needs}
 use native.Mathlib.Omega.{arith}
 use mathlib.Core.Path.{_≡_, refl, _∙_}
 use denote.Ref.{now}
+use borrow.Author.Count.{falls-down}
+use native.Mathlib.Nat.{le-refl, le-trans, sub-le}
 use Prim.Native.Nat.{ℕ, _≤_, _<_, _-_, _+_, _*_}
 use lib.ListN.{length}
-use Rattle.lists.specs.Laws.{Backed, backed-none, backed-more, backed-all, waypoint-is}
+use Rattle.lists.specs.Laws.{Backed, backed-none, backed-more, backed-all, waypoint-is, place-before}
 use Rattle.lists.proofs.back.Statement.{statement}
 use Rattle.lists.proofs.back.Tie as tie
 
@@ -20,7 +22,7 @@ abbrev μ-loop : tie.MeasureT-loop
 loop-holds : tie.Need-loop-holds Inv-loop μ-loop
 loop-holds c =
     let a = c .before .before .args in
-    (omega arith, refl, backed-none (now (a .nodes)) (a .n) (a .k) (a .m) (now (a .out)) (c .before .before .pre .1) (c .before .before .pre .0))
+    (le-refl _, refl, backed-none (now (a .nodes)) (a .n) (a .k) (a .m) (now (a .out)) (c .before .before .pre .1) (c .before .before .pre .0))
 
 get-node-requires : tie.Need-get-node-requires Inv-loop μ-loop
 get-node-requires c κs =
@@ -28,7 +30,7 @@ get-node-requires c κs =
 
 sub-j : tie.Need-sub-j Inv-loop μ-loop
 sub-j c =
-    omega arith
+    c .before .loop-test .taken
 
 put-waypoint-requires : tie.Need-put-waypoint-requires Inv-loop μ-loop
 put-waypoint-requires c κs = tt
@@ -39,15 +41,15 @@ cast-at c =
 
 loop-less : tie.Need-loop-less Inv-loop μ-loop
 loop-less c =
-    omega arith
+    falls-down _ (c .before .before .before .before .before .before .loop-test .taken)
 
 loop-again : tie.Need-loop-again Inv-loop μ-loop
 loop-again c =
     let a = c .before .before .before .before .before .before .before .before .before .before .args in
     let o = c .before .before .before .before .before .get-node .ensures in
     let j = c .before .before .before .before .before .before .before .loop .j in
-    let new = c .before .before .before .put-waypoint .ensures ∙ waypoint-is (c .before .before .before .before .before .before .before .loop .out) (j - 1) _ _ (omega (arith, c .before .before .before .before .before .before .before .before .before .before .pre, c .before .before .before .before .before .before .before .loop .inv, c .before .before .before .before .before .before .loop-test)) in
-    (omega arith, omega (arith, c .before .before .before .put-waypoint .kept, c .before .before .before .before .before .before .before .loop .inv), rw o (backed-more (now (a .nodes)) (a .n) (a .k) (a .m) (now (a .out)) (c .before .before .before .before .before .before .before .before .before .before .pre .1) (c .before .before .before .before .before .before .loop-test .taken) (c .before .before .before .before .before .before .before .loop .inv .0) (c .before .before .before .before .before .before .before .loop .inv .2) (rw o at new)))
+    let new = c .before .before .before .put-waypoint .ensures ∙ waypoint-is (c .before .before .before .before .before .before .before .loop .out) (j - 1) _ _ (place-before (c .before .before .before .before .before .before .loop-test .taken) (c .before .before .before .before .before .before .before .loop .inv .0) (c .before .before .before .before .before .before .before .before .before .before .pre .1) (c .before .before .before .before .before .before .before .loop .inv .1)) in
+    (le-trans (sub-le j 1) (c .before .before .before .before .before .before .before .loop .inv .0), c .before .before .before .put-waypoint .kept .0 ∙ c .before .before .before .before .before .before .before .loop .inv .1, rw o (backed-more (now (a .nodes)) (a .n) (a .k) (a .m) (now (a .out)) (c .before .before .before .before .before .before .before .before .before .before .pre .1) (c .before .before .before .before .before .before .loop-test .taken) (c .before .before .before .before .before .before .before .loop .inv .0) (c .before .before .before .before .before .before .before .loop .inv .2) (rw o at new)))
 
 same-length : tie.Need-same-length Inv-loop μ-loop
 same-length c =

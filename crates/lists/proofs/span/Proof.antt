@@ -1,12 +1,12 @@
 -- `lists::span` meets its contract. Assumes nothing.
-use borrow.Author.Needs.{needs}
-use native.Mathlib.Omega.{arith}
+use borrow.Author.Needs.{needs, zero≤}
 use mathlib.Core.Path.{_≡_}
 use denote.Ref.{now}
+use borrow.Author.Count.{falls}
 use Prim.Native.Nat.{_≤_, _-_, _+_}
 use lib.ListN.{length}
 use Rattle.rooms.specs.Lists.{walk}
-use Rattle.lists.specs.Laws.{count-on, count-off, count-out, count-none}
+use Rattle.lists.specs.Laws.{next-fits, next-within, count-on, count-off, count-out, count-none}
 use Rattle.lists.proofs.span.Statement.{statement}
 use Rattle.lists.proofs.span.Tie as tie
 
@@ -21,12 +21,12 @@ abbrev μ-loop : tie.MeasureT-loop
 loop-holds : tie.Need-loop-holds Inv-loop μ-loop
 loop-holds c =
     let a = c .before .args in
-    (omega arith, count-none (now (a .nodes)) (a .n) (a .k))
+    (zero≤, count-none (now (a .nodes)) (a .n) (a .k))
 
 returns : tie.Need-returns Inv-loop μ-loop
 returns c =
     let a = c .before .before .before .before .args in
-    (count-off (now (a .nodes)) (a .n) (a .k) (c .before .before .loop .m) (c .before .before .loop .at) (c .if1 .taken) (c .before .before .loop .inv .1), omega arith)
+    (count-off (now (a .nodes)) (a .n) (a .k) (c .before .before .loop .m) (c .before .before .loop .at) (c .if1 .taken) (c .before .before .loop .inv .1), c .before .before .loop .inv .0)
 
 get-node-requires : tie.Need-get-node-requires Inv-loop μ-loop
 get-node-requires c κs =
@@ -38,22 +38,22 @@ cast-at c =
 
 add-m : tie.Need-add-m Inv-loop μ-loop
 add-m c =
-    omega arith
+    next-fits (c .before .before .before .loop-test .taken) (c .before .before .before .before .before .before .fits .n)
 
 loop-less : tie.Need-loop-less Inv-loop μ-loop
 loop-less c =
-    omega arith
+    falls _ _ (c .before .before .before .loop-test .taken)
 
 loop-again : tie.Need-loop-again Inv-loop μ-loop
 loop-again c =
     let a = c .before .before .before .before .before .before .args in
-    let z = count-on (now (a .nodes)) (a .n) (a .k) (c .before .before .before .before .loop .m) (c .before .before .before .before .loop .at) (omega arith) (c .before .before .if1 .left) (c .before .before .before .before .loop .inv .1) in
-    (omega arith, rw (c .before .get-node .ensures) z)
+    let z = count-on (now (a .nodes)) (a .n) (a .k) (c .before .before .before .before .loop .m) (c .before .before .before .before .loop .at) (c .before .before .before .loop-test .taken) (c .before .before .if1 .left) (c .before .before .before .before .loop .inv .1) in
+    (next-within (c .before .before .before .loop-test .taken), rw (c .before .get-node .ensures) z)
 
 returns-2 : tie.Need-returns-2 Inv-loop μ-loop
 returns-2 c =
     let a = c .before .before .before .args in
-    (count-out (now (a .nodes)) (a .n) (a .k) (c .before .loop .m) (c .before .loop .at) (omega arith) (c .before .loop .inv .1), omega arith)
+    (count-out (now (a .nodes)) (a .n) (a .k) (c .before .loop .m) (c .before .loop .at) (c .loop-test .left) (c .before .loop .inv .1), c .before .loop .inv .0)
 
 pub span-spec : {M : Type 1} → statement M
 span-spec =

@@ -1,16 +1,18 @@
 -- `reach::put_open` meets its contract. Assumes nothing.
 use native.Mathlib.Omega.{arith}
+use Prim.Native.Nat.{ℕ, _<_}
 use mir.Syntax.{w32}
 use mir.Val.{Fits}
+use Rattle.rooms.specs.Rooms.{nobody}
 use Rattle.reach.proofs.put_open.Statement.{statement}
 use Rattle.reach.proofs.put_open.Tie as tie
 
--- from the facts of the start alone
-fits : (s : tie.Start) → Fits w32 (s .args .k)
-fits s = omega (arith, s .pre)
+-- from the one fact that it needs: `omega` reads all that is in scope
+fits : {k : ℕ} → k < nobody → Fits w32 k
+fits h = omega arith
 
 cast-t10 : tie.Need-cast-t10
-cast-t10 c = fits (c .before .before)
+cast-t10 c = fits (c .before .before .pre .2)
 
 put-node-requires : tie.Need-put-node-requires
 put-node-requires c κs = tt
