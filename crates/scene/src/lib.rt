@@ -1,6 +1,6 @@
 // The scene reader (01, "Scenes and walkprint"): a scene is read record by record, so it has no length limit. `begin` judges the rooms, `read_record`
 // takes one record in, `end` says what stands when the input ends. What has been read is a state by value (`scene_state`); the tables are the caller's.
-pub mod reader;
+mod reader;
 
 pub use reader::read_record;
 pub use scene_state::Begun;

@@ -1,6 +1,6 @@
 // What a record of kind 6 writes into the cell table (01, "Scenes and walkprint"): a fill is clipped to the window, and its cells are written row by row.
 // Every input is answered for: what does not fit the table is not written.
-pub mod fills;
+mod fills;
 
 pub use fills::fill_cells;
 

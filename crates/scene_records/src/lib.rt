@@ -1,5 +1,5 @@
 // Scene records (01, "Scenes and walkprint"): what the 64 bytes of a record say. A field that is not there is 0, so every length is answered for.
-pub mod layout;
+mod layout;
 
 pub use layout::body_at;
 pub use layout::byte_at;

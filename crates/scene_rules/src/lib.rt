@@ -1,8 +1,8 @@
 // When a scene record is good where it stands (01, "Scenes and walkprint"): after a record of the last kind, with so much made of each table.
 //
 // `zeros` judges the bytes that are zero in every good record, `rules` the order, each kind's rule and the whole. A record of any length is answered for.
-pub mod rules;
-pub mod zeros;
+mod rules;
+mod zeros;
 
 pub use rules::good_record;
 

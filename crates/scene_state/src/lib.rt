@@ -1,6 +1,6 @@
 // What has been read of a scene (01, "Scenes and walkprint"), a state by value: `state` has the types and the reader's answers, `ends` judges the rooms
 // before the first record and says what stands where the input ends.
-pub mod ends;
+mod ends;
 pub mod state;
 
 pub use ends::begin;

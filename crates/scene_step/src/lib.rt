@@ -1,6 +1,6 @@
 // The state behind a record of a scene (01, "Scenes and walkprint"): the record is judged, and a good one leads to the next state. The tables are not
 // written here.
-pub mod after;
+mod after;
 
 ghost use mathlib.Core.Path.{_≡_};
 ghost use Rattle.scene_state.specs.Answers.{stepAnswer};

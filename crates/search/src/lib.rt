@@ -4,7 +4,7 @@
 // close, try the connector, then the columns. `find` is the public call: as many expansions as the budget, or fewer where the search ends. What it answers is
 // the crate `outcomes`, whether it begins `refusals`.
 pub(crate) mod columns;
-pub mod find;
+mod find;
 pub(crate) mod turns;
 
 pub use find::find_walk_path;

@@ -2,7 +2,7 @@
 //
 // The types stand here, and `space` reads the tables; what is done with boxes is the crate `boxes`. Every public function answers for every input:
 // a cell that the tables do not have is unknown, and a run of boxes ends where its table does.
-pub mod space;
+mod space;
 
 pub use space::box_at;
 pub use space::boxes_from;
