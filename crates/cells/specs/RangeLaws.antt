@@ -7,7 +7,8 @@ use mathlib.Core.List.{List, [], _∷_, _++_, foldl, foldl-append}
 use lib.IntN.{ℤ, pos, negsuc, _+ℤ_, _-ℤ_}
 use lib.Signed.{mag, leZ}
 use mir.Syntax.{w64}
-use mir.Val.{SFits}
+use mir.Val.{SFits, toZ, ofZ}
+use mir.Facts.{toZ-ofZ, toZ-pos}
 use Rattle.cells.specs.Parts.{over, under, sum, difference, le-yes, le-no, within, lower, over-mag, under-mag, equal}
 use Rattle.cells.specs.Ranges.{count, gather, along}
 
@@ -94,8 +95,22 @@ next-fits k last f e h =
     (omega (arith, sum k (pos 1), le-yes k last e, over-mag last, under-mag last))
     (omega (arith, sum k (pos 1), lower w64 k f))
 
-pub less-fits : (z : ℤ) (k : ℕ) → mag z ≤ 2 ^ 31 → k ≤ 2 ^ 31 → SFits w64 (z -ℤ pos k)
-less-fits z k h l = within w64 (z -ℤ pos k) (omega (arith, difference z (pos k), over-mag z, under-mag z)) (omega (arith, difference z (pos k), over-mag z, under-mag z))
+-- a number of the range of an i32, and one less a few, as the machine works them out from their bits
+pub small-is : (z : ℤ) → mag z < 2 ^ 31 → toZ w64 (ofZ w64 z) ≡ z
+small-is z h = toZ-ofZ (record { sfits = omega arith })
+
+module _ (z : ℤ) (k : ℕ) (h : mag z < 2 ^ 31) (l : k < 2 ^ 31) where
+  read : toZ w64 (ofZ w64 z) -ℤ toZ w64 k ≡ z -ℤ pos k
+  read = rw (small-is z h, toZ-pos w64 {n = k} (omega arith))
+
+  fits : SFits w64 (z -ℤ pos k)
+  fits = within w64 (z -ℤ pos k) (omega (arith, difference z (pos k), over-mag z, under-mag z)) (omega (arith, difference z (pos k), over-mag z, under-mag z))
+
+  pub less-fits : SFits w64 (toZ w64 (ofZ w64 z) -ℤ toZ w64 k)
+  less-fits = rw read fits
+
+  pub less-is : toZ w64 (ofZ w64 (toZ w64 (ofZ w64 z) -ℤ toZ w64 k)) ≡ z -ℤ pos k
+  less-is = rw read (toZ-ofZ fits)
 
 pub less-none : (z : ℤ) → z -ℤ pos 0 ≡ z
 less-none z = equal (z -ℤ pos 0) z (omega (arith, difference z (pos 0)))

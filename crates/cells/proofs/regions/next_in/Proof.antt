@@ -67,19 +67,19 @@ returns : tie.Need-returns
 unfolding nextIn
 returns c =
     rw (test _ _ (fits-z (c .before .before .before .before .before)) (most-z (c .before)) (c .if1 .taken))
-    (cc (toZ-ofZ (fits-x (c .before .before .before .before .before)), toZ-ofZ (fits-y (c .before .before .before .before .before)), more-is _ _ (fits-z (c .before .before .before .before .before)) (most-z (c .before)) (c .if1 .taken)))
+    (λ i. record { at = record { x = toZ-ofZ (fits-x (c .before .before .before .before .before)) i; y = toZ-ofZ (fits-y (c .before .before .before .before .before)) i; z = more-is _ _ (fits-z (c .before .before .before .before .before)) (most-z (c .before)) (c .if1 .taken) i }; more = true })
 
 returns-2 : tie.Need-returns-2
 unfolding nextIn
 returns-2 c =
     rw (test _ _ (fits-z (c .before .before .before .before .before .before .before .before .before)) (most-z (c .before .before .before .before .before)) (c .before .before .before .before .if1 .left), test _ _ (fits-x (c .before .before .before .before .before .before .before .before .before)) (most-x (c .before .before .before .before .before)) (c .before .if2 .taken))
-    (cc (more-is _ _ (fits-x (c .before .before .before .before .before .before .before .before .before)) (most-x (c .before .before .before .before .before)) (c .before .if2 .taken), toZ-ofZ (fits-y (c .before .before .before .before .before .before .before .before .before)), toZ-ofZ (least-z (c .before .before .before .before .before))))
+    (λ i. record { at = record { x = more-is _ _ (fits-x (c .before .before .before .before .before .before .before .before .before)) (most-x (c .before .before .before .before .before)) (c .before .if2 .taken) i; y = toZ-ofZ (fits-y (c .before .before .before .before .before .before .before .before .before)) i; z = toZ-ofZ (least-z (c .before .before .before .before .before)) i }; more = true })
 
 returns-3 : tie.Need-returns-3
 unfolding nextIn
 returns-3 c =
     rw (test _ _ (fits-z (c .before .before .before .before .before .before .before .before .before .before .before .before)) (most-z (c .before .before .before .before .before .before .before .before)) (c .before .before .before .before .before .before .before .if1 .left), test _ _ (fits-x (c .before .before .before .before .before .before .before .before .before .before .before .before)) (most-x (c .before .before .before .before .before .before .before .before)) (c .before .before .before .before .if2 .left), test _ _ (fits-y (c .before .before .before .before .before .before .before .before .before .before .before .before)) (most-y (c .before .before .before .before .before .before .before .before)) (c .before .if3 .taken))
-    (cc (toZ-ofZ (least-x (c .before .before .before .before .before .before .before .before)), more-is _ _ (fits-y (c .before .before .before .before .before .before .before .before .before .before .before .before)) (most-y (c .before .before .before .before .before .before .before .before)) (c .before .if3 .taken), toZ-ofZ (least-z (c .before .before .before .before .before .before .before .before))))
+    (λ i. record { at = record { x = toZ-ofZ (least-x (c .before .before .before .before .before .before .before .before)) i; y = more-is _ _ (fits-y (c .before .before .before .before .before .before .before .before .before .before .before .before)) (most-y (c .before .before .before .before .before .before .before .before)) (c .before .if3 .taken) i; z = toZ-ofZ (least-z (c .before .before .before .before .before .before .before .before)) i }; more = true })
 
 returns-4 : tie.Need-returns-4
 unfolding nextIn
