@@ -22,9 +22,6 @@ use Rattle.rooms.specs.Laws.Lists.{walk-on, walk-off, in-or-out}
 pub next-fits : {m n : ℕ} → m < n → Fits w64 n → Fits w64 (m + 1)
 next-fits h f = omega arith
 
-pub next-within : {m n : ℕ} → m < n → m + 1 ≤ n
-next-within h = omega arith
-
 pub count-on : (a : List ℕ) (n k m at : ℕ) → m < n → at < n → length (walk n a n k) ≡ m + length (walk (n - m) a n at) → length (walk n a n k) ≡ m + 1 + length (walk (n - (m + 1)) a n (nodeAt a at .parent))
 count-on a n k m at h l e = omega (arith, e, ap length (walk-on (n - m) (n - (m + 1)) a n at (omega arith) l))
 

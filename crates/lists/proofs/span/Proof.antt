@@ -3,10 +3,11 @@ use borrow.Author.Needs.{needs, zero≤}
 use mathlib.Core.Path.{_≡_}
 use denote.Ref.{now}
 use borrow.Author.Count.{falls}
+use native.Mathlib.Numerals.{add-one-le}
 use Prim.Native.Nat.{_≤_, _-_, _+_}
 use lib.ListN.{length}
 use Rattle.rooms.specs.Lists.{walk}
-use Rattle.lists.specs.Laws.{next-fits, next-within, count-on, count-off, count-out, count-none}
+use Rattle.lists.specs.Laws.{next-fits, count-on, count-off, count-out, count-none}
 use Rattle.lists.proofs.span.Statement.{statement}
 use Rattle.lists.proofs.span.Tie as tie
 
@@ -48,7 +49,7 @@ loop-again : tie.Need-loop-again Inv-loop μ-loop
 loop-again c =
     let a = c .before .before .before .before .before .before .args in
     let z = count-on (now (a .nodes)) (a .n) (a .k) (c .before .before .before .before .loop .m) (c .before .before .before .before .loop .at) (c .before .before .before .loop-test .taken) (c .before .before .if1 .left) (c .before .before .before .before .loop .inv .1) in
-    (next-within (c .before .before .before .loop-test .taken), rw (c .before .get-node .ensures) z)
+    (add-one-le (c .before .before .before .loop-test .taken), rw (c .before .get-node .ensures) z)
 
 returns-2 : tie.Need-returns-2 Inv-loop μ-loop
 returns-2 c =

@@ -8,6 +8,7 @@ use mathlib.Core.List.{List}
 use Prim.Native.Nat.{ℕ, _-_, _+_}
 use mathlib.Core.Path.{_≡_, refl, sym, ap, _∙_}
 use native.Mathlib.Omega.{arith}
+use borrow.Author.Count.{falls}
 use Rattle.scene_fills.proofs.fills.fill_layer.Statement.{statement}
 use Rattle.scene_fills.proofs.fills.fill_layer.Tie as tie
 
@@ -33,24 +34,24 @@ add-z : tie.Need-add-z Inv-loop μ-loop
 add-z c = record { fits = omega (arith, c .before .before .before .before .before .before .before .before .before .pre .0 .zs) }
 
 loop-less : tie.Need-loop-less Inv-loop μ-loop
-loop-less c = omega arith
+loop-less c = falls _ _ (c .before .before .before .before .before .loop-test .taken)
 
 loop-again : tie.Need-loop-again Inv-loop μ-loop
 unfolding rowAt
 loop-again c =
     let a = c .before .before .before .before .before .before .before .before .before .args in let l = c .before .before .before .before .before .before .loop in (
-      omega (arith, c .before .before .fill-row .kept, l .inv .0),
-      l .inv .1 ∙ turn-more (rowAt (a .f) (a .y)) (l .z) (a .f .zs .end) (l .cells) (omega arith)
+      c .before .before .fill-row .kept .1 .1 .0 ∙ l .inv .0,
+      l .inv .1 ∙ turn-more (rowAt (a .f) (a .y)) (l .z) (a .f .zs .end) (l .cells) (c .before .before .before .before .before .loop-test .taken)
           ∙ ap (λ (t : List ℕ). inTurn (rowAt (a .f) (a .y)) (l .z + 1) (a .f .zs .end - (l .z + 1)) t) (sym (rw (c .before .before .before .before .row-start .ensures) at (c .before .before .fill-row .ensures))),
     )
 
 same-length : tie.Need-same-length Inv-loop μ-loop
-same-length c = omega arith
+same-length c = c .before .loop .inv .0
 
 returns : tie.Need-returns Inv-loop μ-loop
 unfolding layerOf
 returns c =
-    let a = c .before .before .before .before .args in let l = c .before .loop in sym (l .inv .1 ∙ turn-done (rowAt (a .f) (a .y)) (l .z) (a .f .zs .end) (l .cells) (omega arith))
+    let a = c .before .before .before .before .args in let l = c .before .loop in sym (l .inv .1 ∙ turn-done (rowAt (a .f) (a .y)) (l .z) (a .f .zs .end) (l .cells) (c .loop-test .left))
 
 pub fill-layer-spec : {M : Type 1} → statement M
 fill-layer-spec =

@@ -7,6 +7,7 @@ use mathlib.Core.List.{List}
 use Prim.Native.Nat.{ℕ, _-_, _+_}
 use mathlib.Core.Path.{_≡_, refl, sym, ap, _∙_}
 use native.Mathlib.Omega.{arith}
+use borrow.Author.Count.{falls}
 use Rattle.scene_fills.proofs.fills.fill_row.Statement.{statement}
 use Rattle.scene_fills.proofs.fills.fill_row.Tie as tie
 
@@ -29,24 +30,24 @@ add-x : tie.Need-add-x Inv-loop μ-loop
 add-x c = record { fits = omega (arith, c .before .before .before .before .before .before .before .before .pre .0 .xs) }
 
 loop-less : tie.Need-loop-less Inv-loop μ-loop
-loop-less c = omega arith
+loop-less c = falls _ _ (c .before .before .before .before .loop-test .taken)
 
 loop-again : tie.Need-loop-again Inv-loop μ-loop
 unfolding cellOf
 loop-again c =
     let a = c .before .before .before .before .before .before .before .before .args in let l = c .before .before .before .before .before .loop in (
-      omega (arith, c .before .before .put-entry .kept, l .inv .0),
-      l .inv .1 ∙ turn-more (cellOf (a .f) (a .start)) (l .x) (a .f .xs .end) (l .cells) (omega arith)
+      c .before .before .put-entry .kept .0 ∙ l .inv .0,
+      l .inv .1 ∙ turn-more (cellOf (a .f) (a .start)) (l .x) (a .f .xs .end) (l .cells) (c .before .before .before .before .loop-test .taken)
           ∙ ap (λ (t : List ℕ). inTurn (cellOf (a .f) (a .start)) (l .x + 1) (a .f .xs .end - (l .x + 1)) t) (sym (c .before .before .put-entry .ensures)),
     )
 
 same-length : tie.Need-same-length Inv-loop μ-loop
-same-length c = omega arith
+same-length c = c .before .loop .inv .0
 
 returns : tie.Need-returns Inv-loop μ-loop
 unfolding rowOf
 returns c =
-    let a = c .before .before .before .before .args in let l = c .before .loop in sym (l .inv .1 ∙ turn-done (cellOf (a .f) (a .start)) (l .x) (a .f .xs .end) (l .cells) (omega arith))
+    let a = c .before .before .before .before .args in let l = c .before .loop in sym (l .inv .1 ∙ turn-done (cellOf (a .f) (a .start)) (l .x) (a .f .xs .end) (l .cells) (c .loop-test .left))
 
 pub fill-row-spec : {M : Type 1} → statement M
 fill-row-spec =

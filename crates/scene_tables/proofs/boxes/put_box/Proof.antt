@@ -6,7 +6,9 @@ use denote.Ref.{now}
 use Prim.Native.Nat.{ℕ, _+_, _-_, _*_, _≤_}
 use mathlib.Core.List.{List}
 use mathlib.Core.Path.{_≡_, refl, sym, ap, _∙_}
-use borrow.Author.Needs.{needs}
+use borrow.Author.Needs.{needs, zero≤}
+use borrow.Author.Count.{falls}
+use native.Mathlib.Numerals.{add-one-le}
 use native.Mathlib.Omega.{arith}
 use Rattle.scene_tables.proofs.boxes.put_box.Statement.{statement}
 use Rattle.scene_tables.proofs.boxes.put_box.Tie as tie
@@ -21,7 +23,7 @@ mul-at : tie.Need-mul-at Inv-loop μ-loop
 mul-at c = search needs
 
 loop-holds : tie.Need-loop-holds Inv-loop μ-loop
-loop-holds c = (omega arith, refl, refl, refl)
+loop-holds c = (zero≤, refl, refl, refl)
 
 mul-u64-at : tie.Need-mul-u64-at Inv-loop μ-loop
 mul-u64-at c = search needs
@@ -45,27 +47,27 @@ add-j : tie.Need-add-j Inv-loop μ-loop
 add-j c = search needs
 
 loop-less : tie.Need-loop-less Inv-loop μ-loop
-loop-less c = omega arith
+loop-less c = falls _ _ (c .before .before .before .before .before .loop-test .taken)
 
 loop-again : tie.Need-loop-again Inv-loop μ-loop
 unfolding boxNumber
 loop-again c =
     let a = c .before .before .before .before .before .before .before .before .before .args in let l = c .before .before .before .before .before .before .loop in (
-      omega arith,
+      add-one-le (c .before .before .before .before .before .loop-test .taken),
       l .inv .1,
-      omega (arith, c .before .before .put-u64 .kept, l .inv .2),
-      l .inv .3 ∙ turn-more (boxNumber (now (a .bytes)) (a .k)) (l .j) 6 (l .boxes) (omega arith)
+      c .before .before .put-u64 .kept .0 ∙ l .inv .2,
+      l .inv .3 ∙ turn-more (boxNumber (now (a .bytes)) (a .k)) (l .j) 6 (l .boxes) (c .before .before .before .before .before .loop-test .taken)
           ∙ ap (λ (t : List ℕ). inTurn (boxNumber (now (a .bytes)) (a .k)) (l .j + 1) (6 - (l .j + 1)) t) (sym (rw (c .before .before .before .before .u64-at .ensures, l .inv .1) at (c .before .before .put-u64 .ensures))),
     )
 
 same-length : tie.Need-same-length Inv-loop μ-loop
-same-length c = omega arith
+same-length c = c .before .loop .inv .2
 
 returns : tie.Need-returns Inv-loop μ-loop
 unfolding withBox
 returns c =
     let a = c .before .before .before .before .args in let l = c .before .loop in
-    sym (l .inv .3 ∙ turn-done (boxNumber (now (a .bytes)) (a .k)) (l .j) 6 (l .boxes) (omega arith))
+    sym (l .inv .3 ∙ turn-done (boxNumber (now (a .bytes)) (a .k)) (l .j) 6 (l .boxes) (c .loop-test .left))
 
 pub put-box-spec : {M : Type 1} → statement M
 put-box-spec =
