@@ -5,10 +5,10 @@ use crate::wishes::has_bit;
 use crate::wishes::policy_in;
 use policy::WalkPolicy;
 use scene_records::body_at;
-use scene_records::point_at;
 use scene_records::window_at;
 use world::Body;
 use world::Point;
+use world::point_at;
 use world::Window;
 
 pub struct Mob {

@@ -3,11 +3,11 @@
 ghost use mathlib.Core.Path.{_≡_};
 ghost use Rattle.c_records.specs.Asked.{questionIn};
 use scene_records::body_at;
-use scene_records::point_at;
 use scene_records::window_at;
 use world::Body;
 use world::Request;
 use world::Window;
+use world::point_at;
 
 pub struct Question {
     pub window: Window,

@@ -93,8 +93,8 @@ fn answered(
     q: Question,
     d: u64,
 ) -> u64 {
-    let a = scene_records::point_at(pool, q.a);
-    let b = scene_records::point_at(pool, q.b);
+    let a = world::point_at(pool, q.a as usize);
+    let b = world::point_at(pool, q.b as usize);
     let kind = q.kind;
     match kind {
         0 => d,

@@ -2,10 +2,8 @@
 ghost use mathlib.Core.Path.{_≡_};
 ghost use lib.ListN.{getD};
 ghost use Rattle.tables.specs.BadWorld.{sizeAbove};
-ghost use Rattle.world.specs.Space.{pointAt};
 ghost use Rattle.scene_records.specs.Layout.{numberOf, bodyAt, windowAt, cellCount};
 use world::Body;
-use world::Point;
 use world::Window;
 
 // The byte at an offset.
@@ -22,23 +20,11 @@ pub fn number_of(bytes: &[u8]) -> u32
     fields::u32_at(bytes, 4)
 }
 
-// Three f64 from an offset on.
-pub fn point_at(bytes: &[u8], at: u32) -> Point
-    ensures { λ r. ⌜ r ≡ pointAt (now (bytes .entry)) at ⌝ }
-{
-    let x = at as usize;
-    Point {
-        x: fields::f64_at(bytes, x),
-        y: fields::f64_at(bytes, x + 8),
-        z: fields::f64_at(bytes, x + 16),
-    }
-}
-
 // A body from an offset on.
 pub fn body_at(bytes: &[u8], at: u32) -> Body
     ensures { λ r. ⌜ r ≡ bodyAt (now (bytes .entry)) at ⌝ }
 {
-    let three = point_at(bytes, at);
+    let three = world::point_at(bytes, at as usize);
     Body {
         width: three.x,
         height: three.y,

@@ -7,10 +7,10 @@ use crate::zeros;
 use scene_records::byte_at;
 use scene_records::cell_count;
 use scene_records::number_of;
-use scene_records::point_at;
 use scene_records::size_above;
 use scene_records::window_at;
 use world::Aabb;
+use world::point_at;
 
 // Whether a kind may come after the last one, of which 0 is none.
 fn in_order(last: u8, kind: u8) -> bool

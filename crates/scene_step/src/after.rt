@@ -4,13 +4,13 @@ ghost use Rattle.scene_step.specs.Next.{Allowed, ShapeFits, requestAfter
 use scene_records::body_at;
 use scene_records::cell_count;
 use scene_records::number_of;
-use scene_records::point_at;
 use scene_records::window_at;
 use scene_rules::Counts;
 use scene_state::Reading;
 use world::Body;
 use world::Request;
 use world::Window;
+use world::point_at;
 
 fn request_after(r: Request, bytes: &[u8], kind: u8) -> Request
     ensures { λ q. ⌜ q ≡ requestAfter kind r (now (bytes .entry)) ⌝ }
