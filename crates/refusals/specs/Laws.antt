@@ -7,7 +7,7 @@ use Prim.Native.Nat.{ℕ, _+_, _*_, _/_, _≤_, _<_}
 use native.Mathlib.Nat.{mul-comm, div-lt-iff-lt-mul, le-div-iff-mul-le}
 use native.Mathlib.Omega.{arith}
 use lib.Dec.{eqb, leb, ltb}
-use borrow.Author.Tests.{ltb-true, ltb-false, lt-ltb, le-ltb, le-leb, lt-leb, eq-eqb, ne-eqb}
+use borrow.Author.Tests.{ltb-true, ltb-false, lt-ltb, le-ltb, le-leb, lt-leb}
 use Rattle.exploration.specs.Laws.Lists.{none-some}
 use Rattle.world.specs.declared.Body.{Body}
 use Rattle.world.specs.declared.Request.{Request}
@@ -69,7 +69,7 @@ module _ (w : Window) (cells perms shapes boxes : List ℕ) (r : Request) (body 
   abbrev way : Option Outcome
   way = withoutSearch w cells perms shapes boxes r body nodes front out
 
-  -- ---- the seven ways out, in 01's order, each under the tests so far
+  -- ---- the ways out, in 01's order, each under the tests so far
 
   pub out-bad-world : bad ≡ true → some BadWorld ≡ way
   unfolding withoutSearch
@@ -91,13 +91,9 @@ module _ (w : Window) (cells perms shapes boxes : List ℕ) (r : Request) (body 
   unfolding withoutSearch
   out-bad-end b v l s g = rw (b, v, l, s, g)
 
-  pub out-budget : bad ≡ false → valid ≡ true → large ≡ false → short ≡ false → good ≡ true → r .«node_budget» ≡ 0 → some BudgetExceeded ≡ way
+  pub out-last : bad ≡ false → valid ≡ true → large ≡ false → short ≡ false → good ≡ true → (nothing : Bool) → eqb (r .«node_budget») 0 ≡ nothing → cond nothing (some BudgetExceeded) none ≡ way
   unfolding withoutSearch
-  out-budget b v l s g z = rw (b, v, l, s, g, eq-eqb (r .«node_budget») 0 z)
-
-  pub out-search : bad ≡ false → valid ≡ true → large ≡ false → short ≡ false → good ≡ true → (r .«node_budget» ≡ 0 → ⊥) → none ≡ way
-  unfolding withoutSearch
-  out-search b v l s g z = rw (b, v, l, s, g, ne-eqb (r .«node_budget») 0 z)
+  out-last b v l s g nothing z = rw (b, v, l, s, g, z)
 
   -- ---- and back: a search that begins
 

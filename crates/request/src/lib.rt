@@ -1,43 +1,10 @@
 // What a search may be asked (01, "Numbers given back"): `valid_request`, and 4 TooLarge. Each number is compared as a number, so a NaN is never
 // within a border. Every function answers for every request and body.
 ghost use mathlib.Core.Path.{_≡_};
-ghost use Rattle.request.specs.Request.{finitePoint, allFinite, notNegative, limit, within, validRequest, sizesTooLarge, tooLarge};
+ghost use Rattle.request.specs.Request.{limit, within, validRequest, sizesTooLarge, tooLarge};
 use world::Body;
 use world::Point;
 use world::Request;
-
-// Whether each coordinate of a point is finite.
-fn finite_point(p: Point) -> bool
-    ensures { λ a. ⌜ a ≡ finitePoint p ⌝ }
-{
-    floats::finite(p.x) & floats::finite(p.y) & floats::finite(p.z)
-}
-
-// Whether all numbers of the request and the body are finite.
-fn all_finite(r: Request, body: Body) -> bool
-    ensures { λ a. ⌜ a ≡ allFinite r body ⌝ }
-{
-    let ends = finite_point(r.start) & finite_point(r.goal);
-    let asked = floats::finite(r.max_range)
-        & floats::finite(r.step_height)
-        & floats::finite(r.jump_height)
-        & floats::finite(r.max_drop);
-    let walker = floats::finite(body.width)
-        & floats::finite(body.height)
-        & floats::finite(body.step_height);
-    ends & asked & walker
-}
-
-// Whether the range, both steps, the jump and the drop are at least 0.
-fn not_negative(r: Request, body: Body) -> bool
-    ensures { λ a. ⌜ a ≡ notNegative r body ⌝ }
-{
-    (0.0 <= r.max_range)
-        & (0.0 <= r.step_height)
-        & (0.0 <= body.step_height)
-        & (0.0 <= r.jump_height)
-        & (0.0 <= r.max_drop)
-}
 
 // How far from 0 a coordinate may be, so that every cell that the search looks at has a number of 32 bits.
 fn limit_of(r: Request, body: Body) -> f64
@@ -57,10 +24,21 @@ fn is_within(most: f64, p: Point) -> bool
 pub fn valid_request(r: Request, body: Body) -> bool
     ensures { λ a. ⌜ a ≡ validRequest r body ⌝ }
 {
+    // The points are not asked for: a coordinate smaller in size than the limit is finite.
+    let finite = floats::finite(r.max_range)
+        & floats::finite(r.step_height)
+        & floats::finite(r.jump_height)
+        & floats::finite(r.max_drop)
+        & (floats::finite(body.width) & floats::finite(body.height) & floats::finite(body.step_height));
     let sized = (0.0 < body.width) & (0.0 < body.height);
+    let not_negative = (0.0 <= r.max_range)
+        & (0.0 <= r.step_height)
+        & (0.0 <= body.step_height)
+        & (0.0 <= r.jump_height)
+        & (0.0 <= r.max_drop);
     let most = limit_of(r, body);
     let placed = (0.0 < most) & is_within(most, r.start) & is_within(most, r.goal);
-    all_finite(r, body) & sized & not_negative(r, body) & placed
+    finite & sized & not_negative & placed
 }
 
 // Whether a request is 4 TooLarge by its range or its body, the budget not read: what the walk-back asks.

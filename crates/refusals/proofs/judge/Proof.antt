@@ -1,8 +1,13 @@
 -- `refusals::judge` meets its contract. Assumes nothing.
-use mathlib.Core.Path.{sym, _∙_}
+use mathlib.Core.Path.{_≡_, sym, _∙_}
+use mathlib.Core.Bool.{Bool, true, false, cond}
+use mathlib.Core.Option.{none, some}
 use denote.Ref.{now}
-use borrow.Author.Tests.{not-true, not-false}
-use Rattle.refusals.specs.Laws.{room-divided, out-bad-world, out-invalid, out-too-large, out-no-room, out-bad-end, out-budget, out-search}
+use borrow.Author.Tests.{not-true, not-false, eq-eqb, ne-eqb}
+use lib.Dec.{eqb}
+use Rattle.outcomes.specs.declared.Outcome.the-variants.{BudgetExceeded}
+use Rattle.refusals.specs.Refusals.{withoutSearch}
+use Rattle.refusals.specs.Laws.{room-divided, out-bad-world, out-invalid, out-too-large, out-no-room, out-bad-end, out-last}
 use Rattle.refusals.proofs.judge.Statement.{statement}
 use Rattle.refusals.proofs.judge.Tie as tie
 
@@ -58,27 +63,23 @@ returns-5 c =
     (sym (room-divided (a .r .«node_budget») (a .nodes) (a .front) (a .out)) ∙ c .before .before .if4 .left)
     (sym (c .before .ends-good .ensures) ∙ not-true _ (c .if5 .taken))
 
+-- past all tests but the last: a search, or none where it has nothing to spend
+last : (c : tie.Else5) → let a = c .before .before .before .before .before .before .before .before .before .before .before .before .before .args in (nothing : Bool) → eqb (a .r .«node_budget») 0 ≡ nothing →
+    cond nothing (some BudgetExceeded) none ≡ withoutSearch (a .w) (now (a .cells)) (now (a .perms)) (now (a .shapes)) (now (a .boxes)) (a .r) (a .body) (a .nodes) (a .front) (a .out)
+last c =
+    let a = c .before .before .before .before .before .before .before .before .before .before .before .before .before .args in
+    out-last (a .w) (now (a .cells)) (now (a .perms)) (now (a .shapes)) (now (a .boxes)) (a .r) (a .body) (a .nodes) (a .front) (a .out)
+    (sym (c .before .before .before .before .before .before .before .before .bad-world .ensures) ∙ c .before .before .before .before .before .before .before .if1 .left)
+    (sym (c .before .before .before .before .before .before .valid-request .ensures) ∙ not-false _ (c .before .before .before .before .before .if2 .left))
+    (sym (c .before .before .before .before .too-large .ensures) ∙ c .before .before .before .if3 .left)
+    (sym (room-divided (a .r .«node_budget») (a .nodes) (a .front) (a .out)) ∙ c .before .before .if4 .left)
+    (sym (c .before .ends-good .ensures) ∙ not-false _ (c .if5 .left))
+
 returns-6 : tie.Need-returns-6
-returns-6 c =
-    let a = c .before .before .before .before .before .before .before .before .before .before .before .before .before .before .before .args in
-    out-budget (a .w) (now (a .cells)) (now (a .perms)) (now (a .shapes)) (now (a .boxes)) (a .r) (a .body) (a .nodes) (a .front) (a .out)
-    (sym (c .before .before .before .before .before .before .before .before .before .before .bad-world .ensures) ∙ c .before .before .before .before .before .before .before .before .before .if1 .left)
-    (sym (c .before .before .before .before .before .before .before .before .valid-request .ensures) ∙ not-false _ (c .before .before .before .before .before .before .before .if2 .left))
-    (sym (c .before .before .before .before .before .before .too-large .ensures) ∙ c .before .before .before .before .before .if3 .left)
-    (sym (room-divided (a .r .«node_budget») (a .nodes) (a .front) (a .out)) ∙ c .before .before .before .before .if4 .left)
-    (sym (c .before .before .before .ends-good .ensures) ∙ not-false _ (c .before .before .if5 .left))
-    (c .if6 .taken)
+returns-6 c = last (c .before .before) true (eq-eqb _ _ (c .if6 .taken))
 
 returns-7 : tie.Need-returns-7
-returns-7 c =
-    let a = c .before .before .before .before .before .before .before .before .before .before .before .before .before .before .before .args in
-    out-search (a .w) (now (a .cells)) (now (a .perms)) (now (a .shapes)) (now (a .boxes)) (a .r) (a .body) (a .nodes) (a .front) (a .out)
-    (sym (c .before .before .before .before .before .before .before .before .before .before .bad-world .ensures) ∙ c .before .before .before .before .before .before .before .before .before .if1 .left)
-    (sym (c .before .before .before .before .before .before .before .before .valid-request .ensures) ∙ not-false _ (c .before .before .before .before .before .before .before .if2 .left))
-    (sym (c .before .before .before .before .before .before .too-large .ensures) ∙ c .before .before .before .before .before .if3 .left)
-    (sym (room-divided (a .r .«node_budget») (a .nodes) (a .front) (a .out)) ∙ c .before .before .before .before .if4 .left)
-    (sym (c .before .before .before .ends-good .ensures) ∙ not-false _ (c .before .before .if5 .left))
-    (c .if6 .left)
+returns-7 c = last (c .before .before) false (ne-eqb _ _ (c .if6 .left))
 
 pub judge-spec : {M : Type 1} → statement M
 judge-spec =
