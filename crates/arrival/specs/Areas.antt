@@ -8,7 +8,7 @@ use lib.Ieee.{Float, binary64, fits, lt, le, eq, add, sub, ofBits}
 use lib.Ieee.Fits.{add-fits, sub-fits}
 use Rattle.floats.specs.Floats.{E, nought, smaller, larger, canonical}
 use Rattle.cells.specs.Cells.{floorCell, ceilCell}
-use Rattle.cells.specs.declared.regions.Spot.{Spot}
+use Rattle.regions.specs.declared.Spot.{Spot}
 use Rattle.world.specs.declared.Point.{Point}
 use Rattle.world.specs.declared.Aabb.{Aabb}
 use Rattle.world.specs.Boxes.{one, plus, span, fromFeet, expandTowards, meets, corner, voxel}

@@ -3,7 +3,7 @@ use Prim.Native.Nat.{ℕ, zero, suc, _+_, _*_, _≤_}
 use native.Mathlib.Omega.{arith}
 use mathlib.Core.List.{List}
 use lib.ListN.{length, length-append}
-use Rattle.cells.specs.Ranges.{gather}
+use Rattle.regions.specs.Ranges.{gather}
 
 module _ {A : Type 0} (f : ℕ → List A) where
   -- where each number takes what it holds out of the room that is left for it and those after it, they all stay within that room

@@ -12,7 +12,7 @@ use lib.ListN.{length, getD, drop, length-map}
 use lib.Ieee.{Float}
 use Rattle.cells.specs.Cells.{floorCell}
 use Rattle.cells.specs.Parts.{over, under, sum, difference}
-use Rattle.cells.specs.Ranges.{count, along}
+use Rattle.regions.specs.Ranges.{count, along}
 use Rattle.world.specs.declared.Point.{Point}
 use Rattle.world.specs.declared.Aabb.{Aabb}
 use Rattle.world.specs.declared.Window.{Window}

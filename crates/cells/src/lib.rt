@@ -1,15 +1,4 @@
 // Floats as cell numbers (01, Numbers): floor and ceiling in the range of an i32, saturating, NaN to 0; and a cell number as a float.
-pub mod ranges;
-pub mod regions;
-
-pub use ranges::Range;
-pub use ranges::floors;
-pub use ranges::reached;
-pub use regions::Cursor;
-pub use regions::Region;
-pub use regions::Spot;
-pub use regions::first_in;
-pub use regions::next_in;
 ghost use mathlib.Core.Path.{_≡_};
 ghost use lib.Ieee.{binary64, ofInt};
 ghost use Rattle.cells.specs.Cells.{floorCell, ceilCell};

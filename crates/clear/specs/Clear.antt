@@ -4,10 +4,10 @@ use mathlib.Core.Bool.{Bool, true, false, not, _&&_, _||_}
 use mathlib.Core.List.{List, [], _∷_}
 use lib.IntN.{pos, _-ℤ_}
 use Rattle.cells.specs.Cells.{floorCell, ceilCell}
-use Rattle.cells.specs.Ranges.{range}
-use Rattle.cells.specs.Regions.{cellsOf}
-use Rattle.cells.specs.declared.regions.Region.{Region}
-use Rattle.cells.specs.declared.regions.Spot.{Spot}
+use Rattle.regions.specs.Ranges.{range}
+use Rattle.regions.specs.Regions.{cellsOf}
+use Rattle.regions.specs.declared.Region.{Region}
+use Rattle.regions.specs.declared.Spot.{Spot}
 use Rattle.world.specs.declared.Point.{Point}
 use Rattle.world.specs.declared.Aabb.{Aabb}
 use Rattle.world.specs.Boxes.{meets, corner, voxel}

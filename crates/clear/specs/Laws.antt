@@ -7,10 +7,10 @@ use mathlib.Core.List.{List, _∷_, map}
 use lib.Dec.{ltb}
 use lib.ListN.{drop}
 use borrow.Author.Tests.{ltb-true, ltb-false}
-use Rattle.cells.specs.declared.regions.Region.{Region}
-use Rattle.cells.specs.declared.regions.Spot.{Spot}
-use Rattle.cells.specs.declared.regions.Cursor.{Cursor}
-use Rattle.cells.specs.RegionLaws.{toCome, ended}
+use Rattle.regions.specs.declared.Region.{Region}
+use Rattle.regions.specs.declared.Spot.{Spot}
+use Rattle.regions.specs.declared.Cursor.{Cursor}
+use Rattle.regions.specs.RegionLaws.{toCome, ended}
 use Rattle.world.specs.declared.Point.{Point}
 use Rattle.world.specs.declared.Aabb.{Aabb}
 use Rattle.world.specs.declared.Found.the-variants.{Here, End}

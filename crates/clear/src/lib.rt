@@ -1,12 +1,12 @@
 // Clear areas (01, The graph): whether a body fits into an area, by the boxes and the permissions of the cells that it reaches.
 ghost use mathlib.Core.Path.{_≡_};
 ghost use mathlib.Core.List.{map};
-ghost use Rattle.cells.specs.Regions.{cellsOf};
+ghost use Rattle.regions.specs.Regions.{cellsOf};
 ghost use Rattle.world.specs.declared.Aabb.{Aabb};
 ghost use Rattle.world.specs.Boxes.{moved, corner};
 ghost use Rattle.world.specs.Space.{run, space};
 ghost use Rattle.clear.specs.Clear.{hits, free, allFree, clear};
-use cells::Region;
+use regions::Region;
 use world::Aabb;
 use world::Cell;
 use world::Found;
@@ -76,11 +76,11 @@ fn all_free(
     ensures { λ r. ⌜ r ≡ allFree (space w (now (cells .entry)) (now (perms .entry)) (now (shapes .entry)) (now (boxes .entry))) area (cellsOf region) ⌝ }
 {
     let mut free = true;
-    let mut cursor = cells::first_in(region);
+    let mut cursor = regions::first_in(region);
     while cursor.more & free {
         let at = cursor.at;
         free = cell_free(w, cells, perms, shapes, boxes, area, at.x, at.y, at.z);
-        cursor = cells::next_in(region, at);
+        cursor = regions::next_in(region, at);
     }
     free
 }
@@ -96,9 +96,9 @@ pub fn clear_area(
 ) -> bool
     ensures { λ r. ⌜ r ≡ clear (space w (now (cells .entry)) (now (perms .entry)) (now (shapes .entry)) (now (boxes .entry))) area ⌝ }
 {
-    let ys = cells::reached(area.min.y, area.max.y, 1);
-    let xs = cells::reached(area.min.x, area.max.x, 0);
-    let zs = cells::reached(area.min.z, area.max.z, 0);
+    let ys = regions::reached(area.min.y, area.max.y, 1);
+    let xs = regions::reached(area.min.x, area.max.x, 0);
+    let zs = regions::reached(area.min.z, area.max.z, 0);
     let region = Region { ys, xs, zs };
     all_free(w, cells, perms, shapes, boxes, area, region)
 }

@@ -5,7 +5,7 @@ use lib.IntN.{ℤ, pos, _-ℤ_}
 use lib.Ieee.{Float, binary64, lt, le, add, sub}
 use Rattle.floats.specs.Floats.{E}
 use Rattle.cells.specs.Cells.{floorCell}
-use Rattle.cells.specs.Ranges.{along}
+use Rattle.regions.specs.Ranges.{along}
 use Rattle.world.specs.declared.Aabb.{Aabb}
 use Rattle.world.specs.Space.{Space, Block}
 use Rattle.heights.specs.declared.Band.{Band}

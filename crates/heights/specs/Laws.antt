@@ -8,7 +8,7 @@ use lib.ListN.{drop}
 use lib.Ieee.{Float, binary64, le, add, sub, isNan}
 use Rattle.floats.specs.Floats.{E}
 use Rattle.floats.specs.Order.{le-left}
-use Rattle.cells.specs.Ranges.{along}
+use Rattle.regions.specs.Ranges.{along}
 use Rattle.world.specs.declared.Point.{Point}
 use Rattle.world.specs.declared.Aabb.{Aabb}
 use Rattle.world.specs.declared.Found.{Found}

@@ -6,7 +6,7 @@ use mathlib.Core.List.{List, [], _∷_, _++_, foldl}
 use lib.Ieee.{Float, lt, le, isNan}
 use native.Mathlib.Omega.{arith}
 use Rattle.floats.specs.Order.{le-refl, le-trans, le-left, le-right, lt-le, lt-trans, lt-left, lt-right, not-lt, not-le, le-not-lt, lt-le-trans, le-lt-trans}
-use Rattle.cells.specs.Ranges.{gather}
+use Rattle.regions.specs.Ranges.{gather}
 use Rattle.heights.specs.declared.Height.{Height}
 use Rattle.heights.specs.declared.Height.the-variants.{At, None}
 use Rattle.heights.specs.Heights.{insert, sorted, within, thinned, thinnedAfter, keptAfter, firstOf}

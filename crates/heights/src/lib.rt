@@ -1,5 +1,5 @@
 // The heights of a column (01, The graph, "Graph step"): the box tops that a step may go to, the next smallest one a call.
-use cells::Range;
+use regions::Range;
 use world::Aabb;
 use world::Cell;
 use world::Found;
@@ -9,7 +9,7 @@ ghost use mathlib.Core.Path.{_≡_};
 ghost use mathlib.Core.List.{map};
 ghost use Prim.Native.Nat.{_^_, _<_};
 ghost use lib.Signed.{mag};
-ghost use Rattle.cells.specs.Ranges.{along};
+ghost use Rattle.regions.specs.Ranges.{along};
 ghost use Rattle.world.specs.declared.Aabb.{Aabb};
 ghost use Rattle.world.specs.Boxes.{moved};
 ghost use Rattle.world.specs.Space.{run, space};
@@ -176,7 +176,7 @@ pub fn next_height(
 {
     let cx = cells::floor_cell(x);
     let cz = cells::floor_cell(z);
-    let layers = cells::floors(band.low, band.high, 2);
+    let layers = regions::floors(band.low, band.high, 2);
     column_next(
         w,
         cells,

@@ -7,9 +7,9 @@ mod pass;
 
 ghost use mathlib.Core.Path.{_≡_};
 ghost use Rattle.world.specs.Space.{space};
-ghost use Rattle.cells.specs.Regions.{cellsOf};
+ghost use Rattle.regions.specs.Regions.{cellsOf};
 ghost use Rattle.support.specs.Support.{shapesAt, carried, supported};
-use cells::Region;
+use regions::Region;
 use support::Way;
 use world::Point;
 use world::Window;
@@ -51,9 +51,9 @@ pub fn supported_segment(
     ensures { λ r. ⌜ r ≡ supported (space w (now (cells .entry)) (now (perms .entry)) (now (shapes .entry)) (now (boxes .entry))) width from to ⌝ }
 {
     let f = support::footprint(width, from, to);
-    let ys = cells::floors(f.min.y, f.max.y, 2);
-    let xs = cells::reached(f.min.x, f.max.x, 0);
-    let zs = cells::reached(f.min.z, f.max.z, 0);
+    let ys = regions::floors(f.min.y, f.max.y, 2);
+    let xs = regions::reached(f.min.x, f.max.x, 0);
+    let zs = regions::reached(f.min.z, f.max.z, 0);
     let way = Way { from, to, under: f };
     carries(w, cells, perms, shapes, boxes, way, Region { ys, xs, zs })
 }

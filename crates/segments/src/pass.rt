@@ -2,11 +2,11 @@
 //
 // A shape that counts and is no support refuses the way, and the pass ends there.
 ghost use mathlib.Core.Path.{_≡_};
-ghost use Rattle.cells.specs.Regions.{cellsOf};
+ghost use Rattle.regions.specs.Regions.{cellsOf};
 ghost use Rattle.world.specs.Space.{space};
 ghost use Rattle.support.specs.Support.{shapesOf, shapesAt};
 ghost use Rattle.support.specs.Pass.{pass, reached, runShapes};
-use cells::Region;
+use regions::Region;
 use support::Reach;
 use support::Way;
 use world::Cell;
@@ -90,11 +90,11 @@ pub(crate) fn reach_all(
         to: covered,
         refused: false,
     };
-    let mut cursor = cells::first_in(region);
+    let mut cursor = regions::first_in(region);
     while cursor.more & !reach.refused {
         let at = cursor.at;
         reach = reach_cell(w, cells, perms, shapes, boxes, way, at.x, at.y, at.z, reach.to);
-        cursor = cells::next_in(region, at);
+        cursor = regions::next_in(region, at);
     }
     reach
 }

@@ -7,7 +7,7 @@ use lib.ListN.{getD}
 use lib.Ieee.{Float, binary64, add, sub, ofInt}
 use Rattle.floats.specs.Floats.{smaller, larger}
 use Rattle.cells.specs.Cells.{floorCell}
-use Rattle.cells.specs.Ranges.{gather}
+use Rattle.regions.specs.Ranges.{gather}
 use Rattle.world.specs.declared.Point.{Point}
 use Rattle.world.specs.declared.Body.{Body}
 use Rattle.world.specs.declared.Request.{Request}

@@ -9,11 +9,11 @@ use lib.Dec.{ltb}
 use lib.ListN.{drop}
 use lib.Ieee.{Float, binary64, lt, le, add}
 use Rattle.floats.specs.Floats.{E, nought, larger}
-use Rattle.cells.specs.RangeLaws.{fold-stays}
-use Rattle.cells.specs.RegionLaws.{toCome, ended}
-use Rattle.cells.specs.declared.regions.Region.{Region}
-use Rattle.cells.specs.declared.regions.Spot.{Spot}
-use Rattle.cells.specs.declared.regions.Cursor.{Cursor}
+use Rattle.regions.specs.RangeLaws.{fold-stays}
+use Rattle.regions.specs.RegionLaws.{toCome, ended}
+use Rattle.regions.specs.declared.Region.{Region}
+use Rattle.regions.specs.declared.Spot.{Spot}
+use Rattle.regions.specs.declared.Cursor.{Cursor}
 use Rattle.world.specs.declared.Point.{Point}
 use Rattle.world.specs.declared.Aabb.{Aabb}
 use Rattle.world.specs.declared.Found.the-variants.{Here, End}

@@ -6,10 +6,10 @@ use lib.IntN.{pos, _-ℤ_}
 use lib.Ieee.{Float, binary64, lt, le, eq, add, sub, mul, div, ofBits}
 use Rattle.floats.specs.Floats.{E, nought, smaller, larger}
 use Rattle.cells.specs.Cells.{floorCell, ceilCell}
-use Rattle.cells.specs.Ranges.{range}
-use Rattle.cells.specs.Regions.{cellsOf}
-use Rattle.cells.specs.declared.regions.Region.{Region}
-use Rattle.cells.specs.declared.regions.Spot.{Spot}
+use Rattle.regions.specs.Ranges.{range}
+use Rattle.regions.specs.Regions.{cellsOf}
+use Rattle.regions.specs.declared.Region.{Region}
+use Rattle.regions.specs.declared.Spot.{Spot}
 use Rattle.world.specs.declared.Point.{Point}
 use Rattle.world.specs.declared.Aabb.{Aabb}
 use Rattle.world.specs.Boxes.{one, span}

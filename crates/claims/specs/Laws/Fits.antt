@@ -10,7 +10,7 @@ use lib.Ieee.Bits.{ofBits-fits}
 use lib.Ieee.Fits.{add-fits, sub-fits, cond-fits}
 use Rattle.floats.specs.Floats.{E, nought, larger}
 use Rattle.cells.specs.Cells.{floorCell}
-use Rattle.cells.specs.Ranges.{gather, along}
+use Rattle.regions.specs.Ranges.{gather, along}
 use Rattle.world.specs.declared.Point.{Point}
 use Rattle.world.specs.declared.Aabb.{Aabb}
 use Rattle.world.specs.declared.Body.{Body}

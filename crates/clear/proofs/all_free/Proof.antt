@@ -7,8 +7,8 @@ use mir.Syntax.{w64}
 use mir.Val.{SFits}
 use mir.Facts.{toZ-ofZ}
 use borrow.Author.Needs.{needs}
-use Rattle.cells.specs.Regions.{cellsOf}
-use Rattle.cells.specs.RegionLaws.{toCome, Proper, begun, taken, still-proper, fewer}
+use Rattle.regions.specs.Regions.{cellsOf}
+use Rattle.regions.specs.RegionLaws.{toCome, Proper, begun, taken, still-proper, fewer}
 use Rattle.world.specs.Space.{Space, space}
 use Rattle.clear.specs.Clear.{allFree}
 use Rattle.clear.specs.Laws.{freeAt, turn, goes-on, ends}

@@ -1,6 +1,6 @@
 -- `clear::clear_area` meets its contract. Assumes nothing.
 use mathlib.Core.Path.{_∙_}
-use Rattle.cells.specs.RangeLaws.{less-none}
+use Rattle.regions.specs.RangeLaws.{less-none}
 use Rattle.clear.specs.Clear.{around, clear}
 use Rattle.clear.proofs.clear_area.Statement.{statement}
 use Rattle.clear.proofs.clear_area.Tie as tie

@@ -9,8 +9,8 @@ use lib.Ieee.{Float}
 use mir.Syntax.{w64}
 use mir.Val.{SFits, toZ, ofZ}
 use mir.Facts.{toZ-ofZ}
-use Rattle.cells.specs.Ranges.{count, along}
-use Rattle.cells.specs.RangeLaws.{count-falls, fold-on, fold-ends, next-fits}
+use Rattle.regions.specs.Ranges.{count, along}
+use Rattle.regions.specs.RangeLaws.{count-falls, fold-on, fold-ends, next-fits}
 use Rattle.world.specs.declared.Window.{Window}
 use Rattle.world.specs.Space.{space}
 use Rattle.heights.specs.declared.Band.{Band}

@@ -2,7 +2,7 @@
 use mathlib.Core.Path.{_≡_, sym, _∙_}
 use mathlib.Core.List.{List}
 use denote.Ref.{now}
-use Rattle.cells.specs.Regions.{cellsOf}
+use Rattle.regions.specs.Regions.{cellsOf}
 use Rattle.world.specs.Space.{space}
 use Rattle.support.specs.Cover.{enough}
 use Rattle.support.specs.Support.{Shape, shapesAt, carried}

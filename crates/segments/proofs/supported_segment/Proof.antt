@@ -1,6 +1,6 @@
 -- `segments::supported_segment` meets its contract. Assumes nothing.
 use mathlib.Core.Path.{_∙_}
-use Rattle.cells.specs.RangeLaws.{less-none}
+use Rattle.regions.specs.RangeLaws.{less-none}
 use Rattle.support.specs.Support.{beneath, shapesUnder, supported}
 use Rattle.segments.proofs.supported_segment.Statement.{statement}
 use Rattle.segments.proofs.supported_segment.Tie as tie

@@ -8,9 +8,9 @@ use mir.Syntax.{w64}
 use mir.Val.{SFits}
 use mir.Facts.{toZ-ofZ}
 use borrow.Author.Needs.{needs}
-use Rattle.cells.specs.declared.regions.Spot.{Spot}
-use Rattle.cells.specs.Regions.{cellsOf}
-use Rattle.cells.specs.RegionLaws.{toCome, Proper, begun, taken, still-proper, fewer}
+use Rattle.regions.specs.declared.Spot.{Spot}
+use Rattle.regions.specs.Regions.{cellsOf}
+use Rattle.regions.specs.RegionLaws.{toCome, Proper, begun, taken, still-proper, fewer}
 use Rattle.world.specs.Space.{Space, space}
 use Rattle.support.specs.declared.Reach.{Reach}
 use Rattle.support.specs.Support.{Shape, shapesOf, shapesAt}

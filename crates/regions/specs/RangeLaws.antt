@@ -9,8 +9,8 @@ use lib.Signed.{mag, leZ}
 use mir.Syntax.{w64}
 use mir.Val.{SFits, toZ, ofZ}
 use mir.Facts.{toZ-ofZ, toZ-pos}
 use Rattle.cells.specs.Parts.{over, under, sum, difference, le-yes, le-no, within, lower, over-mag, under-mag, equal}
-use Rattle.cells.specs.Ranges.{count, gather, along}
+use Rattle.regions.specs.Ranges.{count, gather, along}
 
 -- ---- the first cell of a range, then the rest
 

@@ -4,10 +4,10 @@ use mathlib.Core.Bool.{true, false, _&&_, cond}
 use mathlib.Core.List.{List, [], _∷_}
 use lib.IntN.{pos, _+ℤ_}
 use lib.Signed.{ltZ, leZ}
-use Rattle.cells.specs.declared.regions.Region.{Region}
-use Rattle.cells.specs.declared.regions.Spot.{Spot}
-use Rattle.cells.specs.declared.regions.Cursor.{Cursor}
-use Rattle.cells.specs.Ranges.{along}
+use Rattle.regions.specs.declared.Region.{Region}
+use Rattle.regions.specs.declared.Spot.{Spot}
+use Rattle.regions.specs.declared.Cursor.{Cursor}
+use Rattle.regions.specs.Ranges.{along}
 
 -- the cells, in that order
 unfoldable pub cellsOf : Region → List Spot

@@ -1,12 +1,12 @@
--- `cells::ranges::reached` meets its contract. Assumes nothing.
+-- `regions::reached` meets its contract. Assumes nothing.
 use Prim.Native.Nat.{_^_, _<_}
 use native.Mathlib.Omega.{arith}
 use borrow.Author.Needs.{needs}
 use Rattle.cells.specs.Cells.{floorCell, ceilCell}
 use Rattle.cells.specs.CellLaws.{floor-range, ceil-range}
-use Rattle.cells.specs.RangeLaws.{less-fits, less-is}
-use Rattle.cells.proofs.ranges.reached.Statement.{statement}
-use Rattle.cells.proofs.ranges.reached.Tie as tie
+use Rattle.regions.specs.RangeLaws.{less-fits, less-is}
+use Rattle.regions.proofs.reached.Statement.{statement}
+use Rattle.regions.proofs.reached.Tie as tie
 
 few : (c : tie.After-floor-cell) → c .before .args .below < 2 ^ 31
 few c = search needs

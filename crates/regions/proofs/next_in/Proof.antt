@@ -1,4 +1,4 @@
--- `cells::regions::next_in` meets its contract. Assumes nothing.
+-- `regions::next_in` meets its contract. Assumes nothing.
 use native.Mathlib.Omega.{arith}
 use mathlib.Core.Bool.{Bool, true}
 use mathlib.Core.Path.{_≡_, _∙_}
@@ -8,10 +8,10 @@ use mir.Syntax.{w64}
 use mir.Val.{SFits, toZ, ofZ}
 use mir.Facts.{toZ-ofZ}
 use borrow.Author.Needs.{needs}
 use Rattle.cells.specs.Parts.{sum, lt-yes, within, upper, lower}
-use Rattle.cells.specs.Regions.{nextIn}
-use Rattle.cells.proofs.regions.next_in.Statement.{statement}
-use Rattle.cells.proofs.regions.next_in.Tie as tie
+use Rattle.regions.specs.Regions.{nextIn}
+use Rattle.regions.proofs.next_in.Statement.{statement}
+use Rattle.regions.proofs.next_in.Tie as tie
 
 -- a number as the machine reads it back from its bits
 abbrev again : ℤ → ℤ

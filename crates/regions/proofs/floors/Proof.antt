@@ -1,11 +1,11 @@
--- `cells::ranges::floors` meets its contract. Assumes nothing.
+-- `regions::floors` meets its contract. Assumes nothing.
 use Prim.Native.Nat.{_^_, _<_}
 use borrow.Author.Needs.{needs}
 use Rattle.cells.specs.Cells.{floorCell}
 use Rattle.cells.specs.CellLaws.{floor-range}
-use Rattle.cells.specs.RangeLaws.{small-is, less-fits, less-is}
-use Rattle.cells.proofs.ranges.floors.Statement.{statement}
-use Rattle.cells.proofs.ranges.floors.Tie as tie
+use Rattle.regions.specs.RangeLaws.{small-is, less-fits, less-is}
+use Rattle.regions.proofs.floors.Statement.{statement}
+use Rattle.regions.proofs.floors.Tie as tie
 
 few : (c : tie.After-floor-cell) → c .before .args .below < 2 ^ 31
 few c = search needs

@@ -7,14 +7,14 @@ use mathlib.Core.List.{List, [], _∷_, _++_, append-assoc}
 use lib.IntN.{ℤ, pos, _+ℤ_}
 use lib.ListN.{length}
 use lib.Signed.{ltZ, leZ}
-use Rattle.cells.specs.declared.ranges.Range.{Range}
-use Rattle.cells.specs.declared.regions.Region.{Region}
-use Rattle.cells.specs.declared.regions.Spot.{Spot}
-use Rattle.cells.specs.declared.regions.Cursor.{Cursor}
+use Rattle.regions.specs.declared.Range.{Range}
+use Rattle.regions.specs.declared.Region.{Region}
+use Rattle.regions.specs.declared.Spot.{Spot}
+use Rattle.regions.specs.declared.Cursor.{Cursor}
 use Rattle.cells.specs.Parts.{sum, lt-yes, lt-no, le-yes, le-is}
-use Rattle.cells.specs.Ranges.{along}
-use Rattle.cells.specs.Regions.{cellsOf, firstIn, nextIn}
-use Rattle.cells.specs.RangeLaws.{along-more, along-none, along-empty}
+use Rattle.regions.specs.Ranges.{along}
+use Rattle.regions.specs.Regions.{cellsOf, firstIn, nextIn}
+use Rattle.regions.specs.RangeLaws.{along-more, along-none, along-empty}
 
 -- ---- what is left from a cell on
 

@@ -1,12 +1,12 @@
--- `cells::regions::first_in` meets its contract. Assumes nothing.
+-- `regions::first_in` meets its contract. Assumes nothing.
 use mathlib.Core.Path.{_≡_}
 use mir.Syntax.{w64}
 use mir.Val.{toZ, ofZ}
 use mir.Facts.{toZ-ofZ}
 use borrow.Author.Needs.{needs}
-use Rattle.cells.specs.Regions.{firstIn}
-use Rattle.cells.proofs.regions.first_in.Statement.{statement}
-use Rattle.cells.proofs.regions.first_in.Tie as tie
+use Rattle.regions.specs.Regions.{firstIn}
+use Rattle.regions.proofs.first_in.Statement.{statement}
+use Rattle.regions.proofs.first_in.Tie as tie
 
 -- the ends of the ranges are what the machine reads back from their bits
 module _ (c : tie.After-struct-told) where

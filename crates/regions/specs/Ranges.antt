@@ -2,8 +2,8 @@
 use Prim.Native.Nat.{ℕ, zero, suc}
 use mathlib.Core.List.{List, [], _++_}
 use lib.IntN.{ℤ, pos, _+ℤ_, _-ℤ_}
 use Rattle.cells.specs.Parts.{over}
-use Rattle.cells.specs.declared.ranges.Range.{Range}
+use Rattle.regions.specs.declared.Range.{Range}
 
 -- how many cells there are from low to high
 unfoldable pub count : ℤ → ℤ → ℕ

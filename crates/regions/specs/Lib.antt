@@ -1,0 +1,4 @@
+pub mod Ranges
+pub mod RangeLaws
+pub mod Regions
+pub mod RegionLaws
