@@ -1,5 +1,5 @@
 -- Points and boxes that differ at most in signs of zeros: an area is clear where the other one is, and a point supports itself and what is alike.
-use mathlib.Core.Path.{_≡_, refl, sym, ap, _∙_}
+use mathlib.Core.Path.{_≡_, refl, sym, _∙_}
 use mathlib.Core.Bool.{true, cond}
 use mathlib.Core.Option.{Option, none, some}
 use mathlib.Core.List.{List, [], _∷_}
@@ -7,7 +7,6 @@ use lib.Dec.{T}
 use lib.Ieee.{Float, binary64, fits, lt, le, eq, add, sub, ofBits}
 use lib.Ieee.Fits.{add-fits, sub-fits}
 use Rattle.floats.specs.Floats.{E, nought, smaller, larger, canonical}
-use Rattle.cells.specs.Cells.{floorCell, ceilCell}
 use Rattle.regions.specs.declared.Spot.{Spot}
 use Rattle.world.specs.declared.Point.{Point}
 use Rattle.world.specs.declared.Aabb.{Aabb}

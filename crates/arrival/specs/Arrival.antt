@@ -3,7 +3,7 @@
 use Prim.Native.Nat.{ℕ}
 use mathlib.Core.Path.{_≡_, refl, sym, ap, _∙_}
 use mathlib.Core.Bool.{Bool, true, false, _&&_, cond}
-use mathlib.Core.Option.{Option, some}
+use mathlib.Core.Option.{some}
 use borrow.Author.Tests.{eqb-true}
 use lib.Dec.{T, eqb}
 use lib.Ieee.{Float, binary64, fits, lt, le, eq, add, sub, neg, ofBits, toBits}

@@ -1,12 +1,11 @@
 -- Laws that the loops go by.
-use Prim.Native.Nat.{ℕ, suc, _+_, _-_, _*_, _≤_, _<_}
+use Prim.Native.Nat.{ℕ, _+_, _-_, _*_, _<_}
 use native.Mathlib.Omega.{arith}
 use mathlib.Core.Path.{_≡_, refl, sym}
 use mathlib.Core.Bool.{Bool, true, false, not, _&&_, _||_}
 use mathlib.Core.List.{List, _∷_, map}
 use lib.Dec.{ltb}
 use lib.ListN.{drop}
-use borrow.Author.Tests.{ltb-true, ltb-false}
 use Rattle.regions.specs.declared.Region.{Region}
 use Rattle.regions.specs.declared.Spot.{Spot}
 use Rattle.regions.specs.declared.Cursor.{Cursor}

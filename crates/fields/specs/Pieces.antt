@@ -1,16 +1,15 @@
 -- Fields of a piece of a table: behind an offset, before one, in front of other bytes and behind them; and a table with a field set, piece by piece.
-use Prim.Native.Nat.{ℕ, zero, suc, _+_, _*_, _/_, _%_, _^_, _<_, _≤_, min}
+use Prim.Native.Nat.{ℕ, zero, suc, _+_, _*_, _/_, _%_, _^_, _<_, _≤_}
 use native.Mathlib.Omega.{arith}
 use native.Mathlib.Nat.{mod-one, pow-zero, pow-suc, mod-eq-of-lt, div-eq-of-lt, add-mul-mod-self-left, add-mul-div-left, min-le-right, le-min}
 use mathlib.Core.Path.{_≡_, refl, sym, ap, _∙_}
 use mathlib.Core.Bool.{Bool, true, false, cond}
 use mathlib.Core.List.{List, [], _∷_, _++_, append-assoc}
-use lib.Dec.{leb}
 use lib.ListN.{length, getD, set, take, drop, length-append, length-take, length-drop, length-set, List·getD-append}
 use lib.Seq.{sets, sets-eq, drop-append-seam, drop-cons, getD-drop, getD-take, take-set-le, drop-set-lt, set-append-left}
 use lib.Arith.{mod-mul}
 use Rattle.fields.specs.Little.{leAt, bytesOf, fitsAt, field, withField}
-use Rattle.fields.specs.Laws.{field-in, field-out, field-parts, with-in, with-out, length-bytes, le-same, leb-same, positive}
+use Rattle.fields.specs.Laws.{field-in, field-parts, with-in, length-bytes, le-same, leb-same, positive}
 
 -- ---- reading
 

@@ -1,5 +1,5 @@
 -- Laws of records, over the layout: what was written is read back, all else stays, and a room is its records in bytes with what lies past them.
-use Prim.Native.Nat.{ℕ, zero, suc, _+_, _*_, _^_, _<_, _≤_}
+use Prim.Native.Nat.{ℕ, zero, suc, _+_, _*_, _<_, _≤_}
 use native.Mathlib.Omega.{arith}
 use native.Mathlib.Nat.{add-zero, mul-zero, mul-suc}
 use mathlib.Core.Path.{_≡_, refl, sym, ap, _∙_}
@@ -10,7 +10,7 @@ use lib.Seq.{take-add, drop-drop, take-at, length-take-le, set-append-left, set-
 use Rattle.fields.specs.Little.{bytesOf, field, withField}
 use Rattle.fields.specs.Laws.{length-with, length-bytes, read-back, read-other}
 use Rattle.fields.specs.Pieces.{Bytes, field-below, bytes-field, with-is, take-with, drop-with}
-use Rattle.fields.specs.Records.{recordSize, fieldsAt, withFields, recordAt, withRecord, recordBytes, recordsBytes, Fill, firsts}
+use Rattle.fields.specs.Records.{recordSize, fieldsAt, withFields, recordBytes, recordsBytes, Fill, firsts}
 
 -- ---- what a write leaves
 

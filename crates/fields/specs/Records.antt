@@ -1,6 +1,6 @@
 -- Records (01: "Tables, little-endian records"): fields one behind another. A record's layout ws is the list of its fields' widths, as 8, 8, 8, 8, 8
 -- for a waypoint and 4, 4 for a cell. Its values are the list of its fields, as numbers.
-use Prim.Native.Nat.{ℕ, zero, suc, _+_, _*_, _^_, _<_}
+use Prim.Native.Nat.{ℕ, zero, suc, _+_, _^_, _<_}
 use mathlib.Core.List.{List, [], _∷_, _++_}
 use Rattle.fields.specs.Little.{bytesOf, field, withField}
 

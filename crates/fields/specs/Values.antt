@@ -1,6 +1,5 @@
 -- The i32 and f64 fields: what was written is read back, and what was written elsewhere changes none.
-use Prim.Native.Nat.{ℕ, _+_, _^_, _<_, _≤_}
-use native.Mathlib.Omega.{arith}
+use Prim.Native.Nat.{ℕ, _+_, _≤_}
 use mathlib.Core.Path.{_≡_, ap, _∙_}
 use mathlib.Core.List.{List}
 use mathlib.Core.Logic.{_⊎_}

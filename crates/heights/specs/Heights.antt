@@ -1,8 +1,8 @@
 -- 01, Graph step: the heights of a column that a step may go to. Definitions only.
 use mathlib.Core.Bool.{Bool, _&&_, _||_, cond}
 use mathlib.Core.List.{List, [], _∷_}
-use lib.IntN.{ℤ, pos, _-ℤ_}
-use lib.Ieee.{Float, binary64, lt, le, add, sub}
+use lib.IntN.{pos, _-ℤ_}
+use lib.Ieee.{Float, binary64, le, add, sub}
 use Rattle.floats.specs.Floats.{E}
 use Rattle.cells.specs.Cells.{floorCell}
 use Rattle.regions.specs.Ranges.{along}

@@ -1,11 +1,11 @@
 -- The next smallest: the least of the tops that are not within E of the last kept, found in one pass, is the next of the heights in order.
 use Prim.Native.Nat.{ℕ, zero, suc}
 use mathlib.Core.Path.{_≡_, refl, sym, ap, _∙_, subst}
-use mathlib.Core.Bool.{Bool, true, false, not, _&&_, _||_, cond}
+use mathlib.Core.Bool.{Bool, true, false, not, cond}
 use mathlib.Core.List.{List, [], _∷_, _++_, foldl}
 use lib.Ieee.{Float, lt, le, isNan}
 use native.Mathlib.Omega.{arith}
-use Rattle.floats.specs.Order.{le-refl, le-trans, le-left, le-right, lt-le, lt-trans, lt-left, lt-right, not-lt, not-le, le-not-lt, lt-le-trans, le-lt-trans}
+use Rattle.floats.specs.Order.{le-refl, le-trans, lt-le, lt-trans, not-lt, not-le, le-not-lt}
 use Rattle.regions.specs.Ranges.{gather}
 use Rattle.heights.specs.declared.Height.{Height}
 use Rattle.heights.specs.declared.Height.the-variants.{At, None}

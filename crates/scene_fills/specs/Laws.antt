@@ -2,10 +2,10 @@
 use Prim.Native.Nat.{ℕ, _+_, _*_, _≤_, _<_}
 use native.Mathlib.Omega.{arith}
 use native.Mathlib.Nat.{mul-le-mul}
-use mathlib.Core.Path.{_≡_, refl, sym, ap, _∙_}
+use mathlib.Core.Path.{_≡_, refl}
 use mathlib.Core.Bool.{Bool, true, false, cond}
 use mathlib.Core.List.{List}
-use borrow.Author.Tests.{ltb-true, ltb-false}
+use borrow.Author.Tests.{ltb-true}
 use lib.Dec.{T, ltb}
 use lib.IntN.{ℤ, pos, negsuc, _-ℤ_, natAbs}
 use lib.Signed.{ltZ, nonNeg}
@@ -16,7 +16,6 @@ use Rattle.cells.specs.Parts.{over, under, difference, size, lt-yes, lt-no, wit
 use Rattle.fields.specs.Little.{signedField}
 use Rattle.world.specs.declared.Window.{Window}
 use Rattle.tables.specs.BadWorld.{Sizes}
-use Rattle.scene_fills.specs.declared.Span.{Span}
 use Rattle.scene_fills.specs.declared.Fill.{Fill}
 use Rattle.scene_fills.specs.Fills.{endOf, spanOf, axisOf, fillOf}
 

@@ -1,16 +1,15 @@
 -- A read scene's tables are never a BadWorld: what the records leave, at the sizes in use, is by every rule of `tables`. The records are bytes.
-use Prim.Native.Nat.{ℕ, zero, suc, _+_, _-_, _*_, _/_, _%_, _^_, _≤_, _<_}
+use Prim.Native.Nat.{ℕ, _+_, _-_, _*_, _/_, _^_, _≤_, _<_}
 use native.Mathlib.Omega.{arith}
-use mathlib.Core.Path.{_≡_, refl, sym, ap, _∙_}
-use mathlib.Core.Bool.{Bool, true, false, not, _&&_, cond}
+use mathlib.Core.Path.{_≡_, refl, ap, _∙_}
+use mathlib.Core.Bool.{Bool, true, false, _&&_, cond}
 use mathlib.Core.List.{List, [], _∷_}
 use mathlib.Core.Logic.{_⊎_, inl, inr, ⊎-elim}
-use borrow.Author.Tests.{leb-true, ltb-true, ltb-false, eqb-true, eqb-false, eq-eqb, ne-eqb, not-true}
+use borrow.Author.Tests.{leb-true, ltb-true, ltb-false, eqb-true, eqb-false}
 use lib.Dec.{leb, ltb, eqb}
-use lib.Ieee.{binary64, ofBits}
 use lib.ListN.{length, take}
 use lib.Seq.{length-take-le}
-use Rattle.fields.specs.Little.{field, floatField, withField}
+use Rattle.fields.specs.Little.{field, floatField}
 use Rattle.fields.specs.Laws.{length-with, read-back, read-other}
 use Rattle.fields.specs.Pieces.{Bytes, field-take}
 use Rattle.world.specs.declared.Window.{Window}
@@ -20,7 +19,6 @@ use Rattle.tables.specs.Laws.{sizes-of}
 use Rattle.tables.specs.Good.{GoodWorld, good-is-not-bad}
 use Rattle.scene_rules.specs.declared.Counts.{Counts}
 use Rattle.scene_records.specs.Layout.{kindOf, numberOf, windowOf, volume, cellCount, boxOf}
-use Rattle.scene_rules.specs.Rules.{roomInShape}
 use Rattle.scene_fills.specs.declared.Fill.{Fill}
 use Rattle.scene_tables.specs.Made.{inTurn, withEntry, unfilled, emptyShapes, withShape, withBox}
 use Rattle.scene_fills.specs.Fills.{fillOf, cellOf, rowStart, rowOf, rowAt, layerOf, boxFilled, filled}
@@ -30,7 +28,7 @@ use Rattle.scene_state.specs.declared.state.Scene.{Scene}
 use Rattle.scene_state.specs.State.{empty, inUse}
 use Rattle.scene_step.specs.Next.{ShapeFits, windowAfter, countAfter, withBoxCounted, countsAfter, next, goodIn}
 use Rattle.scene.specs.Scene.{cellsAfter, shapesAfter, boxesAfter, cellsRead, permsRead, shapesRead, boxesRead, Tables, tablesRead, Read, readFrom, onward, readAll}
-use Rattle.scene_state.specs.Answers.{Answer, given, refused, begun, ended}
+use Rattle.scene_state.specs.Answers.{given, refused, begun, ended}
 use Rattle.scene_step.specs.Laws.{left-true, right-true, allowed, not-falling, by-box-rule, no-size-above, few-cells, behind-three}
 
 -- ---- shapes: n of them, the last with so many boxes, of so many in all

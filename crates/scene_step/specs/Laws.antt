@@ -1,5 +1,5 @@
 -- What a good record says, taken apart: what it allows to be counted, so that no sum of the reader wraps, and what it keeps of the tables' rules.
-use Prim.Native.Nat.{ℕ, _+_, _≤_, _<_}
+use Prim.Native.Nat.{ℕ, _+_, _≤_}
 use native.Mathlib.Omega.{arith}
 use mathlib.Core.Path.{_≡_, refl, sym, _∙_}
 use mathlib.Core.Bool.{Bool, true, false, not, _&&_, cond}
@@ -13,7 +13,7 @@ use Rattle.scene_records.specs.Layout.{kindOf, numberOf, threeZeros, zeros, unu
 use Rattle.scene_rules.specs.Rules.{inOrder, roomInShape, shapeRule, stateRule, windowRule, rule, good}
 use Rattle.scene_rules.specs.Laws.{kind-3, kind-4, kind-5}
 use Rattle.scene_state.specs.declared.state.Reading.{Reading}
-use Rattle.scene_state.specs.Answers.{Answer, given, refused}
+use Rattle.scene_state.specs.Answers.{given, refused}
 use Rattle.scene_step.specs.Next.{countAfter, withBoxCounted, countsAfter, next, goodIn, step, ShapeFits, Allowed}
 
 -- both of two tests pass

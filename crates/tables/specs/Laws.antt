@@ -1,22 +1,22 @@
 -- Laws of bad worlds: what the loops go by, that the order of the tests does not matter, and what a world that is not bad is.
-use Prim.Native.Nat.{ℕ, zero, suc, _+_, _*_, _/_, _%_, _≤_, _<_}
+use Prim.Native.Nat.{ℕ, zero, suc, _+_, _*_, _%_, _≤_, _<_}
 use native.Mathlib.Omega.{arith}
 use native.Mathlib.Nat.{mul-le-mul}
 use native.Mathlib.Numerals.{add-one}
 use mathlib.Core.Path.{_≡_, refl, sym, ap, _∙_}
-use mathlib.Core.Bool.{Bool, true, false, not, _&&_, _||_, and-false, or-false, or-true}
+use mathlib.Core.Bool.{Bool, true, false, not, _&&_, _||_, and-false, or-true}
 use mathlib.Core.List.{List}
-use borrow.Author.Tests.{lt-ltb, le-ltb, ltb-false, eq-eqb, ne-eqb, eqb-true, eqb-false, not-false}
+use borrow.Author.Tests.{ltb-false, eq-eqb, ne-eqb, eqb-true, eqb-false}
 use lib.Dec.{ltb, eqb}
 use lib.ListN.{length}
-use lib.Ieee.{Float, nan, inf, fin, binary64, ofBits, neg, le, lt, eq}
+use lib.Ieee.{Float, nan, inf, fin, ofBits, neg, le, lt, eq}
 use lib.Ieee.Scale.{finite}
 use Rattle.world.specs.declared.Point.{Point}
 use Rattle.world.specs.declared.Aabb.{Aabb}
 use Rattle.world.specs.declared.Window.{Window}
 use Rattle.world.specs.declared.Entry.the-variants.{Of}
 use Rattle.world.specs.declared.Found.the-variants.{Here}
-use Rattle.world.specs.Space.{firstOf, countOf, entryAt, boxAt, boxHere}
+use Rattle.world.specs.Space.{entryAt, boxHere}
 use Rattle.world.specs.Laws.{entry-is, box-is}
 use Rattle.tables.specs.BadWorld.{fromTo, eachOf, each, ordered, boxRule, sizeAbove, cellBytes, notWhole, records, some, countAbove, runPast, offRule, badWorld, Sizes, badRun, badShape}
 

@@ -1,9 +1,9 @@
 // Bad worlds (01, "Numbers given back", 3 BadWorld): whether the tables are no world that 01 allows. Every record is judged, used or not, in one
 // pass over its table; the cell table and the permissions are never bad by their numbers.
 ghost use mathlib.Core.Path.{_≡_};
-ghost use Prim.Native.Nat.{_*_, _/_, _≤_};
+ghost use Prim.Native.Nat.{_*_, _/_};
 ghost use lib.ListN.{length};
-ghost use Rattle.tables.specs.BadWorld.{Sizes, fromTo, eachOf, boxRule, sizeAbove, cellBytes, notWhole, badRun, some, badShape, offRule, badWorld};
+ghost use Rattle.tables.specs.BadWorld.{Sizes, fromTo, eachOf, boxRule, sizeAbove, cellBytes, badRun, some, badShape, offRule, badWorld};
 use world::Aabb;
 use world::Entry;
 use world::Found;

@@ -1,6 +1,6 @@
 -- Laws of the tables and the space. First what callers meet: the block of a cell, known or unknown, and a run of boxes as a loop goes over it; then
 -- the window, records and boxes by the tests of the code.
-use Prim.Native.Nat.{ℕ, zero, suc, _+_, _-_, _*_, _/_, _%_, _^_, _≤_, _<_}
+use Prim.Native.Nat.{ℕ, zero, suc, _+_, _-_, _*_, _/_, _%_, _≤_, _<_}
 use native.Mathlib.Omega.{arith}
 use native.Mathlib.Nat.{mul-le-mul}
 use mathlib.Core.Path.{_≡_, refl, sym, ap, _∙_}
@@ -11,7 +11,6 @@ use lib.IntN.{ℤ, pos, negsuc, _+ℤ_, _-ℤ_, natAbs}
 use lib.Signed.{ltZ, leZ, nonNeg}
 use mir.Syntax.{w32, w64}
 use mir.Val.{SFits, Fits}
-use mir.Facts.{sfits-widen}
 use Rattle.cells.specs.Parts.{over, under, sum, difference, size, lt-yes, lt-no, le-yes, le-no, within, upper, lower, natural}
 use mathlib.Core.List.{List, [], _∷_, map}
 use lib.ListN.{length, getD, take, drop, length-drop, drop-of-length-le}

@@ -1,5 +1,4 @@
 -- `boxes::offset` meets its contract. Assumes nothing.
-use mathlib.Core.Path.{_∙_, ap}
 use Rattle.world.specs.Boxes.{moved}
 use Rattle.boxes.proofs.offset.Statement.{statement}
 use Rattle.boxes.proofs.offset.Tie as tie

@@ -5,7 +5,7 @@ use denote.Ref.{now}
 use mir.Syntax.{w64}
 use mir.Val.{SFits}
 use mir.Facts.{toZ-ofZ}
-use Rattle.world.specs.Boxes.{corner, meets, moved, cube, voxel}
+use Rattle.world.specs.Boxes.{corner, meets, voxel}
 use Rattle.world.specs.Space.{cellAt, space}
 use Rattle.clear.specs.Laws.{unknown, may-not, may-be}
 use borrow.Author.Needs.{needs}

@@ -1,5 +1,5 @@
 -- `heights::next_height` meets its contract. Assumes nothing.
-use mathlib.Core.Path.{_≡_, sym, ap, _∙_}
+use mathlib.Core.Path.{_≡_, _∙_}
 use borrow.Author.Needs.{needs}
 use denote.Ref.{now}
 use mir.Syntax.{w64}

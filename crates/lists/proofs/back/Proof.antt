@@ -5,7 +5,7 @@ use mathlib.Core.Path.{_≡_, refl, _∙_}
 use denote.Ref.{now}
 use borrow.Author.Count.{falls-down}
 use native.Mathlib.Nat.{le-refl, le-trans, sub-le}
-use Prim.Native.Nat.{ℕ, _≤_, _<_, _-_, _+_, _*_}
+use Prim.Native.Nat.{_≤_, _-_}
 use lib.ListN.{length}
 use Rattle.lists.specs.Laws.{Backed, backed-none, backed-more, backed-all, waypoint-is, place-before}
 use Rattle.lists.proofs.back.Statement.{statement}

@@ -1,5 +1,5 @@
 -- `places::standable` meets its contract. Assumes nothing.
-use mathlib.Core.Path.{_≡_, refl}
+use mathlib.Core.Path.{refl}
 use Rattle.places.specs.Places.{standable}
 use Rattle.places.specs.Laws.{asked, spared}
 use Rattle.places.proofs.standable.Statement.{statement}

@@ -16,20 +16,20 @@ use Rattle.exploration.specs.Explore.{seek, headOr}
 use Rattle.exploration.specs.Choose.{choose, scan, keep, swap}
 use Rattle.exploration.specs.Estimates as estimates
 use Rattle.exploration.specs.Estimates.{sooner}
-use Rattle.exploration.specs.Laws.Lists.{nth-left, nth-last, nth-lt, map-snoc, none-some}
+use Rattle.exploration.specs.Laws.Lists.{nth-left, nth-last, nth-lt, map-snoc}
 use Rattle.exploration.specs.Laws.Choices.{choose-some}
 use Rattle.fields.specs.Pieces.{Bytes}
-use Rattle.fields.specs.Records.{firsts, recordBytes, recordsBytes, recordAt}
-use Rattle.fields.specs.RecordLaws.{length-firsts, firsts-same, firsts-more, firsts-set, record-bytes, room-is}
+use Rattle.fields.specs.Records.{firsts, recordsBytes}
+use Rattle.fields.specs.RecordLaws.{length-firsts, firsts-more, firsts-set, record-bytes, room-is}
 use Rattle.rooms.specs.declared.Feet.{Feet}
 use Rattle.rooms.specs.declared.Label.{Label}
 use Rattle.rooms.specs.declared.NodeRecord.{NodeRecord}
 use Rattle.rooms.specs.declared.Entry.{Entry}
 use Rattle.rooms.specs.Waypoints.{samePoint}
-use Rattle.rooms.specs.Records.{nodeLayout, nodeWords, nodeFrom, nodeAt, entryLayout, entryWords, entryAt}
+use Rattle.rooms.specs.Records.{nodeLayout, nodeAt, entryLayout, entryAt}
 use Rattle.rooms.specs.Scans as scans
-use Rattle.rooms.specs.Scans.{waits, isAt, firstAt, firstOf, indexOr, nextOf}
-use Rattle.rooms.specs.Rooms.{Note, nobody, parentOf, nodeOf, nodeIn, nodesOf, nodeWaits, nodeSooner, parentWord, recordOf, nodeBytes, entryBytes, nodeRoom, frontRoom}
+use Rattle.rooms.specs.Scans.{waits, isAt, firstAt, indexOr, nextOf}
+use Rattle.rooms.specs.Rooms.{Note, nobody, parentOf, nodeOf, nodeIn, nodesOf, nodeWaits, nodeSooner, parentWord, nodeBytes, entryBytes, nodeRoom, frontRoom}
 use Rattle.rooms.specs.Laws.Writes.{WroteNode, WroteEntry}
 use Rattle.rooms.specs.Laws.Scans.{First, first-is}
 

@@ -1,6 +1,6 @@
 -- `tables::bad_boxes` meets its contract. Assumes nothing.
 use denote.Ref.{now}
-use Prim.Native.Nat.{_≤_, _<_, _-_, _*_, _/_}
+use Prim.Native.Nat.{_≤_, _<_, _-_, _/_}
 use native.Mathlib.Omega.{arith}
 use mathlib.Core.Path.{_≡_, sym, ap, _∙_}
 use mathlib.Core.Bool.{false, not}

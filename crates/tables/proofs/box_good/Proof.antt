@@ -1,5 +1,5 @@
 -- `tables::box_good` meets its contract. Assumes nothing.
-use Rattle.tables.specs.BadWorld.{eachOf, each, ordered}
+use Rattle.tables.specs.BadWorld.{each, ordered}
 use Rattle.tables.specs.Laws.{rule-is}
 use Rattle.tables.proofs.box_good.Statement.{statement}
 use Rattle.tables.proofs.box_good.Tie as tie

@@ -1,13 +1,10 @@
 -- `visits::close` meets its contract. Assumes nothing.
-use native.Mathlib.Omega.{arith}
 use native.Mathlib.Nat.{lt-of-lt-of-le}
-use Prim.Native.Nat.{_+_, _<_}
+use Prim.Native.Nat.{_<_}
 use mathlib.Core.Path.{_≡_, refl, sym, subst, _∙_}
-use mathlib.Core.Bool.{true, false}
+use mathlib.Core.Bool.{true}
 use lib.ListN.{length}
 use borrow.Author.Tests.{not-true, not-false}
-use mir.Syntax.{w64}
-use mir.Val.{Fits}
 use denote.Ref.{now}
 use Rattle.exploration.specs.Laws.Lists.{true-false}
 use Rattle.rooms.specs.declared.NodeRecord.{NodeRecord}

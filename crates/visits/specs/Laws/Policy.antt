@@ -2,7 +2,7 @@
 use Prim.Native.Nat.{ℕ, _+_}
 use mathlib.Core.Path.{_≡_, refl}
 use mathlib.Core.Bool.{Bool, true, false}
-use mathlib.Core.Option.{Option, none, some}
+use mathlib.Core.Option.{some}
 use lib.Ieee.{lt}
 use Rattle.exploration.specs.Policy.{PolicyLaws}
 use Rattle.exploration.specs.Laws.Lists.{none-some}

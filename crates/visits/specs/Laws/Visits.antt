@@ -1,20 +1,20 @@
 -- The paths of the code through one step, one closing and the start, each in the definitions' words; and how they compose.
-use mathlib.Core.Path.{_≡_, refl, sym, ap, subst, _∙_}
-use mathlib.Core.Bool.{Bool, true, false, not, _&&_}
+use mathlib.Core.Path.{_≡_, refl, sym, ap, _∙_}
+use mathlib.Core.Bool.{true, false, not, _&&_}
 use mathlib.Core.Option.{Option, none, some}
 use mathlib.Core.List.{List, [], _∷_, _++_}
 use mathlib.Core.Logic.{_≢_}
 use Prim.Native.Nat.{ℕ, zero, suc, _+_, _*_, _/_, _^_, _≤_, _<_}
 use native.Mathlib.Omega.{arith}
 use native.Mathlib.Numerals.{add-one}
-use lib.Dec.{ltb, leb, eqb}
-use lib.ListN.{length, drop, set}
+use lib.Dec.{ltb, leb}
+use lib.ListN.{length, set}
 use mir.Syntax.{w64}
 use mir.Val.{Fits}
 use borrow.Author.Tests.{eq-eqb, ne-eqb, lt-ltb, le-ltb, le-leb, ltb-true, leb-true}
 use Rattle.exploration.specs.Graph.{Graph}
 use Rattle.exploration.specs.Policy.{Node}
-use Rattle.exploration.specs.Explore.{State, child, apply, effect, effectAt, effectKnown, visit, close, begin}
+use Rattle.exploration.specs.Explore.{State, child, apply, effect, effectAt, visit, begin}
 use Rattle.exploration.specs.Laws.Lists.{and-both, and-first, and-second, true-false}
 use Rattle.fields.specs.RecordLaws.{length-firsts}
 use Rattle.rooms.specs.declared.Feet.{Feet}
@@ -25,15 +25,14 @@ use Rattle.rooms.specs.declared.Counts.{Counts}
 use Rattle.rooms.specs.Records.{nodeAt, entryAt}
 use Rattle.rooms.specs.Scans.{firstAt}
 use Rattle.rooms.specs.Rooms.{Note, nobody, parentOf, nodeOf, nodeIn, nodesOf, stateOf}
-use Rattle.rooms.specs.Laws.Writes.{WroteNode, WroteEntry, PutNode, PutEntry}
+use Rattle.rooms.specs.Laws.Writes.{WroteNode, WroteEntry}
 use Rattle.rooms.specs.Laws.Rooms.{BySamePoint, nodes-set, nodes-more, seek-none, seek-some}
 use Rattle.visits.specs.declared.Aim.{Aim}
-use Rattle.visits.specs.declared.Closing.{Closing}
 use Rattle.visits.specs.declared.Visit.{Visit}
 use Rattle.visits.specs.declared.Visit.the-variants.{Counted}
 use Rattle.costs.specs.Costs.{costBy, estimateBy, cheaper, pushedAs, lowered}
-use Rattle.visits.specs.Best.{opened, idle, given, relaxed, best}
-use Rattle.visits.specs.Visits.{Ready, ready, Kept, Untouched, Near, Seen, countsBy, saysClosed, isShut, shutAt, Visited, VisitedIf, Closed, ClosedIf, startRecord, counted, Started, Begun}
+use Rattle.visits.specs.Best.{opened, idle, relaxed, best}
+use Rattle.visits.specs.Visits.{Ready, ready, Kept, Untouched, Near, Seen, countsBy, saysClosed, isShut, shutAt, Visited, VisitedIf, Closed, startRecord, counted, Started, Begun}
 
 -- ---- the bytes that stay, and the counts
 

@@ -3,7 +3,7 @@ use Rattle.scene_fills.specs.Fills.{spanOf}
 use mir.Val.{SFits}
 use mir.Syntax.{w32}
 use mir.Facts.{toZ-ofZ}
-use mathlib.Core.Path.{_≡_, _∙_}
+use mathlib.Core.Path.{_≡_}
 use Rattle.scene_fills.specs.Fills.{axisOf}
 use borrow.Author.Needs.{needs}
 use Rattle.scene_fills.proofs.fills.axis.Statement.{statement}

@@ -4,7 +4,7 @@ use denote.Ref.{now}
 use mir.Val.{SFits}
 use mir.Syntax.{w32}
 use mir.Facts.{toZ-ofZ}
-use mathlib.Core.Path.{_≡_, _∙_}
+use mathlib.Core.Path.{_≡_}
 use borrow.Author.Needs.{needs}
 use Rattle.scene_fills.proofs.fills.fill_of.Statement.{statement}
 use Rattle.scene_fills.proofs.fills.fill_of.Tie as tie

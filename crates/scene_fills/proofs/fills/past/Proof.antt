@@ -6,7 +6,7 @@ use mir.Syntax.{w64}
 use lib.IntN.{_-ℤ_}
 use lib.Signed.{ltZ}
 use mathlib.Core.Bool.{false}
-use mathlib.Core.Path.{_≡_, sym, _∙_}
+use mathlib.Core.Path.{_≡_}
 use Rattle.scene_fills.proofs.fills.past.Statement.{statement}
 use Rattle.scene_fills.proofs.fills.past.Tie as tie
 

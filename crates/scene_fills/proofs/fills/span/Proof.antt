@@ -1,5 +1,4 @@
 -- `scene_fills::fills::span` meets its contract. Assumes nothing.
-use Prim.Native.Nat.{_+_}
 use lib.IntN.{_-ℤ_}
 use Rattle.cells.specs.Parts.{over}
 use Rattle.scene_fills.specs.Fills.{spanOf}
@@ -7,7 +6,7 @@ use borrow.Author.Tests.{lt-ltb, le-ltb}
 use mir.Facts.{toZ-ofZ}
 use lib.Signed.{ltZ}
 use mathlib.Core.Bool.{true, false}
-use mathlib.Core.Path.{_≡_, sym, _∙_}
+use mathlib.Core.Path.{_≡_}
 use borrow.Author.Needs.{needs}
 use Rattle.scene_fills.proofs.fills.span.Statement.{statement}
 use Rattle.scene_fills.proofs.fills.span.Tie as tie

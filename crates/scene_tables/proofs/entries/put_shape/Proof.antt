@@ -4,7 +4,6 @@ use Rattle.fields.specs.Little.{withField}
 use Prim.Native.Nat.{ℕ, _+_, _*_}
 use mathlib.Core.List.{List}
 use mathlib.Core.Path.{ap, _∙_}
-use native.Mathlib.Omega.{arith}
 use borrow.Author.Needs.{needs}
 use Rattle.scene_tables.proofs.entries.put_shape.Statement.{statement}
 use Rattle.scene_tables.proofs.entries.put_shape.Tie as tie
