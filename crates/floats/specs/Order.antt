@@ -297,12 +297,5 @@ lt-le-trans x y z h k = go (lt x z) refl
     go true p = p
     go false p = false-true (sym (lt-not-le x y h) ∙ le-trans y z x k (not-lt x z (lt-left x y h) (le-right y z k) p))
 
-pub le-lt-trans : (x y z : Float) → le x y ≡ true → lt y z ≡ true → lt x z ≡ true
-le-lt-trans x y z h k = go (lt x z) refl
-  where
-    go : (b : Bool) → lt x z ≡ b → lt x z ≡ true
-    go true p = p
-    go false p = false-true (sym (lt-not-le y z k) ∙ le-trans z x y (not-lt x z (le-left x y h) (lt-right y z k) p) h)
-
 pub lt-trans : (x y z : Float) → lt x y ≡ true → lt y z ≡ true → lt x z ≡ true
 lt-trans x y z h k = lt-le-trans x y z h (lt-le y z k)

@@ -1,5 +1,5 @@
 -- The two rooms as a state of the search: record k of the node room with record k of the frontier room is node k. The state keeps every word of both, so
--- that any rooms are some state, and a state that is written back gives the same bytes (`Laws.Rooms`). Definitions only.
+-- that any rooms are some state, and its nodes, written back, are the node room's bytes (`Laws.Rooms`). Definitions only.
 use Prim.Native.Nat.{ℕ, _*_}
 use mathlib.Core.Bool.{Bool, not, cond}
 use mathlib.Core.Option.{Option, none, some}
@@ -66,12 +66,6 @@ recordOf n = record { feet = n .point; label = n .label; cost = n .note .cost; p
 abbrev pub nodeBytes : Node Feet Label Note → List ℕ
 nodeBytes n = recordBytes nodeLayout (nodeWords (recordOf n))
 
-abbrev pub entryBytes : Node Feet Label Note → List ℕ
-entryBytes n = recordBytes entryLayout (entryWords (n .note .entry))
-
 -- "the node room holds the retained nodes in discovery order, then its old bytes"
 abbrev pub nodeRoom : List ℕ → List (Node Feet Label Note) → List ℕ
 nodeRoom old ns = recordsBytes nodeBytes ns ++ drop (56 * length ns) old
-
-abbrev pub frontRoom : List ℕ → List (Node Feet Label Note) → List ℕ
-frontRoom old ns = recordsBytes entryBytes ns ++ drop (24 * length ns) old
