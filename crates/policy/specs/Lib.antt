@@ -2,7 +2,6 @@ pub mod Flags
 pub mod Answers
 pub mod Doors
 pub mod Permission
-pub mod Request
 pub mod DoorLaws
 pub mod PermissionLaws
 pub mod Unique

@@ -3,7 +3,6 @@ ghost use mathlib.Core.Path.{_≡_};
 ghost use Rattle.policy.specs.Answers.{passageNumber, filledNumber};
 ghost use Rattle.policy.specs.Doors.{doorPassage};
 ghost use Rattle.policy.specs.Permission.{permission, filled, permissionTable};
-ghost use Rattle.policy.specs.Request.{asked};
 use crate::doors::Passage;
 use crate::flags::Flags;
 
@@ -20,13 +19,6 @@ const SHAPED: u8 = OCCUPIED + SUPPORT + COLLIDES;
 const CROSSED: u8 = OCCUPIED + SUPPORT;
 
 const WALLED: u8 = SUPPORT + COLLIDES;
-
-// A search's range around the body, the nodes that it retains, and the highest drop on its way.
-const PATH_MAX_RANGE: f64 = 16.0;
-
-const PATH_NODE_BUDGET: u64 = 2048;
-
-const PATH_MAX_DROP: f64 = 3.0;
 
 // What a mob may be in, stand on and go through.
 pub struct WalkPolicy {
@@ -46,15 +38,6 @@ pub struct WalkPolicy {
 pub enum Filled {
     Whole,
     BadTable,
-}
-
-// The parts of a request that the policy and the body decide. Start and goal are the caller's.
-pub struct Asked {
-    pub max_range: f64,
-    pub node_budget: u64,
-    pub step_height: f64,
-    pub jump_height: f64,
-    pub max_drop: f64,
 }
 
 impl WalkPolicy {
@@ -114,22 +97,5 @@ impl WalkPolicy {
             permissions[i] = self.permission(in_water, Flags { bits });
         }
         Filled::Whole
-    }
-
-    // What a search for this policy asks, for a body that climbs steps of this height.
-    pub fn request(self, step_height: f64) -> Asked
-        ensures { λ r. ⌜ r ≡ asked self «step_height» ⌝ }
-    {
-        let mut jump_height: f64 = 0.0;
-        if self.can_jump {
-            jump_height = self.jump_height;
-        }
-        Asked {
-            max_range: PATH_MAX_RANGE,
-            node_budget: PATH_NODE_BUDGET,
-            step_height,
-            jump_height,
-            max_drop: PATH_MAX_DROP,
-        }
     }
 }
