@@ -25,8 +25,8 @@ use Rattle.outcomes.specs.Outcomes.{outcomeNumber}
 use Rattle.refusals.specs.Refusals.{withoutSearch}
 use Rattle.search.specs.FindWalkPath.{ended, found, outAfter}
 use Rattle.walk_back.specs.declared.Walked.the-variants.{Yes}
-use Rattle.walk_back.specs.WalkBack.{walked}
-use Rattle.claims.specs.Words.{withBudget, IsRoute, InF64}
+use Rattle.walk_back.specs.WalkBack.{IsRoute, walked}
+use Rattle.claims.specs.Words.{withBudget, InF64}
 use Rattle.claims.specs.Laws.Calls as calls
 use Rattle.claims.specs.Laws.Accepted.{accepted}
 

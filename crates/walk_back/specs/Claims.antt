@@ -15,8 +15,8 @@ use Rattle.world.specs.declared.Window.{Window}
 use Rattle.world.specs.Space.{Space, space}
 use Rattle.tables.specs.BadWorld.{badWorld}
 use Rattle.request.specs.Request.{validRequest, sizesTooLarge}
-use Rattle.places.specs.Places.{inRange, standable}
 use Rattle.ends.specs.Ends.{endsGood}
+use Rattle.ends.specs.Laws.{ends-parts, ends-all}
 use Rattle.steps.specs.Graph.{graph}
 use Rattle.walk_back.specs.declared.Walked.the-variants.{Yes, No, BadWorld, TooLarge}
 use Rattle.walk_back.specs.Listed.{waypoints}
@@ -26,26 +26,28 @@ use Rattle.walk_back.specs.WalkBack.{isRouteList, RouteList, walked}
 
 module _ (sp : Space) (r : Request) (body : Body) (list : List ℕ) where
   tested : validRequest r body ≡ true → isRouteList sp r body list ≡ true → RouteList sp r body list
-  unfolding isRouteList endsGood
+  unfolding isRouteList
   tested v e =
       let front = and-first (eqb (length list % 40) 0 && endsGood sp r body) _ e in
-      let ends = and-second (eqb (length list % 40) 0) _ front in
-      let two = and-first (inRange r (r .goal) && standable sp body (r .start)) _ ends in
+      let ends = ends-parts sp r body (and-second (eqb (length list % 40) 0) _ front) in
       record {
-        valid = v;
-        goal-in-range = and-first (inRange r (r .goal)) _ two;
-        start-standable = and-second (inRange r (r .goal)) _ two;
-        goal-standable = and-second (inRange r (r .goal) && standable sp body (r .start)) _ ends;
         whole = eqb-true _ _ (and-first (eqb (length list % 40) 0) _ front);
-        way = route-test-exact (graph sp r body) (waypoints list) .0 (and-second (eqb (length list % 40) 0 && endsGood sp r body) _ e);
+        route = record {
+          valid = v;
+          goal-in-range = ends .0;
+          start-standable = ends .1 .0;
+          goal-standable = ends .1 .1;
+          way = route-test-exact (graph sp r body) (waypoints list) .0 (and-second (eqb (length list % 40) 0 && endsGood sp r body) _ e);
+        };
       }
 
   passes : RouteList sp r body list → isRouteList sp r body list ≡ true
-  unfolding isRouteList endsGood
+  unfolding isRouteList
   passes l =
+      let i = l .route in
       and-both _ _
-      (and-both _ _ (eq-eqb (length list % 40) 0 (l .whole)) (and-both _ _ (and-both _ _ (l .goal-in-range) (l .start-standable)) (l .goal-standable)))
-      (route-test-exact (graph sp r body) (waypoints list) .1 (l .way))
+      (and-both _ _ (eq-eqb (length list % 40) 0 (l .whole)) (ends-all sp r body (i .goal-in-range) (i .start-standable) (i .goal-standable)))
+      (route-test-exact (graph sp r body) (waypoints list) .1 (i .way))
 
 -- ---- the answer
 
@@ -72,4 +74,4 @@ module _ (w : Window) (cells perms shapes boxes : List ℕ) (r : Request) (body 
   -- and every such list is answered yes.
   pub a-route-is-yes : badWorld w cells shapes boxes ≡ false → sizesTooLarge r body ≡ false → RouteList (space w cells perms shapes boxes) r body list → walked w cells perms shapes boxes r body list ≡ Yes
   unfolding walked
-  a-route-is-yes b t l = rw (b, l .valid, t, passes (space w cells perms shapes boxes) r body list l)
+  a-route-is-yes b t l = rw (b, l .route .valid, t, passes (space w cells perms shapes boxes) r body list l)

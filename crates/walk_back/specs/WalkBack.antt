@@ -15,6 +15,8 @@ use Rattle.tables.specs.BadWorld.{badWorld}
 use Rattle.request.specs.Request.{validRequest, sizesTooLarge}
 use Rattle.places.specs.Places.{inRange, standable}
 use Rattle.ends.specs.Ends.{endsGood}
+use Rattle.rooms.specs.declared.Feet.{Feet}
+use Rattle.rooms.specs.declared.Label.{Label}
 use Rattle.steps.specs.Graph.{graph}
 use Rattle.walk_back.specs.declared.Walked.{Walked}
 use Rattle.walk_back.specs.declared.Walked.the-variants.{Yes, No, BadWorld, TooLarge}
@@ -34,15 +36,19 @@ module _ (sp : Space) (r : Request) (body : Body) where
   isRouteList list = eqb (length list % 40) 0 && endsGood sp r body && isRoute (graph sp r body) (waypoints list)
 
   -- "Route: valid request; goal in range; both ends standable; points compared by that rule, the start first (Walk, lift 0); each pair a graph step with its
-  -- edge's movement and lift, the last pair allowed to be a connector; the last point equal to the goal": a list of whole records that is one. No search
-  -- and no test is mentioned here.
-  pub record RouteList (list : List ℕ) : Type 0 where
+  -- edge's movement and lift, the last pair allowed to be a connector; the last point equal to the goal. A single point is a route when start equals
+  -- goal." No search and no test is mentioned here.
+  pub record IsRoute (ws : List (Feet × Label)) : Type 0 where
     pub valid : validRequest r body ≡ true
     pub goal-in-range : inRange r (r .goal) ≡ true
     pub start-standable : standable sp body (r .start) ≡ true
     pub goal-standable : standable sp body (r .goal) ≡ true
+    pub way : Route (graph sp r body) ws
+
+  -- a list of whole records that is one
+  pub record RouteList (list : List ℕ) : Type 0 where
     pub whole : length list % 40 ≡ 0
-    pub way : Route (graph sp r body) (waypoints list)
+    pub route : IsRoute (waypoints list)
 
 -- "3; `valid_request` (else no); 4, the budget not read; then yes exactly for a list that is a route."
 unfoldable pub walked : Window → List ℕ → List ℕ → List ℕ → List ℕ → Request → Body → List ℕ → Walked

@@ -15,9 +15,9 @@ use Rattle.outcomes.specs.declared.Outcome.the-variants.{Found}
 use Rattle.outcomes.specs.declared.Answer.{Answer}
 use Rattle.search.specs.FindWalkPath.{outAfter}
 use Rattle.walk_back.specs.declared.Walked.the-variants.{Yes}
-use Rattle.walk_back.specs.WalkBack.{RouteList, walked}
+use Rattle.walk_back.specs.WalkBack.{IsRoute, RouteList, walked}
 use Rattle.walk_back.specs.Claims.{a-route-is-yes}
-use Rattle.claims.specs.Words.{IsRoute, InF64}
+use Rattle.claims.specs.Words.{InF64}
 use Rattle.claims.specs.Laws.Calls as calls
 use Rattle.claims.specs.Laws.Fits.{space-tops, steps-made}
 use Rattle.claims.specs.Laws.Below.{route-below}
@@ -29,14 +29,9 @@ module _ (w : Window) (cells perms shapes boxes : List ℕ) (r : Request) (body 
 
   -- a route in bytes is a list that is one
   route-list : InF64 r → (t : List (Feet × Label)) → IsRoute sp r body t → RouteList sp r body (listBytes t)
-  route-list f t l = record {
-    valid = l .valid;
-    goal-in-range = l .goal-in-range;
-    start-standable = l .start-standable;
-    goal-standable = l .goal-standable;
-    whole = list-whole t;
-    way = rw (list-back (route-below sp r body f (λ p. steps-made sp r body (f .jump) (space-tops w cells perms shapes boxes) (pointOf p)) (l .way))) (l .way);
-  }
+  route-list f t l =
+      let back = list-back (route-below sp r body f (λ p. steps-made sp r body (f .jump) (space-tops w cells perms shapes boxes) (pointOf p)) (l .way)) in
+      record { whole = list-whole t; route = rw back l }
 
   module _ (nodes front out : List ℕ) where
     abbrev answer : Answer

@@ -2,7 +2,7 @@
 use Prim.Native.Nat.{ℕ, _+_, _*_, _≤_, _<_}
 use native.Mathlib.Omega.{arith}
 use mathlib.Core.Path.{_≡_, refl, sym, ap, _∙_}
-use mathlib.Core.Bool.{Bool, true, false, _&&_}
+use mathlib.Core.Bool.{Bool, true, false}
 use mathlib.Core.Option.{Option, none, some}
 use mathlib.Core.List.{List, _++_}
 use mathlib.Core.Logic.{_≢_, ⊎-elim}
@@ -11,15 +11,15 @@ use lib.ListN.{length, drop}
 use borrow.Author.Tests.{eqb-true, eqb-false, ne-eqb}
 use Rattle.exploration.specs.Lists.{has, count}
 use Rattle.exploration.specs.Graph.{Reach}
-use Rattle.exploration.specs.Laws.Lists.{or-false, and-both, and-first, and-second}
+use Rattle.exploration.specs.Laws.Lists.{or-false}
 use Rattle.world.specs.declared.Body.{Body}
 use Rattle.world.specs.declared.Request.{Request}
 use Rattle.world.specs.declared.Window.{Window}
 use Rattle.world.specs.Space.{Space, space}
 use Rattle.tables.specs.BadWorld.{badWorld}
 use Rattle.request.specs.Request.{validRequest, sizesTooLarge, tooLarge}
-use Rattle.places.specs.Places.{inRange, standable}
 use Rattle.ends.specs.Ends.{endsGood}
+use Rattle.ends.specs.Laws.{ends-parts, ends-all}
 use Rattle.steps.specs.Graph.{graph}
 use Rattle.rooms.specs.declared.Feet.{Feet}
 use Rattle.rooms.specs.declared.Label.{Label}
@@ -31,25 +31,11 @@ use Rattle.outcomes.specs.declared.Answer.{Answer}
 use Rattle.outcomes.specs.Outcomes.{outcomeNumber, toldBy, listIn}
 use Rattle.refusals.specs.Refusals.{noRoom, withoutSearch}
 use Rattle.search.specs.FindWalkPath.{ended, endOf, answerBy, found, outAfter}
-use Rattle.claims.specs.Words.{withBudget, IsRoute}
+use Rattle.walk_back.specs.WalkBack.{IsRoute}
+use Rattle.claims.specs.Words.{withBudget}
 use Rattle.claims.specs.Laws.Budget.{valid-budget, ends-budget}
 use Rattle.claims.specs.Laws.Order.{order, told, Began, on-found, on-unreachable, on-exceeded, found-stays, unreachable-stays}
 use Rattle.claims.specs.Laws.Search as search
-
--- ---- good ends, one by one
-
-module _ (sp : Space) (r : Request) (body : Body) where
-  end-parts : endsGood sp r body ≡ true → (inRange r (r .goal) ≡ true) × ((standable sp body (r .start) ≡ true) × (standable sp body (r .goal) ≡ true))
-  unfolding endsGood
-  end-parts e =
-      let two = and-first (inRange r (r .goal) && standable sp body (r .start)) _ e in (
-        and-first (inRange r (r .goal)) _ two,
-        (and-second (inRange r (r .goal)) _ two, and-second (inRange r (r .goal) && standable sp body (r .start)) _ e),
-      )
-
-  ends-of : {t : List (Feet × Label)} → IsRoute sp r body t → endsGood sp r body ≡ true
-  unfolding endsGood
-  ends-of l = and-both _ _ (and-both _ _ (l .goal-in-range) (l .start-standable)) (l .goal-standable)
 
 -- ---- a call
 
@@ -97,12 +83,12 @@ module _ (w : Window) (cells perms shapes boxes : List ℕ) where
 
     -- ---- Found
 
-    begun : answer .outcome ≡ Found → Began bad (validRequest r body) (tooLarge r body) (endsGood sp r body) tests × (came ≡ Found)
+    begun : answer .outcome ≡ Found → Began bad (validRequest r body) (tooLarge r body) (endsGood sp r body) nought tests × (came ≡ Found)
     begun e = on-found came bad (validRequest r body) (tooLarge r body) full (endsGood sp r body) nought (sym by-order ∙ e)
 
     pub route-of : answer .outcome ≡ Found → IsRoute sp r body list
     route-of e =
-        let b = begun e in let p = end-parts sp r body (b .0 .ends) in
+        let b = begun e in let p = ends-parts sp r body (b .0 .ends) in
         record { valid = b .0 .valid; goal-in-range = p .0; start-standable = p .1 .0; goal-standable = p .1 .1; way = search.found-route sp r body (b .1) }
 
     pub count-of : answer .outcome ≡ Found → answer .count ≡ length list
@@ -126,7 +112,7 @@ module _ (w : Window) (cells perms shapes boxes : List ℕ) where
     none-is-route e t l = search.unreachable-route sp r body (on-unreachable came bad (tooLarge r body) full nought said) t (l .way)
       where
         said : told came (order bad true (tooLarge r body) full true nought) ≡ Unreachable
-        said = let v = l .valid in let g = ends-of sp r body l in rw (v, g) at (sym by-order ∙ e)
+        said = let v = l .valid in let g = ends-all sp r body (l .goal-in-range) (l .start-standable) (l .goal-standable) in rw (v, g) at (sym by-order ∙ e)
 
     -- ---- BudgetExceeded
 

@@ -1,7 +1,7 @@
 -- The order of the answers, taken apart: which tests passed where an outcome is answered.
 use Prim.Native.Nat.{ℕ, _<_}
 use native.Mathlib.Omega.{arith}
-use mathlib.Core.Path.{_≡_, refl}
+use mathlib.Core.Path.{_≡_, refl, _∙_}
 use mathlib.Core.Bool.{Bool, true, false, not, cond}
 use mathlib.Core.Option.{Option, none, some}
 use mathlib.Core.Logic.{_⊎_, inl, inr}
@@ -26,22 +26,23 @@ told x (some o) = o
 told x none = x
 
 -- the tests where a search began
-pub record Began (b v l e : Bool) (o : Option Outcome) : Type 0 where
+pub record Began (b v l e n : Bool) (o : Option Outcome) : Type 0 where
   pub good : b ≡ false
   pub valid : v ≡ true
   pub small : l ≡ false
   pub ends : e ≡ true
+  pub budgeted : n ≡ false
   pub begun : o ≡ none
 
 module _ (x : Outcome) where
-  pub on-found : (b v l f e n : Bool) → told x (order b v l f e n) ≡ Found → Began b v l e (order b v l f e n) × (x ≡ Found)
+  pub on-found : (b v l f e n : Bool) → told x (order b v l f e n) ≡ Found → Began b v l e n (order b v l f e n) × (x ≡ Found)
   on-found true v l f e n p = absurd (let q : _≡_ {A = ℕ} 0 1 = cc in omega arith)
   on-found false false l f e n p = absurd (let q : _≡_ {A = ℕ} 0 1 = cc in omega arith)
   on-found false true true f e n p = absurd (let q : _≡_ {A = ℕ} 0 1 = cc in omega arith)
   on-found false true false true e n p = absurd (let q : _≡_ {A = ℕ} 0 1 = cc in omega arith)
   on-found false true false false false n p = absurd (let q : _≡_ {A = ℕ} 0 1 = cc in omega arith)
   on-found false true false false true true p = absurd (let q : _≡_ {A = ℕ} 0 1 = cc in omega arith)
-  on-found false true false false true false p = (record { good = refl; valid = refl; small = refl; ends = refl; begun = refl }, p)
+  on-found false true false false true false p = (record { good = refl; valid = refl; small = refl; ends = refl; budgeted = refl; begun = refl }, p)
 
   -- with a valid request and good ends, only the search itself says Unreachable
   pub on-unreachable : (b l f n : Bool) → told x (order b true l f true n) ≡ Unreachable → x ≡ Unreachable
@@ -78,17 +79,10 @@ module _ (y : Outcome) where
 module _ (x y : Outcome) (b v e l f n l′ f′ n′ : Bool) (above : n ≡ false → n′ ≡ false) where
   pub found-stays : (x ≡ Found → y ≡ Found) → told x (order b v l f e n) ≡ Found → outcomeNumber (told y (order b v l′ f′ e n′)) < 3 →
       told y (order b v l′ f′ e n′) ≡ Found
-  found-stays k p h = go b v l f e n p h above
-    where
-      go : (b v l f e n : Bool) → told x (order b v l f e n) ≡ Found → outcomeNumber (told y (order b v l′ f′ e n′)) < 3 → (n ≡ false → n′ ≡ false) →
-          told y (order b v l′ f′ e n′) ≡ Found
-      go true v l f e n p h a = absurd (omega arith)
-      go false false l f e n p h a = absurd (let q : _≡_ {A = ℕ} 0 1 = cc in omega arith)
-      go false true true f e n p h a = absurd (let q : _≡_ {A = ℕ} 0 1 = cc in omega arith)
-      go false true false true e n p h a = absurd (let q : _≡_ {A = ℕ} 0 1 = cc in omega arith)
-      go false true false false false n p h a = absurd (let q : _≡_ {A = ℕ} 0 1 = cc in omega arith)
-      go false true false false true true p h a = absurd (let q : _≡_ {A = ℕ} 0 1 = cc in omega arith)
-      go false true false false true false p h a = let g = goes-on y l′ f′ n′ (a refl) h in let z = k p in cc
+  found-stays k p h =
+      let o = on-found x b v l f e n p in
+      let s = o .0 in
+      rw (s .good, s .valid, s .ends) (goes-on y l′ f′ n′ (above (s .budgeted)) (rw (s .good, s .valid, s .ends) at h) ∙ k (o .1))
 
   pub unreachable-stays : (x ≡ Unreachable → y ≡ Unreachable) → told x (order b v l f e n) ≡ Unreachable → outcomeNumber (told y (order b v l′ f′ e n′)) < 3 →
       told y (order b v l′ f′ e n′) ≡ Unreachable
