@@ -19,6 +19,7 @@ ghost use lib.ListN.{length};
 ghost use Rattle.rooms.specs.Records.{nodeAt};
 ghost use Rattle.rooms.specs.Rooms.{nobody};
 ghost use Rattle.rooms.specs.Laws.Writes.{WroteNode, WroteEntry};
+ghost use Rattle.costs.specs.Costs.{costBy};
 ghost use Rattle.visits.specs.Laws.Visits.{childRecord};
 ghost use Rattle.visits.specs.Visits.{Ready, Seen, countsBy, saysClosed, isShut, VisitedIf};
 
@@ -47,26 +48,27 @@ fn put_open(
     writes::put_entry(front, j, entry);
 }
 
-// A step to a point that is retained already, as node j.
+// A step from node k, which is `from`, to a point that is retained already, as node j. What it costs is worked out only for an open node: it takes a root.
 fn again(
     nodes: &mut [u8],
     front: &mut [u8],
     aim: Aim,
     k: usize,
+    from: NodeRecord,
     mut c: Counts,
     j: usize,
-    cost: u64,
     to: Feet,
     label: Label,
 ) -> Visit
     requires { ⌜ Ready (now nodes) (now front) (aim .budget) 1 c ⌝ }
     requires { ⌜ (j < c .retained) × (k < c .retained) ⌝ }
-    ensures { λ v. ⌜ Seen aim k c j cost to label (countsBy c v) (now (nodes .entry)) (now (front .entry)) (now (nodes .exit)) (now (front .exit)) × (saysClosed v ≡ isShut (nodeAt (now (nodes .entry)) j)) ⌝ }
+    ensures { λ v. ⌜ Seen aim k c j (costBy (from .cost) (from .feet) to) to label (countsBy c v) (now (nodes .entry)) (now (front .entry)) (now (nodes .exit)) (now (front .exit)) × (saysClosed v ≡ isShut (nodeAt (now (nodes .entry)) j)) ⌝ }
 {
     let old = rooms::get_node(nodes, j);
     if old.closed != 0 {
         return Visit::Closed;
     }
+    let cost = cost_by(from.cost, from.feet, to);
     let better = cheaper(cost, old.cost);
     if !better {
         return Visit::Counted(c);
@@ -100,14 +102,14 @@ pub fn visit(
     }
     let n = c.retained;
     let j = scans::seek(nodes, n, to);
-    let cost = cost_by(from.cost, from.feet, to);
     if j < n {
-        return again(nodes, front, aim, k, c, j, cost, to, label);
+        return again(nodes, front, aim, k, from, c, j, to, label);
     }
     if aim.budget <= n {
         c.dropped += 1;
         return Visit::Counted(c);
     }
+    let cost = cost_by(from.cost, from.feet, to);
     let e = estimate(aim.goal, cost, to);
     let entry = pushed_as(e, c.pushed);
     put_open(nodes, front, n, k, to, label, cost, entry);
