@@ -15,13 +15,8 @@ pub fn put_answer(a: Answer, answer: &mut [u8]) -> u64
 {
     let outcome = a.outcome;
     let number = outcomes::number_of(outcome);
-    if answer.len() < 32 {
-        return number;
-    }
-    stores::put_u64(answer, 0, number);
-    stores::put_u64(answer, 8, a.count as u64);
-    stores::put_u64(answer, 16, a.retained as u64);
-    stores::put_u64(answer, 24, a.closed);
+    let words = [number, a.count as u64, a.retained as u64, a.closed];
+    records::put_record(answer, 0, &words);
     number
 }
 

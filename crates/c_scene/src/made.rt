@@ -1,64 +1,54 @@
 // What reading a scene gives back: a record of 168 bytes with the request, the body, the window and the sizes in use.
 ghost use mathlib.Core.Path.{_≡_};
-ghost use Prim.Native.Nat.{_^_, _<_};
-ghost use Rattle.c_scene.specs.Scenes.{withThree, withRequest, withWindow, withInUse, withScene};
-use scene_state::InUse;
+ghost use Prim.Native.Nat.{_+_, _*_};
+ghost use mir.Syntax.{w32};
+ghost use mir.Val.{ofZ};
+ghost use Rattle.c_scene.specs.Scenes.{withScene};
+use floats::bits_of;
 use scene_state::Scene;
-use world::Request;
-use world::Window;
 
-// Three f64 from an offset on.
-fn put_three(x: f64, y: f64, z: f64, at: usize, made: &mut [u8])
-    requires { ⌜ at < 2 ^ 32 ⌝ }
-    ensures { λ _. ⌜ now (made .exit) ≡ withThree x y z at (now (made .entry)) ⌝ }
+// The 32 bits of an i32, in two's complement.
+fn bits32(x: i32) -> u32
+    ensures { λ r. ⌜ r ≡ ofZ w32 x ⌝ }
 {
-    stores::put_f64(made, at, x);
-    stores::put_f64(made, at + 8, y);
-    stores::put_f64(made, at + 16, z);
+    (((x as i64) + 4294967296) as u64 % 4294967296) as u32
 }
 
-fn put_request(r: Request, made: &mut [u8])
-    ensures { λ _. ⌜ now (made .exit) ≡ withRequest r (now (made .entry)) ⌝ }
+// Two numbers of 32 bits in one word, the first in its lower half.
+fn word(low: u32, high: u32) -> u64
+    ensures { λ r. ⌜ r ≡ low + 4294967296 * high ⌝ }
 {
-    let start = r.start;
-    let goal = r.goal;
-    put_three(start.x, start.y, start.z, 0, made);
-    put_three(goal.x, goal.y, goal.z, 24, made);
-    put_three(r.max_range, r.step_height, r.jump_height, 48, made);
-    stores::put_f64(made, 72, r.max_drop);
-    stores::put_u64(made, 80, r.node_budget);
-}
-
-fn put_window(w: Window, made: &mut [u8])
-    ensures { λ _. ⌜ now (made .exit) ≡ withWindow w (now (made .entry)) ⌝ }
-{
-    stores::put_i32(made, 112, w.x);
-    stores::put_i32(made, 116, w.y);
-    stores::put_i32(made, 120, w.z);
-    stores::put_u32(made, 124, w.sx);
-    stores::put_u32(made, 128, w.sy);
-    stores::put_u32(made, 132, w.sz);
-}
-
-fn put_in_use(u: InUse, made: &mut [u8])
-    ensures { λ _. ⌜ now (made .exit) ≡ withInUse u (now (made .entry)) ⌝ }
-{
-    stores::put_u64(made, 136, u.cells as u64);
-    stores::put_u64(made, 144, u.perms as u64);
-    stores::put_u64(made, 152, u.shapes as u64);
-    stores::put_u64(made, 160, u.boxes as u64);
+    (low as u64) + 4294967296 * (high as u64)
 }
 
 // The whole record, where it fits.
 pub(crate) fn put_scene(x: Scene, made: &mut [u8])
     ensures { λ _. ⌜ now (made .exit) ≡ withScene x (now (made .entry)) ⌝ }
 {
-    if made.len() < 168 {
-        return;
-    }
-    let body = x.body;
-    put_request(x.request, made);
-    put_three(body.width, body.height, body.step_height, 88, made);
-    put_window(x.window, made);
-    put_in_use(x.in_use, made);
+    let r = x.request;
+    let w = x.window;
+    let words = [
+        bits_of(r.start.x),
+        bits_of(r.start.y),
+        bits_of(r.start.z),
+        bits_of(r.goal.x),
+        bits_of(r.goal.y),
+        bits_of(r.goal.z),
+        bits_of(r.max_range),
+        bits_of(r.step_height),
+        bits_of(r.jump_height),
+        bits_of(r.max_drop),
+        r.node_budget,
+        bits_of(x.body.width),
+        bits_of(x.body.height),
+        bits_of(x.body.step_height),
+        word(bits32(w.x), bits32(w.y)),
+        word(bits32(w.z), w.sx),
+        word(w.sy, w.sz),
+        x.in_use.cells as u64,
+        x.in_use.perms as u64,
+        x.in_use.shapes as u64,
+        x.in_use.boxes as u64,
+    ];
+    records::put_record(made, 0, &words);
 }

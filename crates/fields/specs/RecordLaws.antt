@@ -1,16 +1,46 @@
 -- Laws of records, over the layout: what was written is read back, all else stays, and a room is its records in bytes with what lies past them.
-use Prim.Native.Nat.{ℕ, zero, suc, _+_, _*_, _<_, _≤_}
+use Prim.Native.Nat.{ℕ, zero, suc, _+_, _*_, _/_, _%_, _<_, _≤_}
 use native.Mathlib.Omega.{arith}
 use native.Mathlib.Nat.{add-zero, mul-zero, mul-suc}
 use mathlib.Core.Path.{_≡_, refl, sym, ap, _∙_}
+use mathlib.Core.Bool.{Bool, true, false, cond}
 use mathlib.Core.List.{List, [], _∷_, _++_, append-assoc, append-nil}
 use mathlib.Core.Logic.{_⊎_, inl, inr, _≢_, ⊎-elim}
+use borrow.Author.Tests.{le-leb, leb-true}
 use lib.ListN.{length, take, drop, set, length-append, take-append-drop}
 use lib.Seq.{take-add, drop-drop, take-at, length-take-le, set-append-left, set-at}
-use Rattle.fields.specs.Little.{bytesOf, field, withField}
-use Rattle.fields.specs.Laws.{length-with, length-bytes, read-back, read-other}
+use Rattle.fields.specs.Little.{bytesOf, fitsAt, field, withField}
+use Rattle.fields.specs.Laws.{length-with, length-bytes, read-back, read-other, with-parts}
 use Rattle.fields.specs.Pieces.{Bytes, field-below, bytes-field, with-is, take-with, drop-with}
-use Rattle.fields.specs.Records.{recordSize, fieldsAt, withFields, recordBytes, recordsBytes, Fill, firsts}
+use Rattle.fields.specs.Records.{recordSize, fieldsAt, withFields, withRecord, recordBytes, recordsBytes, Fill, firsts}
+
+-- ---- a record written, field by field
+
+pub record-in : (ws s : List ℕ) (at : ℕ) (vs : List ℕ) → at + recordSize ws ≤ length s → withRecord ws s at vs ≡ withFields ws s at 0 vs
+unfolding withRecord
+record-in ws s at vs h = rw (le-leb (at + recordSize ws) (length s) h)
+
+-- of two layouts of one size: what is equal where it fits is equal
+pub record-same : (ws us s : List ℕ) (at : ℕ) (vs xs : List ℕ) → recordSize ws ≡ recordSize us →
+    (at + recordSize us ≤ length s → withFields ws s at 0 vs ≡ withFields us s at 0 xs) → withRecord ws s at vs ≡ withRecord us s at xs
+unfolding withRecord
+record-same ws us s at vs xs e h = rw e (go (fitsAt (recordSize us) s at) refl)
+  where
+    go : (b : Bool) → fitsAt (recordSize us) s at ≡ b → cond b (withFields ws s at 0 vs) s ≡ cond b (withFields us s at 0 xs) s
+    go true t = h (leb-true (at + recordSize us) (length s) t)
+    go false t = refl
+
+-- two u32 are written by one u64, the lower half first
+pub halves : (ns s : List ℕ) (at by a b : ℕ) (vs : List ℕ) → at + by + 8 ≤ length s → a < 4294967296 →
+    withFields (8 ∷ ns) s at by ((a + 4294967296 * b) ∷ vs) ≡ withFields (4 ∷ 4 ∷ ns) s at by (a ∷ b ∷ vs)
+halves ns s at by a b vs h l =
+    let low : (a + 4294967296 * b) % 4294967296 ≡ a = omega arith in
+    let high : (a + 4294967296 * b) / 4294967296 ≡ b = omega arith in
+    let there : at + by + 4 ≡ at + (by + 4) = omega arith in
+    let on : by + 8 ≡ by + 4 + 4 = omega arith in
+    let e : withField 8 s (at + by) (a + 4294967296 * b) ≡ withField 4 (withField 4 s (at + by) a) (at + (by + 4)) b =
+    with-parts 4 4 s (at + by) (a + 4294967296 * b) h ∙ rw (low, high, there) in
+    rw (e, on)
 
 -- ---- what a write leaves
 

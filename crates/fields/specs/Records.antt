@@ -1,8 +1,10 @@
 -- Records (01: "Tables, little-endian records"): fields one behind another. A record's layout ws is the list of its fields' widths, as 8, 8, 8, 8, 8
 -- for a waypoint and 4, 4 for a cell. Its values are the list of its fields, as numbers.
-use Prim.Native.Nat.{ℕ, zero, suc, _+_, _^_, _<_}
+use Prim.Native.Nat.{ℕ, zero, suc, _+_, _*_, _^_, _<_}
+use mathlib.Core.Bool.{cond}
 use mathlib.Core.List.{List, [], _∷_, _++_}
-use Rattle.fields.specs.Little.{bytesOf, field, withField}
+use lib.ListN.{length, replicate}
+use Rattle.fields.specs.Little.{bytesOf, fitsAt, field, withField}
 
 -- how many bytes a record has
 abbrev pub recordSize : List ℕ → ℕ
@@ -20,12 +22,16 @@ withFields [] s at by vs = s
 withFields (n ∷ ns) s at by [] = s
 withFields (n ∷ ns) s at by (v ∷ vs) = withFields ns (withField n s (at + by) v) at (by + n) vs
 
--- the record at an offset, and the table with that record set
+-- the record at an offset, and the table with that record set; where not all of it fits, nothing is
 abbrev pub recordAt : List ℕ → List ℕ → ℕ → List ℕ
 recordAt ws s at = fieldsAt ws s at 0
 
-abbrev pub withRecord : List ℕ → List ℕ → ℕ → List ℕ → List ℕ
-withRecord ws s at vs = withFields ws s at 0 vs
+unfoldable pub withRecord : List ℕ → List ℕ → ℕ → List ℕ → List ℕ
+withRecord ws s at vs = cond (fitsAt (recordSize ws) s at) (withFields ws s at 0 vs) s
+
+-- a table of records that are so many u64 each: record k set to these
+abbrev pub withWords : List ℕ → ℕ → List ℕ → List ℕ
+withWords s k vs = withRecord (replicate (length vs) 8) s (8 * length vs * k) vs
 
 -- a record in bytes, and records one behind another
 abbrev pub recordBytes : List ℕ → List ℕ → List ℕ

@@ -10,7 +10,7 @@ use lib.Seq.{take-append-le, take-take, drop-at, length-take-le}
 use borrow.Author.Tests.{le-leb, lt-leb}
 use mir.Syntax.{w64}
 use mir.Val.{Fits}
-use Rattle.fields.specs.RecordLaws.{with-record-is}
+use Rattle.fields.specs.RecordLaws.{record-in, with-record-is}
 use Rattle.rooms.specs.declared.Feet.{Feet}
 use Rattle.rooms.specs.declared.Label.{Label}
 use Rattle.rooms.specs.Records.{waypointLayout, waypointWords, withWaypoint, nodeAt}
@@ -38,7 +38,7 @@ count-none a n k = let z : n ≡ n - 0 = omega arith in omega (arith, ap (λ (i 
 
 pub waypoint-is : (s : List ℕ) (j : ℕ) (p : Feet) (l : Label) → 40 * j + 40 ≤ length s → withWaypoint s j p l ≡ take (40 * j) s ++ (waypointBytes (p, l) ++ drop (40 * j + 40) s)
 unfolding withWaypoint
-waypoint-is s j p l h = let z = add-zero (40 * j) in with-record-is waypointLayout s (40 * j) 0 (waypointWords p l) refl (omega arith) ∙ rw z
+waypoint-is s j p l h = let z = add-zero (40 * j) in record-in waypointLayout s (40 * j) (waypointWords p l) h ∙ with-record-is waypointLayout s (40 * j) 0 (waypointWords p l) refl (omega arith) ∙ rw z
 
 -- in a room for m points, the one before point j has its place
 pub place-before : {j m old out : ℕ} → 0 < j → j ≤ m → 40 * m ≤ old → out ≡ old → 40 * (j - 1) + 40 ≤ out

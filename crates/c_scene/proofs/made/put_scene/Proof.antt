@@ -1,25 +1,60 @@
 -- `c_scene::made::put_scene` meets its contract. Assumes nothing.
-use mathlib.Core.Path.{ap, _∙_}
-use borrow.Author.Tests.{le-leb, lt-leb}
-use lib.Dec.{lit<}
-use Rattle.c_scene.specs.Scenes.{withBody, withWindow, withInUse, withScene, withThree}
+use mathlib.Core.Path.{_≡_, _∙_}
+use mathlib.Core.List.{[], _∷_}
+use Prim.Native.Nat.{_+_, _*_}
+use denote.Ref.{now}
+use borrow.Author.Needs.{needs}
+use mir.Syntax.{w32}
+use mir.Val.{Fits, SFits, ofZ}
+use mir.Facts.{toZ-ofZ, fits-ofZ}
+use Rattle.fields.specs.Records.{withWords}
+use Rattle.c_scene.specs.Laws.{scene-words}
 use Rattle.c_scene.proofs.made.put_scene.Statement.{statement}
 use Rattle.c_scene.proofs.made.put_scene.Tie as tie
 
-too-short : tie.Need-returns
-unfolding withScene
-too-short c = rw (lt-leb _ _ (c .if1 .taken))
-
-written : tie.Need-returns-2
-unfolding withScene withBody withThree
-written c =
-    let x = c .before .before .before .before .before .before .before .before .before .before .before .before .before .before .before .before .before .before .before .args .x in
-    let body = c .before .before .before .before .before .before .before .before .before .before .put-three .ensures ∙ ap (withBody (x .body)) (c .before .before .before .before .before .before .before .before .before .before .before .before .before .before .put-request .ensures) in
-    let window = c .before .before .before .before .before .before .put-window .ensures ∙ ap (withWindow (x .window)) body in
-    rw (le-leb _ _ (c .before .before .before .before .before .before .before .before .before .before .before .before .before .before .before .before .before .if1 .left)) (c .before .before .put-in-use .ensures ∙ ap (withInUse (x .«in_use»)) window)
-
-same-length : tie.Need-same-length
-same-length c = c .before .made4 .given ∙ c .before .before .before .before .before .made3 .given ∙ c .before .before .before .before .before .before .before .before .before .made2 .given ∙ c .before .before .before .before .before .before .before .before .before .before .before .before .before .made .given
+returns : tie.Need-returns
+returns c =
+    let a = c .before .before .before .before .before .before .before .before .before .before .before .before .before .before .before .before .before .before .before .before .before .before .before .before .before .before .before .before .before .before .args in
+    let r = a .x .request in
+    let w = a .x .window in
+    let u = a .x .«in_use» in
+    let fx : SFits w32 (w .x) = search needs in
+    let fy : SFits w32 (w .y) = search needs in
+    let fz : SFits w32 (w .z) = search needs in
+    let fs : Fits w32 (w .sy) = search needs in
+    let x = rw (toZ-ofZ fx) at (c .before .before .before .before .before .before .before .before .before .before .before .before .bits32 .ensures) in
+    let y = rw (toZ-ofZ fy) at (c .before .before .before .before .before .before .before .before .before .before .bits322 .ensures) in
+    let z = rw (toZ-ofZ fz) at (c .before .before .before .before .before .before .before .bits323 .ensures) in
+    let first : c .before .before .before .before .before .before .before .before .before .word .result ≡ ofZ w32 (w .x) + 4294967296 * ofZ w32 (w .y) = c .before .before .before .before .before .before .before .before .before .word .ensures ∙ (λ i. x i + 4294967296 * y i) in
+    let second : c .before .before .before .before .before .before .word2 .result ≡ ofZ w32 (w .z) + 4294967296 * w .sx = c .before .before .before .before .before .before .word2 .ensures ∙ (λ i. z i + 4294967296 * w .sx) in
+    c .before .before .put-record .ensures
+    ∙ (λ i. withWords (now (a .made)) 0 (c .before .before .before .before .before .before .before .before .before .before .before .before .before .before .before .before .before .before .before .before .before .before .before .before .before .before .bits-of .ensures i ∷ c .before .before .before .before .before .before .before .before .before .before .before .before .before .before .before .before .before .before .before .before .before .before .before .before .before .bits-of2 .ensures i ∷ c .before .before .before .before .before .before .before .before .before .before .before .before .before .before .before .before .before .before .before .before .before .before .before .before .bits-of3 .ensures i ∷ c .before .before .before .before .before .before .before .before .before .before .before .before .before .before .before .before .before .before .before .before .before .before .before .bits-of4 .ensures i ∷ c .before .before .before .before .before .before .before .before .before .before .before .before .before .before .before .before .before .before .before .before .before .before .bits-of5 .ensures i ∷ c .before .before .before .before .before .before .before .before .before .before .before .before .before .before .before .before .before .before .before .before .before .bits-of6 .ensures i ∷ c .before .before .before .before .before .before .before .before .before .before .before .before .before .before .before .before .before .before .before .before .bits-of7 .ensures i ∷ c .before .before .before .before .before .before .before .before .before .before .before .before .before .before .before .before .before .before .before .bits-of8 .ensures i ∷ c .before .before .before .before .before .before .before .before .before .before .before .before .before .before .before .before .before .before .bits-of9 .ensures i ∷ c .before .before .before .before .before .before .before .before .before .before .before .before .before .before .before .before .before .bits-of10 .ensures i ∷ r .«node_budget» ∷ c .before .before .before .before .before .before .before .before .before .before .before .before .before .before .before .before .bits-of11 .ensures i ∷ c .before .before .before .before .before .before .before .before .before .before .before .before .before .before .before .bits-of12 .ensures i ∷ c .before .before .before .before .before .before .before .before .before .before .before .before .before .before .bits-of13 .ensures i ∷ first i ∷ second i ∷ c .before .before .before .before .before .word3 .ensures i ∷ u .cells ∷ u .perms ∷ u .shapes ∷ u .boxes ∷ []))
+    ∙ scene-words (a .x) (now (a .made)) (fits-ofZ fx .fits) (fits-ofZ fz .fits) (fs .fits)
 
 pub put-scene-spec : {M : Type 1} → statement M
-put-scene-spec = tie.close (tie.spec too-short (λ c κs. tt) (λ c κs. lit< tt) (λ c κs. tt) (λ c κs. tt) same-length written)
+put-scene-spec =
+    tie.close
+    (tie.spec
+    (λ c κs. tt)
+    (λ c κs. tt)
+    (λ c κs. tt)
+    (λ c κs. tt)
+    (λ c κs. tt)
+    (λ c κs. tt)
+    (λ c κs. tt)
+    (λ c κs. tt)
+    (λ c κs. tt)
+    (λ c κs. tt)
+    (λ c κs. tt)
+    (λ c κs. tt)
+    (λ c κs. tt)
+    (λ c κs. tt)
+    (λ c κs. tt)
+    (λ c κs. tt)
+    (λ c κs. tt)
+    (λ c κs. tt)
+    (λ c κs. tt)
+    (λ c. search needs)
+    (λ c κs. tt)
+    (λ c. search needs)
+    returns)
