@@ -38,7 +38,7 @@ module _ (low high : ℤ) where
   unfolding count
   count-none e = no-over (high -ℤ low +ℤ pos 1) (omega (arith, difference high low, sum (high -ℤ low) (pos 1), le-no low high e))
 
-plus-none : (z : ℤ) → z +ℤ pos 0 ≡ z
+pub plus-none : (z : ℤ) → z +ℤ pos 0 ≡ z
 plus-none z = equal (z +ℤ pos 0) z (omega (arith, sum z (pos 0)))
 
 plus-more : (z : ℤ) (k : ℕ) → z +ℤ pos (suc k) ≡ z +ℤ pos 1 +ℤ pos k

@@ -19,19 +19,19 @@ use Rattle.regions.specs.RangeLaws.{along-more, along-none, along-empty}
 -- ---- what is left from a cell on
 
 module _ (r : Region) where
-  -- the cells of a row from z on, those of a layer from the row x on, and those from the layer y on
+  -- the cells of a row from x on, those of a layer from the row z on, and those from the layer y on
   rowFrom : ℤ → ℤ → ℤ → List Spot
-  rowFrom y x z = along (λ k. record { x = x; y = y; z = k } ∷ []) z (r .zs .last)
+  rowFrom y z x = along (λ k. record { x = k; y = y; z = z } ∷ []) x (r .xs .last)
 
   layerFrom : ℤ → ℤ → List Spot
-  layerFrom y x = along (λ k. rowFrom y k (r .zs .first)) x (r .xs .last)
+  layerFrom y z = along (λ k. rowFrom y k (r .xs .first)) z (r .zs .last)
 
   layersFrom : ℤ → List Spot
-  layersFrom y = along (λ k. layerFrom k (r .xs .first)) y (r .ys .last)
+  layersFrom y = along (λ k. layerFrom k (r .zs .first)) y (r .ys .last)
 
   -- the rest of the cell's row, of its layer, and of the region
   from : Spot → List Spot
-  from p = rowFrom (p .y) (p .x) (p .z) ++ (layerFrom (p .y) (p .x +ℤ pos 1) ++ layersFrom (p .y +ℤ pos 1))
+  from p = rowFrom (p .y) (p .z) (p .x) ++ (layerFrom (p .y) (p .z +ℤ pos 1) ++ layersFrom (p .y +ℤ pos 1))
 
   -- what a cursor has before it
   pub toCome : Cursor → List Spot
@@ -44,8 +44,8 @@ pub record Within (r : Range) (k : ℤ) : Type 0 where
 
 pub record Inside (r : Region) (p : Spot) : Type 0 where
   pub y : Within (r .ys) (p .y)
-  pub x : Within (r .xs) (p .x)
   pub z : Within (r .zs) (p .z)
+  pub x : Within (r .xs) (p .x)
 
 -- a cursor's cell, if there is more, is one of the region
 abbrev pub Proper : Region → Cursor → Type 0
@@ -81,23 +81,23 @@ some-first r k h = le-is (r .first) (r .last) (omega (arith, le-yes (r .first) k
 module _ (r : Region) where
   -- ---- the first of what is to come
 
-  row-more : (y x z : ℤ) → leZ z (r .zs .last) ≡ true → rowFrom r y x z ≡ record { x = x; y = y; z = z } ∷ rowFrom r y x (z +ℤ pos 1)
+  row-more : (y z x : ℤ) → leZ x (r .xs .last) ≡ true → rowFrom r y z x ≡ record { x = x; y = y; z = z } ∷ rowFrom r y z (x +ℤ pos 1)
   unfolding rowFrom
-  row-more y x z e = along-more _ z (r .zs .last) e
+  row-more y z x e = along-more _ x (r .xs .last) e
 
-  row-none : (y x z : ℤ) → leZ z (r .zs .last) ≡ false → rowFrom r y x z ≡ []
+  row-none : (y z x : ℤ) → leZ x (r .xs .last) ≡ false → rowFrom r y z x ≡ []
   unfolding rowFrom
-  row-none y x z e = along-none _ z (r .zs .last) e
+  row-none y z x e = along-none _ x (r .xs .last) e
 
-  layer-more : (y x : ℤ) → leZ x (r .xs .last) ≡ true → layerFrom r y x ≡ rowFrom r y x (r .zs .first) ++ layerFrom r y (x +ℤ pos 1)
+  layer-more : (y z : ℤ) → leZ z (r .zs .last) ≡ true → layerFrom r y z ≡ rowFrom r y z (r .xs .first) ++ layerFrom r y (z +ℤ pos 1)
   unfolding layerFrom
-  layer-more y x e = along-more _ x (r .xs .last) e
+  layer-more y z e = along-more _ z (r .zs .last) e
 
-  layer-none : (y x : ℤ) → leZ x (r .xs .last) ≡ false → layerFrom r y x ≡ []
+  layer-none : (y z : ℤ) → leZ z (r .zs .last) ≡ false → layerFrom r y z ≡ []
   unfolding layerFrom
-  layer-none y x e = along-none _ x (r .xs .last) e
+  layer-none y z e = along-none _ z (r .zs .last) e
 
-  layers-more : (y : ℤ) → leZ y (r .ys .last) ≡ true → layersFrom r y ≡ layerFrom r y (r .xs .first) ++ layersFrom r (y +ℤ pos 1)
+  layers-more : (y : ℤ) → leZ y (r .ys .last) ≡ true → layersFrom r y ≡ layerFrom r y (r .zs .first) ++ layersFrom r (y +ℤ pos 1)
   unfolding layersFrom
   layers-more y e = along-more _ y (r .ys .last) e
 
@@ -107,22 +107,22 @@ module _ (r : Region) where
 
   -- a row and a layer from their beginnings on
   abbrev corner : ℤ → ℤ → Spot
-  corner y x = record { x = x; y = y; z = r .zs .first }
+  corner y z = record { x = r .xs .first; y = y; z = z }
 
-  layer-from : (y x : ℤ) → leZ x (r .xs .last) ≡ true → layerFrom r y x ++ layersFrom r (y +ℤ pos 1) ≡ from r (corner y x)
+  layer-from : (y z : ℤ) → leZ z (r .zs .last) ≡ true → layerFrom r y z ++ layersFrom r (y +ℤ pos 1) ≡ from r (corner y z)
   unfolding from
-  layer-from y x e = rw (layer-more y x e) (append-assoc (rowFrom r y x (r .zs .first)) (layerFrom r y (x +ℤ pos 1)) (layersFrom r (y +ℤ pos 1)))
+  layer-from y z e = rw (layer-more y z e) (append-assoc (rowFrom r y z (r .xs .first)) (layerFrom r y (z +ℤ pos 1)) (layersFrom r (y +ℤ pos 1)))
 
-  layers-from : (y : ℤ) → leZ y (r .ys .last) ≡ true → leZ (r .xs .first) (r .xs .last) ≡ true → layersFrom r y ≡ from r (corner y (r .xs .first))
-  layers-from y e f = layers-more y e ∙ layer-from y (r .xs .first) f
+  layers-from : (y : ℤ) → leZ y (r .ys .last) ≡ true → leZ (r .zs .first) (r .zs .last) ≡ true → layersFrom r y ≡ from r (corner y (r .zs .first))
+  layers-from y e f = layers-more y e ∙ layer-from y (r .zs .first) f
 
   -- ---- where an axis has no cells, there are none
 
-  no-rows : leZ (r .zs .first) (r .zs .last) ≡ false → (y x : ℤ) → layerFrom r y x ≡ []
+  no-rows : leZ (r .xs .first) (r .xs .last) ≡ false → (y z : ℤ) → layerFrom r y z ≡ []
   unfolding layerFrom
-  no-rows e y x = along-empty _ x (r .xs .last) (λ k. row-none y k (r .zs .first) e)
+  no-rows e y z = along-empty _ z (r .zs .last) (λ k. row-none y k (r .xs .first) e)
 
-  no-layers : ((y : ℤ) → layerFrom r y (r .xs .first) ≡ []) → (y : ℤ) → layersFrom r y ≡ []
+  no-layers : ((y : ℤ) → layerFrom r y (r .zs .first) ≡ []) → (y : ℤ) → layersFrom r y ≡ []
   unfolding layersFrom
   no-layers h y = along-empty _ y (r .ys .last) h
 
@@ -133,70 +133,70 @@ module _ (r : Region) where
 
   begins : (toCome r (firstIn r) ≡ cellsOf r) × Proper r (firstIn r)
   unfolding toCome cellsOf firstIn layersFrom layerFrom rowFrom
-  begins = go (leZ (r .ys .first) (r .ys .last)) refl (leZ (r .xs .first) (r .xs .last)) refl (leZ (r .zs .first) (r .zs .last)) refl
+  begins = go (leZ (r .ys .first) (r .ys .last)) refl (leZ (r .zs .first) (r .zs .last)) refl (leZ (r .xs .first) (r .xs .last)) refl
     where
       first : Spot
-      first = corner (r .ys .first) (r .xs .first)
+      first = corner (r .ys .first) (r .zs .first)
 
-      go : (a : Bool) → leZ (r .ys .first) (r .ys .last) ≡ a → (b : Bool) → leZ (r .xs .first) (r .xs .last) ≡ b → (c : Bool) → leZ (r .zs .first) (r .zs .last) ≡ c →
+      go : (a : Bool) → leZ (r .ys .first) (r .ys .last) ≡ a → (b : Bool) → leZ (r .zs .first) (r .zs .last) ≡ b → (c : Bool) → leZ (r .xs .first) (r .xs .last) ≡ c →
           (cond (a && b && c) (from r first) [] ≡ layersFrom r (r .ys .first)) × Proper r (record { at = first; more = a && b && c })
       go true p true q true s = (
         sym (layers-from (r .ys .first) p q),
-        λ t. record { y = first-within (r .ys) p; x = first-within (r .xs) q; z = first-within (r .zs) s },
+        λ t. record { y = first-within (r .ys) p; z = first-within (r .zs) q; x = first-within (r .xs) s },
       )
-      go true p true q false s = (sym (no-layers (λ y. no-rows s y (r .xs .first)) (r .ys .first)), none-left first)
-      go true p false q c s = (sym (no-layers (λ y. layer-none y (r .xs .first) q) (r .ys .first)), none-left first)
+      go true p true q false s = (sym (no-layers (λ y. no-rows s y (r .zs .first)) (r .ys .first)), none-left first)
+      go true p false q c s = (sym (no-layers (λ y. layer-none y (r .zs .first) q) (r .ys .first)), none-left first)
       go false p b q c s = (sym (layers-none (r .ys .first) p), none-left first)
 
   -- ---- the next cell: of its row, else of its layer, else of the layer above, else none
 
   module _ (p : Spot) (h : Inside r p) where
-    row-next : rowFrom r (p .y) (p .x) (p .z) ≡ p ∷ rowFrom r (p .y) (p .x) (p .z +ℤ pos 1)
-    row-next = row-more (p .y) (p .x) (p .z) (h .z .high)
+    row-next : rowFrom r (p .y) (p .z) (p .x) ≡ p ∷ rowFrom r (p .y) (p .z) (p .x +ℤ pos 1)
+    row-next = row-more (p .y) (p .z) (p .x) (h .x .high)
 
-    next-z : ltZ (p .z) (r .zs .last) ≡ true → Follows r p (record { at = record { x = p .x; y = p .y; z = p .z +ℤ pos 1 }; more = true })
+    next-x : ltZ (p .x) (r .xs .last) ≡ true → Follows r p (record { at = record { x = p .x +ℤ pos 1; y = p .y; z = p .z }; more = true })
     unfolding from toCome
-    next-z e = (rw row-next, λ t. record { y = h .y; x = h .x; z = next-within (r .zs) (p .z) (h .z) e })
+    next-x e = (rw row-next, λ t. record { y = h .y; z = h .z; x = next-within (r .xs) (p .x) (h .x) e })
 
-    module _ (e : ltZ (p .z) (r .zs .last) ≡ false) where
+    module _ (e : ltZ (p .x) (r .xs .last) ≡ false) where
       -- the row ends with this cell
-      row-ends : from r p ≡ p ∷ (layerFrom r (p .y) (p .x +ℤ pos 1) ++ layersFrom r (p .y +ℤ pos 1))
+      row-ends : from r p ≡ p ∷ (layerFrom r (p .y) (p .z +ℤ pos 1) ++ layersFrom r (p .y +ℤ pos 1))
       unfolding from
-      row-ends = rw (row-next, row-none (p .y) (p .x) (p .z +ℤ pos 1) (past-last (r .zs) (p .z) e))
+      row-ends = rw (row-next, row-none (p .y) (p .z) (p .x +ℤ pos 1) (past-last (r .xs) (p .x) e))
 
-      first-z : Within (r .zs) (r .zs .first)
-      first-z = first-within (r .zs) (some-first (r .zs) (p .z) (h .z))
+      first-x : Within (r .xs) (r .xs .first)
+      first-x = first-within (r .xs) (some-first (r .xs) (p .x) (h .x))
 
-      next-x : ltZ (p .x) (r .xs .last) ≡ true → Follows r p (record { at = corner (p .y) (p .x +ℤ pos 1); more = true })
+      next-z : ltZ (p .z) (r .zs .last) ≡ true → Follows r p (record { at = corner (p .y) (p .z +ℤ pos 1); more = true })
       unfolding toCome
-      next-x f = (
-        row-ends ∙ ap (λ (l : List Spot). p ∷ l) (layer-from (p .y) (p .x +ℤ pos 1) (below-next (r .xs) (p .x) f)),
-        λ t. record { y = h .y; x = next-within (r .xs) (p .x) (h .x) f; z = first-z },
+      next-z f = (
+        row-ends ∙ ap (λ (l : List Spot). p ∷ l) (layer-from (p .y) (p .z +ℤ pos 1) (below-next (r .zs) (p .z) f)),
+        λ t. record { y = h .y; z = next-within (r .zs) (p .z) (h .z) f; x = first-x },
       )
 
-      module _ (f : ltZ (p .x) (r .xs .last) ≡ false) where
+      module _ (f : ltZ (p .z) (r .zs .last) ≡ false) where
         -- the layer ends with it too
         layer-ends : from r p ≡ p ∷ layersFrom r (p .y +ℤ pos 1)
-        layer-ends = row-ends ∙ rw (layer-none (p .y) (p .x +ℤ pos 1) (past-last (r .xs) (p .x) f))
+        layer-ends = row-ends ∙ rw (layer-none (p .y) (p .z +ℤ pos 1) (past-last (r .zs) (p .z) f))
 
-        next-y : ltZ (p .y) (r .ys .last) ≡ true → Follows r p (record { at = corner (p .y +ℤ pos 1) (r .xs .first); more = true })
+        next-y : ltZ (p .y) (r .ys .last) ≡ true → Follows r p (record { at = corner (p .y +ℤ pos 1) (r .zs .first); more = true })
         unfolding toCome
         next-y g = (
-          layer-ends ∙ ap (λ (l : List Spot). p ∷ l) (layers-from (p .y +ℤ pos 1) (below-next (r .ys) (p .y) g) (some-first (r .xs) (p .x) (h .x))),
-          λ t. record { y = next-within (r .ys) (p .y) (h .y) g; x = first-within (r .xs) (some-first (r .xs) (p .x) (h .x)); z = first-z },
+          layer-ends ∙ ap (λ (l : List Spot). p ∷ l) (layers-from (p .y +ℤ pos 1) (below-next (r .ys) (p .y) g) (some-first (r .zs) (p .z) (h .z))),
+          λ t. record { y = next-within (r .ys) (p .y) (h .y) g; z = first-within (r .zs) (some-first (r .zs) (p .z) (h .z)); x = first-x },
         )
 
-        next-none : ltZ (p .y) (r .ys .last) ≡ false → Follows r p (record { at = p; more = false })
+        next-none : ltZ (p .y) (r .ys .last) ≡ false → Follows r p (record { at = corner (p .y) (r .zs .first); more = false })
         unfolding toCome
-        next-none g = (layer-ends ∙ rw (layers-none (p .y +ℤ pos 1) (past-last (r .ys) (p .y) g)), none-left p)
+        next-none g = (layer-ends ∙ rw (layers-none (p .y +ℤ pos 1) (past-last (r .ys) (p .y) g)), none-left (corner (p .y) (r .zs .first)))
 
     follows : Follows r p (nextIn r p)
     unfolding nextIn
-    follows = go (ltZ (p .z) (r .zs .last)) refl (ltZ (p .x) (r .xs .last)) refl (ltZ (p .y) (r .ys .last)) refl
+    follows = go (ltZ (p .x) (r .xs .last)) refl (ltZ (p .z) (r .zs .last)) refl (ltZ (p .y) (r .ys .last)) refl
       where
-        go : (a : Bool) → ltZ (p .z) (r .zs .last) ≡ a → (b : Bool) → ltZ (p .x) (r .xs .last) ≡ b → (c : Bool) → ltZ (p .y) (r .ys .last) ≡ c → Follows r p (nextIn r p)
-        go true e b f c g = rw e (next-z e)
-        go false e true f c g = rw (e, f) (next-x e f)
+        go : (a : Bool) → ltZ (p .x) (r .xs .last) ≡ a → (b : Bool) → ltZ (p .z) (r .zs .last) ≡ b → (c : Bool) → ltZ (p .y) (r .ys .last) ≡ c → Follows r p (nextIn r p)
+        go true e b f c g = rw e (next-x e)
+        go false e true f c g = rw (e, f) (next-z e f)
         go false e false f true g = rw (e, f, g) (next-y e f g)
         go false e false f false g = rw (e, f, g) (next-none e f g)
 

@@ -1,6 +1,7 @@
--- The cells of a region, and how a cursor goes through them: layer by layer along y, in a layer row by row along x, in a row cell by cell along z.
+-- The cells of a region, and how a cursor goes through them: layer by layer along y, in a layer row by row along z, in a row cell by cell along x,
+-- as the cell table has them.
 -- Definitions only.
-use mathlib.Core.Bool.{true, false, _&&_, cond}
+use mathlib.Core.Bool.{true, _&&_, cond}
 use mathlib.Core.List.{List, [], _∷_}
 use lib.IntN.{pos, _+ℤ_}
 use lib.Signed.{ltZ, leZ}
@@ -13,20 +14,19 @@ use Rattle.regions.specs.Ranges.{along}
 unfoldable pub cellsOf : Region → List Spot
 cellsOf r =
     along (λ y.
-    along (λ x.
-    along (λ z. record { x = x; y = y; z = z } ∷ []) (r .zs .first) (r .zs .last)) (r .xs .first) (r .xs .last)) (r .ys .first) (r .ys .last)
+    along (λ z.
+    along (λ x. record { x = x; y = y; z = z } ∷ []) (r .xs .first) (r .xs .last)) (r .zs .first) (r .zs .last)) (r .ys .first) (r .ys .last)
 
 -- the first cell, where each axis has one
 unfoldable pub firstIn : Region → Cursor
 firstIn r = record {
   at = record { x = r .xs .first; y = r .ys .first; z = r .zs .first };
-  more = leZ (r .ys .first) (r .ys .last) && leZ (r .xs .first) (r .xs .last) && leZ (r .zs .first) (r .zs .last);
+  more = leZ (r .ys .first) (r .ys .last) && leZ (r .zs .first) (r .zs .last) && leZ (r .xs .first) (r .xs .last);
 }
 
--- after a cell: the next one of its row; past the row's last the first of the next row; past the layer's last the first of the next layer; then none
+-- after a cell: the next one of its row; past the row's last the first of the next row; past the layer's last the first of the next layer, if there is one
 unfoldable pub nextIn : Region → Spot → Cursor
 nextIn r p =
-    cond (ltZ (p .z) (r .zs .last)) (record { at = record { x = p .x; y = p .y; z = p .z +ℤ pos 1 }; more = true })
-    (cond (ltZ (p .x) (r .xs .last)) (record { at = record { x = p .x +ℤ pos 1; y = p .y; z = r .zs .first }; more = true })
-    (cond (ltZ (p .y) (r .ys .last)) (record { at = record { x = r .xs .first; y = p .y +ℤ pos 1; z = r .zs .first }; more = true })
-    (record { at = p; more = false })))
+    cond (ltZ (p .x) (r .xs .last)) (record { at = record { x = p .x +ℤ pos 1; y = p .y; z = p .z }; more = true })
+    (cond (ltZ (p .z) (r .zs .last)) (record { at = record { x = r .xs .first; y = p .y; z = p .z +ℤ pos 1 }; more = true })
+    (record { at = record { x = r .xs .first; y = cond (ltZ (p .y) (r .ys .last)) (p .y +ℤ pos 1) (p .y); z = r .zs .first }; more = ltZ (p .y) (r .ys .last) }))

@@ -32,11 +32,11 @@ pub fn floors(low: f64, high: f64, below: u8) -> Range
     Range { first, last }
 }
 
-// A range on each axis. Its cells come layer by layer along y, in a layer row by row along x, in a row cell by cell along z.
+// A range on each axis. Its cells come layer by layer along y, in a layer row by row along z, in a row cell by cell along x, as the cell table has them.
 pub struct Region {
     pub ys: Range,
-    pub xs: Range,
     pub zs: Range,
+    pub xs: Range,
 }
 
 // The numbers of a cell.
@@ -56,7 +56,7 @@ pub struct Cursor {
 pub fn first_in(r: Region) -> Cursor
     ensures { λ c. ⌜ c ≡ firstIn r ⌝ }
 {
-    let more = (r.ys.first <= r.ys.last) & (r.xs.first <= r.xs.last) & (r.zs.first <= r.zs.last);
+    let more = (r.ys.first <= r.ys.last) & (r.zs.first <= r.zs.last) & (r.xs.first <= r.xs.last);
     let at = Spot {
         x: r.xs.first,
         y: r.ys.first,
@@ -65,31 +65,26 @@ pub fn first_in(r: Region) -> Cursor
     Cursor { at, more }
 }
 
-// The cell after one, if there is one: a row goes along z, the rows of a layer along x, the layers along y.
+// The cell after one, if there is one: a row goes along x, the rows of a layer along z, the layers along y.
 pub fn next_in(r: Region, at: Spot) -> Cursor
     ensures { λ c. ⌜ c ≡ nextIn r at ⌝ }
 {
-    let x = at.x;
-    let y = at.y;
-    let z = at.z;
-    if z < r.zs.last {
-        let at = Spot { x, y, z: z + 1 };
-        Cursor { at, more: true }
-    } else if x < r.xs.last {
-        let at = Spot {
-            x: x + 1,
-            y,
-            z: r.zs.first,
-        };
-        Cursor { at, more: true }
-    } else if y < r.ys.last {
-        let at = Spot {
-            x: r.xs.first,
-            y: y + 1,
-            z: r.zs.first,
-        };
-        Cursor { at, more: true }
+    let mut x = at.x;
+    let mut y = at.y;
+    let mut z = at.z;
+    let mut more = true;
+    if x < r.xs.last {
+        x += 1;
     } else {
-        Cursor { at, more: false }
+        x = r.xs.first;
+        if z < r.zs.last {
+            z += 1;
+        } else {
+            z = r.zs.first;
+            more = y < r.ys.last;
+            y += more as i64;
+        }
     }
+    let at = Spot { x, y, z };
+    Cursor { at, more }
 }

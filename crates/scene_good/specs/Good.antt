@@ -3,7 +3,7 @@ use Prim.Native.Nat.{ℕ, _+_, _-_, _*_, _/_, _^_, _≤_, _<_}
 use native.Mathlib.Omega.{arith}
 use mathlib.Core.Path.{_≡_, refl, ap, _∙_}
 use mathlib.Core.Bool.{Bool, true, false, _&&_, cond}
-use mathlib.Core.List.{List, [], _∷_}
+use mathlib.Core.List.{List, [], _∷_, foldl}
 use mathlib.Core.Logic.{_⊎_, inl, inr, ⊎-elim}
 use borrow.Author.Tests.{leb-true, ltb-true, ltb-false, eqb-true, eqb-false}
 use lib.Dec.{leb, ltb, eqb}
@@ -12,6 +12,8 @@ use lib.Seq.{length-take-le}
 use Rattle.fields.specs.Little.{field, floatField}
 use Rattle.fields.specs.Laws.{length-with, read-back, read-other}
 use Rattle.fields.specs.Pieces.{Bytes, field-take}
+use Rattle.regions.specs.declared.Spot.{Spot}
+use Rattle.regions.specs.Regions.{cellsOf}
 use Rattle.world.specs.declared.Window.{Window}
 use Rattle.world.specs.Space.{firstOf, countOf, boxAt}
 use Rattle.tables.specs.BadWorld.{Sizes, sizeAbove, boxRule, records, badWorld}
@@ -19,9 +21,8 @@ use Rattle.tables.specs.Laws.{sizes-of}
 use Rattle.tables.specs.Good.{GoodWorld, good-is-not-bad}
 use Rattle.scene_rules.specs.declared.Counts.{Counts}
 use Rattle.scene_records.specs.Layout.{kindOf, numberOf, windowOf, volume, cellCount, boxOf}
-use Rattle.scene_fills.specs.declared.Fill.{Fill}
 use Rattle.scene_tables.specs.Made.{inTurn, withEntry, unfilled, emptyShapes, withShape, withBox}
-use Rattle.scene_fills.specs.Fills.{fillOf, cellOf, rowStart, rowOf, rowAt, layerOf, boxFilled, filled}
+use Rattle.scene_fills.specs.Fills.{regionOf, recordAt, withCell, filled}
 use Rattle.scene_good.specs.Turns.{entry-length, turn-length, run-first, run-second, out-first, out-second, box-length, box-number, box-away}
 use Rattle.scene_state.specs.declared.state.Reading.{Reading}
 use Rattle.scene_state.specs.declared.state.Scene.{Scene}
@@ -244,30 +245,20 @@ sound-empty t a b c = record {
 }
 
 -- a fill keeps the table's length
-module _ (f : Fill) where
-  cell : (start x : ℕ) (u : List ℕ) → length (cellOf f start x u) ≡ length u
-  unfolding cellOf
-  cell start x u = entry-length (f .state) (f .shape) (start + x) u
-
-  row : (y z : ℕ) (u : List ℕ) → length (rowAt f y z u) ≡ length u
-  unfolding rowAt rowOf
-  row y z u = turn-length (cellOf f (rowStart f y z)) (cell (rowStart f y z)) (f .xs .end - f .xs .low) (f .xs .low) u
-
-  layer : (y : ℕ) (u : List ℕ) → length (layerOf f y u) ≡ length u
-  unfolding layerOf
-  layer y u = turn-length (rowAt f y) (row y) (f .zs .end - f .zs .low) (f .zs .low) u
-
-  box-filled : (u : List ℕ) → length (boxFilled f u) ≡ length u
-  unfolding boxFilled
-  box-filled u = turn-length (layerOf f) layer (f .ys .end - f .ys .low) (f .ys .low) u
-
 filled-length : (w : Window) (s t : List ℕ) → length (filled w s t) ≡ length t
 unfolding filled
 filled-length w s t = go (sizeAbove w)
   where
-    go : (x : Bool) → length (cond x t (boxFilled (fillOf w s) t)) ≡ length t
+    cell : List ℕ → Spot → List ℕ
+    cell = withCell (w .sx) (w .sz) (field 4 s 32) (field 4 s 36)
+
+    each : (ps : List Spot) (u : List ℕ) → length (foldl cell u ps) ≡ length u
+    each [] u = refl
+    each (p ∷ ps) u = each ps (cell u p) ∙ entry-length (field 4 s 32) (field 4 s 36) (recordAt (w .sx) (w .sz) p) u
+
+    go : (x : Bool) → length (cond x t (foldl cell t (cellsOf (regionOf w s)))) ≡ length t
     go true = refl
-    go false = box-filled (fillOf w s) t
+    go false = each (cellsOf (regionOf w s)) t
 
 cells-length : (k : ℕ) (w : Window) (s t : List ℕ) → length (cellsAfter k w s t) ≡ length t
 unfolding cellsAfter unfilled

@@ -1,15 +1,16 @@
 -- `regions::next_in` meets its contract. Assumes nothing.
 use native.Mathlib.Omega.{arith}
-use mathlib.Core.Bool.{Bool, true}
-use mathlib.Core.Path.{_≡_, _∙_}
+use mathlib.Core.Bool.{Bool, true, false, cond}
+use mathlib.Core.Path.{_≡_, refl, _∙_}
 use lib.IntN.{ℤ, pos, _+ℤ_}
 use lib.Signed.{ltZ}
 use mir.Syntax.{w64}
-use mir.Val.{SFits, toZ, ofZ}
+use mir.Val.{SFits, toZ, ofZ, boolByte}
 use mir.Facts.{toZ-ofZ}
 use borrow.Author.Needs.{needs}
 use Rattle.cells.specs.Parts.{sum, lt-yes, within, upper, lower}
 use Rattle.regions.specs.Regions.{nextIn}
+use Rattle.regions.specs.RangeLaws.{plus-none}
 use Rattle.regions.proofs.next_in.Statement.{statement}
 use Rattle.regions.proofs.next_in.Tie as tie
 
@@ -28,6 +29,18 @@ module _ (k last : ℤ) (f : SFits w64 k) (g : SFits w64 last) where
   more-is : ltZ (again k) (again last) ≡ true → again (again k +ℤ pos 1) ≡ k +ℤ pos 1
   more-is t = toZ-ofZ (more-fits t) ∙ rw (toZ-ofZ f)
 
+  -- and one more exactly if it is
+  abbrev up : Bool → ℤ
+  up b = again k +ℤ toZ w64 (boolByte b)
+
+  up-fits : (b : Bool) → ltZ (again k) (again last) ≡ b → SFits w64 (up b)
+  up-fits true t = more-fits t
+  up-fits false t = rw (toZ-ofZ f, plus-none) f
+
+  up-is : (b : Bool) → ltZ (again k) (again last) ≡ b → again (up b) ≡ cond (ltZ k last) (k +ℤ pos 1) k
+  up-is true t = rw (test t) (more-is t)
+  up-is false t = rw (test t) (toZ-ofZ (up-fits false t) ∙ rw (toZ-ofZ f, plus-none))
+
 module _ (c : tie.After-struct-told) where
   fits-x : SFits w64 (c .before .args .at .x)
   fits-x = search needs
@@ -38,53 +51,50 @@ module _ (c : tie.After-struct-told) where
   fits-z : SFits w64 (c .before .args .at .z)
   fits-z = search needs
 
-module _ (c : tie.After-struct-told4) where
-  least-x : SFits w64 (c .before .before .before .before .before .args .r .xs .first)
+  least-x : SFits w64 (c .before .args .r .xs .first)
   least-x = search needs
 
-  least-z : SFits w64 (c .before .before .before .before .before .args .r .zs .first)
+  least-z : SFits w64 (c .before .args .r .zs .first)
   least-z = search needs
 
-  most-y : SFits w64 (c .before .before .before .before .before .args .r .ys .last)
-  most-y = search needs
-
-  most-x : SFits w64 (c .before .before .before .before .before .args .r .xs .last)
+  most-x : SFits w64 (c .before .args .r .xs .last)
   most-x = search needs
 
-  most-z : SFits w64 (c .before .before .before .before .before .args .r .zs .last)
+  most-y : SFits w64 (c .before .args .r .ys .last)
+  most-y = search needs
+
+  most-z : SFits w64 (c .before .args .r .zs .last)
   most-z = search needs
 
-add-t11 : tie.Need-add-t11
-add-t11 c = more-fits _ _ (fits-z (c .before .before .before .before .before)) (most-z (c .before)) (c .if1 .taken)
+add-x : tie.Need-add-x
+add-x c = let d = c .before .before .before .before .before in more-fits _ _ (fits-x d) (most-x d) (c .if1 .taken)
 
-add-t14 : tie.Need-add-t14
-add-t14 c = more-fits _ _ (fits-x (c .before .before .before .before .before .before .before .before)) (most-x (c .before .before .before .before)) (c .if2 .taken)
+add-z : tie.Need-add-z
+add-z c = let d = c .before .before .before .before .before .before .before .before .before in more-fits _ _ (fits-z d) (most-z d) (c .if2 .taken)
 
-add-t17 : tie.Need-add-t17
-add-t17 c = more-fits _ _ (fits-y (c .before .before .before .before .before .before .before .before .before .before .before)) (most-y (c .before .before .before .before .before .before .before)) (c .if3 .taken)
+cast-y : tie.Need-cast-y
+cast-y c = search needs
+
+add-y : tie.Need-add-y
+add-y c = let d = c .before .before .before .before .before .before .before .before .before .before .before .before in up-fits _ _ (fits-y d) (most-y d) _ refl
 
 returns : tie.Need-returns
 unfolding nextIn
 returns c =
-    rw (test _ _ (fits-z (c .before .before .before .before .before)) (most-z (c .before)) (c .if1 .taken))
-    (λ i. record { at = record { x = toZ-ofZ (fits-x (c .before .before .before .before .before)) i; y = toZ-ofZ (fits-y (c .before .before .before .before .before)) i; z = more-is _ _ (fits-z (c .before .before .before .before .before)) (most-z (c .before)) (c .if1 .taken) i }; more = true })
+    let d = c .before .before .before .before .before in
+    rw (test _ _ (fits-x d) (most-x d) (c .if1 .taken), more-is _ _ (fits-x d) (most-x d) (c .if1 .taken), toZ-ofZ (fits-y d), toZ-ofZ (fits-z d))
 
 returns-2 : tie.Need-returns-2
 unfolding nextIn
 returns-2 c =
-    rw (test _ _ (fits-z (c .before .before .before .before .before .before .before .before .before)) (most-z (c .before .before .before .before .before)) (c .before .before .before .before .if1 .left), test _ _ (fits-x (c .before .before .before .before .before .before .before .before .before)) (most-x (c .before .before .before .before .before)) (c .before .if2 .taken))
-    (λ i. record { at = record { x = more-is _ _ (fits-x (c .before .before .before .before .before .before .before .before .before)) (most-x (c .before .before .before .before .before)) (c .before .if2 .taken) i; y = toZ-ofZ (fits-y (c .before .before .before .before .before .before .before .before .before)) i; z = toZ-ofZ (least-z (c .before .before .before .before .before)) i }; more = true })
+    let d = c .before .before .before .before .before .before .before .before .before in
+    rw (test _ _ (fits-x d) (most-x d) (c .before .before .before .before .if1 .left), test _ _ (fits-z d) (most-z d) (c .if2 .taken), toZ-ofZ (least-x d), toZ-ofZ (fits-y d), more-is _ _ (fits-z d) (most-z d) (c .if2 .taken))
 
 returns-3 : tie.Need-returns-3
 unfolding nextIn
 returns-3 c =
-    rw (test _ _ (fits-z (c .before .before .before .before .before .before .before .before .before .before .before .before)) (most-z (c .before .before .before .before .before .before .before .before)) (c .before .before .before .before .before .before .before .if1 .left), test _ _ (fits-x (c .before .before .before .before .before .before .before .before .before .before .before .before)) (most-x (c .before .before .before .before .before .before .before .before)) (c .before .before .before .before .if2 .left), test _ _ (fits-y (c .before .before .before .before .before .before .before .before .before .before .before .before)) (most-y (c .before .before .before .before .before .before .before .before)) (c .before .if3 .taken))
-    (λ i. record { at = record { x = toZ-ofZ (least-x (c .before .before .before .before .before .before .before .before)) i; y = more-is _ _ (fits-y (c .before .before .before .before .before .before .before .before .before .before .before .before)) (most-y (c .before .before .before .before .before .before .before .before)) (c .before .if3 .taken) i; z = toZ-ofZ (least-z (c .before .before .before .before .before .before .before .before)) i }; more = true })
-
-returns-4 : tie.Need-returns-4
-unfolding nextIn
-returns-4 c =
-    rw (test _ _ (fits-z (c .before .before .before .before .before .before .before .before .before .before .before)) (most-z (c .before .before .before .before .before .before .before)) (c .before .before .before .before .before .before .if1 .left), test _ _ (fits-x (c .before .before .before .before .before .before .before .before .before .before .before)) (most-x (c .before .before .before .before .before .before .before)) (c .before .before .before .if2 .left), test _ _ (fits-y (c .before .before .before .before .before .before .before .before .before .before .before)) (most-y (c .before .before .before .before .before .before .before)) (c .if3 .left))
+    let d = c .before .before .before .before .before .before .before .before .before .before .before .before in
+    rw (test _ _ (fits-x d) (most-x d) (c .before .before .before .before .before .before .before .if1 .left), test _ _ (fits-z d) (most-z d) (c .before .before .before .if2 .left), up-is _ _ (fits-y d) (most-y d) _ refl, toZ-ofZ (least-x d), toZ-ofZ (least-z d), toZ-ofZ (fits-y d), toZ-ofZ (most-y d))
 
 pub next-in-spec : {M : Type 1} → statement M
-next-in-spec = tie.close (tie.spec add-t11 add-t14 add-t17 returns returns-2 returns-3 returns-4)
+next-in-spec = tie.close (tie.spec add-x add-z cast-y add-y returns returns-2 returns-3)
