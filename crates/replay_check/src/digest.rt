@@ -1,13 +1,7 @@
-// The digest of a scene's answers (oracle/README.md, `store`).
+// The digest of a case's answers (oracle/README.md, `store`).
+use heights::Height;
 use moves::EdgeAnswer;
 use outcomes::Answer;
-use world::Point;
-
-// A digest, and whether the edge that it ends with does not climb.
-pub(crate) struct Reached {
-    pub digest: u64,
-    pub level: bool,
-}
 
 // One more number, stirred by Marsaglia's xorshift of 64 bits: two rows that differ in one number have two digests.
 pub(crate) fn with(d: u64, x: u64) -> u64 {
@@ -17,48 +11,53 @@ pub(crate) fn with(d: u64, x: u64) -> u64 {
     b ^ (b << 17)
 }
 
-pub(crate) fn with_float(d: u64, x: f64) -> u64 {
+pub(crate) fn with_yes(d: u64, yes: bool) -> u64 {
+    with(d, yes as u64)
+}
+
+fn with_float(d: u64, x: f64) -> u64 {
     with(d, floats::bits_of(x))
 }
 
-// The first n bytes of a room.
-pub(crate) fn with_bytes(d: u64, room: &[u8; 28800], n: usize) -> u64 {
+// Every byte of a room, 8 to a number.
+pub(crate) fn with_words(d: u64, room: &[u8]) -> u64 {
     let mut sum = d;
-    for i in 0..n {
-        sum = with(sum, scene_records::byte_at(room, i) as u64);
+    let mut i: usize = 0;
+    while i < room.len() / 8 {
+        sum = with(sum, fields::u64_at(room, 8 * i));
+        i += 1;
     }
     sum
 }
 
+// The height's bits; 4 where there is none.
+pub(crate) fn with_height(d: u64, h: Height) -> u64 {
+    match h {
+        Height::At(y) => with_float(d, y),
+        Height::None => with(d, 4),
+    }
+}
+
 // The movement's number, then feet and lift; 4 where there is no edge.
-pub(crate) fn with_edge(d: u64, from: Point, a: EdgeAnswer) -> Reached {
+pub(crate) fn with_edge(d: u64, a: EdgeAnswer) -> u64 {
     let EdgeAnswer::To(w) = a else {
-        return Reached {
-            digest: with(d, 4),
-            level: false,
-        };
+        return with(d, 4);
     };
     let movement = w.movement;
-    let e = with(d, moves::movement_number(movement));
-    let f = with_float(with_float(with_float(e, w.feet.x), w.feet.y), w.feet.z);
-    Reached {
-        digest: with_float(f, w.lift),
-        level: sides::is_level(from, w.feet),
-    }
+    let e = with_float(with(d, moves::movement_number(movement)), w.feet.x);
+    with_float(with_float(with_float(e, w.feet.y), w.feet.z), w.lift)
 }
 
-// One more height, and the edge to it.
-pub(crate) fn with_height(c: Reached, y: f64, from: Point, a: EdgeAnswer) -> Reached {
-    let e = with_edge(with_float(c.digest, y), from, a);
-    Reached {
-        digest: e.digest,
-        level: c.level | e.level,
-    }
-}
-
-// The outcome and the three counts.
-pub(crate) fn with_answer(d: u64, a: Answer) -> u64 {
+// The outcome and the three counts, then every byte of the three rooms.
+pub(crate) fn with_search(
+    d: u64,
+    a: Answer,
+    nodes: &[u8; 28800],
+    front: &[u8; 28800],
+    out: &[u8; 28800],
+) -> u64 {
     let outcome = a.outcome;
     let e = with(with(d, outcomes::number_of(outcome)), a.count as u64);
-    with(with(e, a.retained as u64), a.closed)
+    let f = with(with(e, a.retained as u64), a.closed);
+    with_words(with_words(with_words(f, nodes), front), out)
 }

@@ -1,21 +1,37 @@
-// Asks the proved functions what is stored of scenes (oracle/README.md, `store`), read on standard input, and prints a line a scene: a digest of all that
-// they answered and left in their rooms. What it must print is what the original answers; scenes/replay.lst names the scenes.
-mod ask;
-mod columns;
+// Prints scenes as walkprint does, reads scenes, and asks the proved functions about them, all from standard input (oracle/README.md, `store`). A case prints
+// a line: a digest of all that was answered and left in the tables and rooms. What it must print is what the original answers; scenes/replay.lst names the
+// cases.
+mod asked;
+mod case;
 mod digest;
-mod stored;
+mod points;
+mod sheet;
 mod trial;
 
 use libc::STDOUT_FILENO;
 
-fn print_next() {
-    io::print_hex(STDOUT_FILENO, ask::next_scene(), 16);
+// The next scene that walkprint is to print: none, or one more than its bytes.
+fn print_scene() {
+    let n = input::number(2) as usize;
+    if 0 < n {
+        print::print_scene(n - 1);
+    }
+}
+
+fn print_line(d: u64) {
+    io::print_hex(STDOUT_FILENO, d, 16);
     io::write_all(STDOUT_FILENO, b"\n");
 }
 
+// What changes from case to case is a run of the scene's bytes and one of the sheet's.
 fn main() {
-    let count = stored::number();
+    let mut scene = [0u8; 24576];
+    let mut sheet = [0u8; 352];
+    let count = input::number(2);
     for _ in 0..count {
-        print_next();
+        print_scene();
+        sheet::change(&mut scene);
+        sheet::change(&mut sheet);
+        print_line(case::read(&scene, &sheet));
     }
 }

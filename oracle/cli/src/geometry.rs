@@ -5,7 +5,7 @@ use std::fmt::Write;
 use original::Checks;
 use scene::{Scene, Waypoint};
 
-use crate::replay::Case;
+use crate::replay::Tape;
 
 /// A question and its answer.
 pub enum Question {
@@ -112,23 +112,21 @@ fn about_pair(checks: &mut Checks, from: [f64; 3], to: [f64; 3], out: &mut Vec<Q
     }
 }
 
-/// The questions of a scene, asked in a case of `replay_check`. A point's
-/// columns have the heights and the steps.
-pub fn ask(scene: &Scene, case: &mut Case) {
+/// The questions of a scene, asked in cases of `replay_check`. Each case asks
+/// every function about two points, so a pair's edge stands for the segment
+/// too, and a point's columns for the heights and the steps.
+pub fn ask(bytes: &[u8], scene: &Scene, tape: &mut Tape) {
     for question in questions(scene) {
         match question {
-            Question::InRange(feet, yes) => case.ask_yes(1, &[feet], yes),
-            Question::Standable(feet, yes) => case.ask_yes(2, &[feet], yes),
-            Question::Clear([a, b, c, d, e, f], yes) => {
-                case.ask_yes(3, &[[a, b, c], [d, e, f]], yes);
+            Question::InRange(feet, _)
+            | Question::Standable(feet, _)
+            | Question::Connector(feet, _) => tape.ask_points(bytes, scene, feet, feet),
+            Question::Clear([a, b, c, d, e, f], _) => {
+                tape.ask_points(bytes, scene, [a, b, c], [d, e, f]);
             }
-            Question::Supported(from, to, yes) => case.ask_yes(4, &[from, to], yes),
-            Question::Heights(..) => {}
-            Question::Steps(from, _) => {
-                case.ask_columns(from, &Checks::new(scene).columns(from));
-            }
-            Question::Edge(from, to, edge) => case.ask_edge(6, &[from, to], edge),
-            Question::Connector(from, edge) => case.ask_edge(7, &[from], edge),
+            Question::Edge(from, to, _) => tape.ask_points(bytes, scene, from, to),
+            Question::Steps(from, _) => tape.ask_columns(bytes, scene, from),
+            Question::Supported(..) | Question::Heights(..) => {}
         }
     }
 }

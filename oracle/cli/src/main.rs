@@ -5,6 +5,7 @@ mod bench;
 mod digest;
 mod geometry;
 mod policy;
+mod printed;
 mod reader;
 mod replay;
 mod selftest;

@@ -1,108 +1,25 @@
 //! Cases for a scene reader: what it must refuse, and what then stands in its
 //! tables.
 
-use scene::{Partial, Record, write_bytes};
+use scene::{Record, write_bytes};
 
-use crate::digest::Digest;
+use crate::replay::Tape;
 
-/// The reader's tables at their largest sizes. They stay as they are from
-/// scene to scene.
-struct Rooms([Vec<u8>; 4]);
-
-impl Rooms {
-    fn empty() -> Self {
-        Rooms([8 * 4096, 256, 8 * 256, 48 * 256].map(|size| vec![0; size]))
-    }
-
-    /// Reads a scene into them: the line that the gate's program must print.
-    fn line(&mut self, bytes: &[u8]) -> String {
-        let (partial, bad) = scene::read_partial(bytes);
-        let raw = partial.tables.raw();
-        let made = raw.all();
-        for (room, made) in self.0.iter_mut().zip(made) {
-            room[..made.len()].copy_from_slice(made);
-        }
-        let mut digest = Digest::default();
-        if bad.is_none() {
-            answer(&mut digest, &partial);
-            for table in made {
-                digest.number(table.len() as u64);
-            }
-        }
-        for word in self.0.iter().flat_map(|room| room.as_chunks().0) {
-            digest.number(u64::from_le_bytes(*word));
-        }
-        let (number, record) = bad.map_or((0, 0), |bad| (7, bad.record));
-        format!("{number} {record} {}\n", digest.0)
-    }
-}
-
-/// The request, the body and the window of a whole scene.
-fn answer(digest: &mut Digest, partial: &Partial) {
-    let ends = partial.ends.expect("a record of kind 1");
-    let steps = partial.steps.expect("a record of kind 2");
-    floats(digest, &ends.start);
-    floats(digest, &ends.goal);
-    floats(digest, &[ends.max_range]);
-    digest.number(ends.node_budget);
-    floats(
-        digest,
-        &[steps.step_height, steps.jump_height, steps.max_drop],
-    );
-    let body = steps.body;
-    floats(digest, &[body.width, body.height, body.step_height]);
-    let window = partial.window.expect("a record of kind 3");
-    for origin in window.origin {
-        digest.number(u64::from(origin as u32));
-    }
-    for size in window.sizes {
-        digest.number(u64::from(size));
-    }
-}
-
-/// Their bits, with one pattern for every NaN.
-fn floats(digest: &mut Digest, numbers: &[f64]) {
-    for &number in numbers {
-        digest.number(if number.is_nan() {
-            0x7ff8_0000_0000_0000
-        } else {
-            number.to_bits()
-        });
-    }
-}
-
-/// No place of a scene: what is written there is lost.
-const NOWHERE: u32 = u32::MAX;
-
-/// What the gate's program reads and what it must print: a base scene with
-/// many small damages, then whole scenes.
-pub fn cases() -> (Vec<u8>, String) {
-    let mut rooms = Rooms::empty();
-    let mut count: u32 = 0;
-    let mut input = Vec::new();
-    let mut output = String::new();
-    let mut case = |new: &[u8], length: usize, place: u32, word: [u8; 8], scene: &[u8]| {
-        for number in [new.len() as u32, length as u32, place] {
-            input.extend(number.to_le_bytes());
-        }
-        input.extend(word);
-        input.extend(new);
-        output.push_str(&rooms.line(scene));
-        count += 1;
-    };
+/// A base scene with many small damages, then whole scenes; each in tables
+/// full of another byte.
+pub fn ask(tape: &mut Tape) {
+    let mut scenes = vec![];
     let base = write_bytes(&base_records());
-    case(&base, base.len(), NOWHERE, [0; 8], &base);
-    for damage in damages(&base) {
-        let scene = damage.applied(&base);
-        case(&[], damage.length, damage.at as u32, damage.bytes, &scene);
-    }
+    scenes.push(base.clone());
+    scenes.extend(damages(&base).iter().map(|damage| damage.applied(&base)));
     for scene in whole_scenes() {
-        let read = to_first_bad(&scene);
-        case(read, read.len(), NOWHERE, [0; 8], read);
+        scenes.push(to_first_bad(&scene).to_vec());
     }
-    let mut all = count.to_le_bytes().to_vec();
-    all.extend(input);
-    (all, output)
+    tape.named("read", |tape| {
+        for (k, scene) in scenes.iter().enumerate() {
+            tape.ask_reader(scene, (37 * k) as u8);
+        }
+    });
 }
 
 /// A scene to its first bad record: a reader reads no further.

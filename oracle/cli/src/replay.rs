@@ -1,11 +1,14 @@
-//! The stored scenes and questions of the gate's program `replay_check`, and
-//! what it must print: a digest of the original's answers for each scene.
-//! oracle/README.md describes the layout.
+//! The stored cases of the gate's program `replay_check`, and what it must
+//! print: a digest of the original's answers for each. oracle/README.md
+//! describes the layout.
 
-use std::collections::HashMap;
+use std::collections::VecDeque;
 use std::fmt::Write;
 
-use scene::{Refusal, Scene, Waypoint};
+use original::Checks;
+use scene::{Partial, Refusal, Scene, Waypoint};
+
+use crate::printed;
 
 /// Every number of the layout has two bytes.
 fn number(n: usize) -> [u8; 2] {
@@ -13,7 +16,7 @@ fn number(n: usize) -> [u8; 2] {
 }
 
 /// A row of numbers, folded to one.
-#[derive(Debug, Default, Clone, Copy)]
+#[derive(Debug, Clone, Copy)]
 struct Row(u64);
 
 impl Row {
@@ -26,192 +29,331 @@ impl Row {
         self.0 = w;
     }
 
-    fn take_bytes(&mut self, bytes: &[u8]) {
-        bytes.iter().for_each(|&byte| self.take(byte.into()));
+    fn take_float(&mut self, x: f64) {
+        self.take(bits(x));
     }
-}
 
-/// A scene with its questions, and the digest of their answers so far.
-pub struct Case {
-    name: String,
-    bytes: Vec<u8>,
-    /// What the questions name by its place.
-    pool: Vec<u8>,
-    places: HashMap<Vec<u8>, usize>,
-    questions: Vec<[usize; 3]>,
-    answers: Row,
-}
-
-impl Case {
-    pub fn new(name: String, bytes: Vec<u8>) -> Self {
-        Self {
-            name,
-            bytes,
-            pool: Vec::new(),
-            places: HashMap::new(),
-            questions: Vec::new(),
-            answers: Row::default(),
+    /// Eight bytes to a number.
+    fn take_words(&mut self, bytes: &[u8]) {
+        for word in bytes.as_chunks().0 {
+            self.take(u64::from_le_bytes(*word));
         }
     }
 
-    /// Bytes at the end of the pool; their place.
-    fn add(&mut self, bytes: &[u8]) -> usize {
-        self.pool.extend(bytes);
-        self.pool.len() - bytes.len()
-    }
-
-    /// The place of bytes that no question writes to.
-    fn place(&mut self, bytes: &[u8]) -> usize {
-        if let Some(&place) = self.places.get(bytes) {
-            return place;
-        }
-        let place = self.add(bytes);
-        self.places.insert(bytes.to_vec(), place);
-        place
-    }
-
-    fn point(&mut self, feet: [f64; 3]) -> usize {
-        self.place(feet.map(|n| n.to_bits().to_le_bytes()).as_flattened())
-    }
-
-    /// A question about points that yes or no answers.
-    pub fn ask_yes(&mut self, kind: usize, points: &[[f64; 3]], yes: bool) {
-        self.about(kind, points);
-        self.answers.take(yes.into());
-    }
-
-    /// A question about points that an edge answers.
-    pub fn ask_edge(&mut self, kind: usize, points: &[[f64; 3]], edge: Option<Waypoint>) {
-        self.about(kind, points);
-        self.take_edge(edge);
-    }
-
-    fn about(&mut self, kind: usize, points: &[[f64; 3]]) {
-        let places: Vec<usize> = points.iter().map(|&feet| self.point(feet)).collect();
-        let b = places.get(1).copied().unwrap_or_default();
-        self.questions.push([kind, places[0], b]);
-    }
-
-    /// The nine columns around a point: heights, edges to them, and whether
-    /// the graph looks at the column.
-    pub fn ask_columns(&mut self, from: [f64; 3], columns: &[original::Column]) {
-        self.about(5, &[from]);
-        for column in columns {
-            for &(height, edge) in &column.heights {
-                self.answers.take(height.to_bits());
-                self.take_edge(edge);
-            }
-            self.answers.take(column.looked.into());
+    fn take_height(&mut self, height: Option<f64>) {
+        match height {
+            Some(y) => self.take_float(y),
+            None => self.take(4),
         }
     }
 
     fn take_edge(&mut self, edge: Option<Waypoint>) {
         let Some(point) = edge else {
-            self.answers.take(4);
+            self.take(4);
             return;
         };
-        self.answers.take(point.movement);
+        self.take(point.movement);
         for number in [point.feet[0], point.feet[1], point.feet[2], point.lift] {
-            self.answers.take(number.to_bits());
+            self.take_float(number);
+        }
+    }
+}
+
+/// A float's bits, with one pattern for every NaN.
+fn bits(x: f64) -> u64 {
+    if x.is_nan() {
+        0x7ff8_0000_0000_0000
+    } else {
+        x.to_bits()
+    }
+}
+
+/// The places of the sheet, as crates/replay_check/src/sheet.rt has them.
+const KIND: usize = 256;
+const SCENE: usize = 260;
+const LIST: usize = 264;
+const CELLS: usize = 268;
+const ROOMS: [usize; 3] = [272, 276, 280];
+const FILL: usize = 284;
+const COLUMN: usize = 288;
+const SIDES: usize = 292;
+const AFTER: usize = 296;
+const FROM: usize = 304;
+const TO: usize = 328;
+const SHEET: usize = 352;
+
+/// What is asked: two points, the list, a search.
+const POINTS: usize = 0;
+const WALK: usize = 1;
+const SEARCH: usize = 2;
+
+/// The bytes of each of the program's rooms for a search.
+const ROOM: usize = 28_800;
+
+/// The largest sizes of the four tables.
+const TABLES: [usize; 4] = [8 * 4096, 256, 8 * 256, 48 * 256];
+
+/// All that is asked, in order, and what must be printed of it.
+pub struct Tape {
+    input: Vec<u8>,
+    output: String,
+    names: String,
+    cases: usize,
+    /// The scene's bytes and the sheet as the program holds them.
+    held: [Vec<u8>; 2],
+    /// The sheet of the next case.
+    sheet: Vec<u8>,
+    /// Scenes still to be printed, one with each case.
+    printed: VecDeque<Vec<u8>>,
+}
+
+impl Tape {
+    pub fn new(printed: Vec<Vec<u8>>) -> Self {
+        Self {
+            input: Vec::new(),
+            output: String::new(),
+            names: String::new(),
+            cases: 0,
+            held: [vec![0; 24_576], vec![0; SHEET]],
+            sheet: vec![0; SHEET],
+            printed: printed.into(),
         }
     }
 
-    /// Walk-backs of lists, the first of them whole; one that differs from it
-    /// in one word is made of it, and then that is mended.
-    pub fn ask_lists(&mut self, scene: &Scene, lists: &[Vec<u8>]) {
-        let first = &lists[0];
-        let base = self.add(first);
-        for list in lists {
-            let words = list.chunks(8).zip(first.chunks(8)).enumerate();
-            let other: Vec<_> = words.filter(|(_, (a, b))| a != b).collect();
-            match other[..] {
-                [(word, (new, old))] if list.len() == first.len() => {
-                    let at = base + 8 * word;
-                    let [new, old] = [self.place(new), self.place(old)];
-                    self.questions.push([0, new, at]);
-                    self.questions.push([8, base, list.len()]);
-                    self.questions.push([0, old, at]);
-                }
-                _ => {
-                    let place = if list == first {
-                        base
-                    } else {
-                        self.place(list)
-                    };
-                    self.questions.push([8, place, list.len()]);
-                }
+    /// Some cases under one name.
+    pub fn named(&mut self, name: &str, cases: impl FnOnce(&mut Self)) {
+        let first = self.cases;
+        cases(self);
+        let _ = writeln!(self.names, "{first} {} {name}", self.cases - 1);
+    }
+
+    /// The program's input, its output, and the cases' names.
+    pub fn files(self) -> [Vec<u8>; 3] {
+        assert!(self.printed.is_empty(), "each scene has a case");
+        let input = [&number(self.cases)[..], &self.input].concat();
+        [input, self.output.into_bytes(), self.names.into_bytes()]
+    }
+
+    fn put(&mut self, at: usize, n: usize) {
+        let n = u32::try_from(n).expect("it fits four bytes");
+        self.sheet[at..at + 4].copy_from_slice(&n.to_le_bytes());
+    }
+
+    fn put_floats(&mut self, at: usize, numbers: &[f64]) {
+        let bytes: Vec<u8> = numbers.iter().flat_map(|n| n.to_le_bytes()).collect();
+        self.sheet[at..at + bytes.len()].copy_from_slice(&bytes);
+    }
+
+    /// A case: a scene, the sheet, and the answers to what it asks.
+    fn case(&mut self, bytes: &[u8], answers: Row) {
+        match self.printed.pop_front() {
+            Some(scene) => {
+                self.input.extend(number(scene.len() + 1));
+                self.output.push_str(&printed::text(&scene));
+                self.input.extend(scene);
             }
-            self.answers.take(match original::walk_back(scene, list) {
+            None => self.input.extend(number(0)),
+        }
+        let sheet = self.sheet.clone();
+        for (held, new) in self.held.iter_mut().zip([bytes, &sheet]) {
+            self.input.extend(change(&held[..new.len()], new));
+            held[..new.len()].copy_from_slice(new);
+        }
+        let _ = writeln!(self.output, "{:016x}", answers.0);
+        self.cases += 1;
+    }
+
+    /// What reading answers and leaves in the tables.
+    fn read(&mut self, bytes: &[u8]) -> Row {
+        self.put(SCENE, bytes.len());
+        let (partial, bad) = scene::read_partial(bytes);
+        let mut row = Row(if bad.is_some() { 7 } else { 0 });
+        row.take_words(&match bad {
+            Some(bad) => [&bad.record.to_le_bytes()[..], &[0; 160]].concat(),
+            None => record(&partial),
+        });
+        let raw = partial.tables.raw();
+        for (size, made) in TABLES.into_iter().zip(raw.all()) {
+            let mut table = vec![self.sheet[FILL]; size];
+            table[..made.len()].copy_from_slice(made);
+            row.take_words(&table);
+        }
+        row
+    }
+
+    /// A scene that is only read, if it is refused; a whole one is searched.
+    pub fn ask_reader(&mut self, bytes: &[u8], fill: u8) {
+        match scene::read(bytes) {
+            Ok(scene) => self.ask_search(bytes, &scene, 0, 0, fill),
+            Err(_) => {
+                self.put(FILL, fill.into());
+                let row = self.read(bytes);
+                self.case(bytes, row);
+            }
+        }
+    }
+
+    /// Two points, with the first one's own column.
+    pub fn ask_points(&mut self, bytes: &[u8], scene: &Scene, from: [f64; 3], to: [f64; 3]) {
+        let centre = |x: f64| f64::from(x.floor() as i32) + 0.5;
+        let [x, y, z] = from;
+        let heights = Checks::new(scene).candidate_heights(centre(x), centre(z), y);
+        self.put(COLUMN, 0);
+        self.sheet[SIDES..SIDES + 4].fill(0);
+        self.points(bytes, scene, from, to, true, heights.first(), f64::INFINITY, None);
+    }
+
+    /// The nine columns around a point: each height with the next, the edge to
+    /// it, and whether the graph looks at the column.
+    pub fn ask_columns(&mut self, bytes: &[u8], scene: &Scene, from: [f64; 3]) {
+        for (n, column) in Checks::new(scene).columns(from).into_iter().enumerate() {
+            self.put(COLUMN, n);
+            self.sheet[SIDES..SIDES + 4].copy_from_slice(&column.sides.map(u8::from));
+            let heights: Vec<f64> = column.heights.iter().map(|(y, _)| *y).collect();
+            let first = heights.first();
+            let looked = column.looked;
+            if first.is_none() {
+                self.points(bytes, scene, from, from, looked, None, f64::INFINITY, None);
+            }
+            for (k, &y) in heights.iter().enumerate() {
+                let to = [column.x, y, column.z];
+                let next = heights.get(k + 1);
+                self.points(bytes, scene, from, to, looked, first, y, next);
+            }
+        }
+    }
+
+    #[expect(clippy::too_many_arguments, reason = "a question and its answer")]
+    fn points(
+        &mut self,
+        bytes: &[u8],
+        scene: &Scene,
+        from: [f64; 3],
+        to: [f64; 3],
+        looked: bool,
+        first: Option<&f64>,
+        after: f64,
+        next: Option<&f64>,
+    ) {
+        self.put(KIND, POINTS);
+        self.put_floats(AFTER, &[after]);
+        self.put_floats(FROM, &from);
+        self.put_floats(TO, &to);
+        let mut row = self.read(bytes);
+        let mut checks = Checks::new(scene);
+        let [[a, b, c], [d, e, f]] = [from, to];
+        row.take(looked.into());
+        row.take(checks.in_range(from).into());
+        row.take(checks.standable(from).into());
+        row.take(checks.clear_area([a, b, c, d, e, f]).into());
+        row.take(checks.supported_segment(from, to).into());
+        row.take_edge(checks.edge(from, to));
+        row.take_edge(checks.connector(from));
+        row.take_height(first.copied());
+        row.take_height(next.copied());
+        self.case(bytes, row);
+    }
+
+    /// Walk-backs of lists.
+    pub fn ask_lists(&mut self, bytes: &[u8], scene: &Scene, lists: &[Vec<u8>]) {
+        self.put(KIND, WALK);
+        for list in lists {
+            self.sheet[..list.len()].copy_from_slice(list);
+            self.put(LIST, list.len());
+            let mut row = self.read(bytes);
+            row.take(match original::walk_back(scene, list) {
                 Ok(yes) => yes.into(),
                 Err(refusal) => refusal.number.into(),
             });
+            self.case(bytes, row);
         }
     }
 
     /// A search in rooms with so many bytes more than its budget asks for, one
-    /// of them a byte short.
-    pub fn ask_search(&mut self, scene: &Scene, more: usize, short: usize) {
-        self.questions.push([9, more, short]);
-        let budget = (scene.request.node_budget % 4097) as usize;
-        let rooms = [
-            (56 * budget, 28_800),
-            (24 * budget, 12_400),
-            (40 * (budget + 1), 20_600),
-        ];
-        let mut lent = Vec::new();
-        for (place, (asked, most)) in rooms.into_iter().enumerate() {
-            let size = (asked + more).saturating_sub(usize::from(short == place + 1));
-            assert!(size <= most, "the program's room is large enough");
-            lent.push((0..size).map(|i| (i % 251) as u8).collect::<Vec<u8>>());
+    /// of them a byte short: 1 to 3 a room, 4 the cell table. Rooms and tables
+    /// are full of a byte.
+    pub fn ask_search(
+        &mut self,
+        bytes: &[u8],
+        scene: &Scene,
+        more: usize,
+        short: usize,
+        fill: u8,
+    ) {
+        let budget = scene.request.node_budget as usize;
+        let asked = [56 * budget, 24 * budget, 40 * (budget + 1)];
+        let mut lent = [0; 3];
+        for (room, place) in ROOMS.into_iter().enumerate() {
+            lent[room] = (asked[room] + more).saturating_sub(usize::from(short == room + 1));
+            assert!(lent[room] <= ROOM, "the program's room is large enough");
+            self.put(place, lent[room]);
         }
-        let enough = lent
-            .iter()
-            .zip(rooms)
-            .all(|(room, (asked, _))| asked <= room.len());
+        let enough = asked.iter().zip(lent).all(|(asked, lent)| *asked <= lent);
+        let cells = scene.tables.raw().cells.len();
+        self.put(KIND, SEARCH);
+        self.put(CELLS, cells.saturating_sub(usize::from(short == 4)));
+        self.put(FILL, fill.into());
+        let mut row = self.read(bytes);
+        let mut rooms = [0; 3].map(|_: u8| vec![fill; ROOM]);
         match searched(scene, short == 4, enough) {
             Ok(answer) => {
                 let counts = [answer.list.len(), answer.nodes.len()].map(|n| n as u64);
                 let [count, retained] = counts;
                 for n in [answer.outcome as u64, count, retained, answer.closed] {
-                    self.answers.take(n);
+                    row.take(n);
                 }
                 for (place, node) in answer.nodes.iter().enumerate() {
-                    lent[0][56 * place..][..56].copy_from_slice(&node.bytes());
+                    rooms[0][56 * place..][..56].copy_from_slice(&node.bytes());
                 }
                 if !answer.nodes.is_empty() {
-                    lent[1].fill(0);
+                    rooms[1][..lent[1]].fill(0);
                 }
                 for (place, point) in answer.list.iter().enumerate() {
-                    lent[2][40 * place..][..40].copy_from_slice(&point.bytes());
+                    rooms[2][40 * place..][..40].copy_from_slice(&point.bytes());
                 }
             }
             Err(refusal) => {
                 for n in [u64::from(refusal.number), 0, 0, 0] {
-                    self.answers.take(n);
+                    row.take(n);
                 }
             }
         }
-        lent.iter().for_each(|room| self.answers.take_bytes(room));
+        rooms.iter().for_each(|room| row.take_words(room));
+        self.case(bytes, row);
     }
+}
 
-    /// Records, each without the zeros at its end; pool; questions.
-    fn input(&self) -> Vec<u8> {
-        let records = self.bytes.chunks(scene::RECORD);
-        let mut out = number(records.len()).to_vec();
-        for record in records {
-            let length = record
-                .iter()
-                .rposition(|&byte| byte != 0)
-                .map_or(0, |k| k + 1);
-            out.extend(number(length));
-            out.extend(&record[..length]);
-        }
-        out.extend(number(self.pool.len()));
-        out.extend(&self.pool);
-        out.extend(number(self.questions.len()));
-        out.extend(self.questions.iter().flatten().flat_map(|&n| number(n)));
-        out
-    }
+/// The shortest run in which two rows of bytes differ: its place, its length,
+/// and the new one's bytes.
+fn change(old: &[u8], new: &[u8]) -> Vec<u8> {
+    let differs = |k: &usize| old[*k] != new[*k];
+    let first = (0..new.len()).find(differs).unwrap_or(0);
+    let end = (0..new.len()).rfind(differs).map_or(0, |k| k + 1);
+    let run = &new[first..end];
+    [&number(first)[..], &number(run.len()), run].concat()
+}
+
+/// A whole scene's record, as include/walkprint.h has it.
+fn record(partial: &Partial) -> Vec<u8> {
+    let ends = partial.ends.expect("a record of kind 1");
+    let steps = partial.steps.expect("a record of kind 2");
+    let body = steps.body;
+    let window = partial.window.expect("a record of kind 3");
+    let floats = |numbers: &[f64]| -> Vec<u8> {
+        let all = numbers.iter().flat_map(|n| bits(*n).to_le_bytes());
+        all.collect()
+    };
+    let mut out = floats(&[ends.start, ends.goal].concat());
+    out.extend(floats(&[ends.max_range, steps.step_height]));
+    out.extend(floats(&[steps.jump_height, steps.max_drop]));
+    out.extend(ends.node_budget.to_le_bytes());
+    out.extend(floats(&[body.width, body.height, body.step_height]));
+    out.extend(window.origin.iter().flat_map(|n| n.to_le_bytes()));
+    out.extend(window.sizes.iter().flat_map(|n| n.to_le_bytes()));
+    let raw = partial.tables.raw();
+    let sizes = raw.all().map(|table| table.len() as u64);
+    out.extend(sizes.iter().flat_map(|n| n.to_le_bytes()));
+    out
 }
 
 /// "3; `valid_request`; 4; 5", then the original.
@@ -234,16 +376,4 @@ fn searched(scene: &Scene, short: bool, enough: bool) -> scene::Verdict {
         });
     }
     verdict
-}
-
-/// The program's input, its output, and the cases' names.
-pub fn files(cases: &[Case]) -> [Vec<u8>; 3] {
-    let mut input = number(cases.len()).to_vec();
-    let [mut output, mut names] = [String::new(), String::new()];
-    for (place, case) in cases.iter().enumerate() {
-        input.extend(case.input());
-        let _ = writeln!(output, "{:016x}", case.answers.0);
-        let _ = writeln!(names, "{place} {}", case.name);
-    }
-    [input, output.into_bytes(), names.into_bytes()]
 }

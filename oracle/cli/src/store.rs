@@ -6,8 +6,8 @@ use std::path::Path;
 
 use scene::Verdict;
 
-use crate::replay::{self, Case};
-use crate::{geometry, policy, reader, scene_file, walks};
+use crate::replay::Tape;
+use crate::{geometry, policy, printed, reader, scene_file, walks};
 
 /// A scene and where it comes from.
 struct Source {
@@ -28,17 +28,16 @@ pub fn store(folder: &Path) -> Result<String, String> {
 /// Each list's file and bytes. Those of the gate's programs lie beside the
 /// folder, under `crates`.
 pub fn lists(folder: &Path) -> Result<Vec<(&'static str, Vec<u8>)>, String> {
-    let mut cases = searches(folder)?;
-    cases.extend(geometries(folder)?);
-    cases.extend(walks::cases());
-    let [input, output, names] = replay::files(&cases);
-    let (scenes, lines) = reader::cases();
+    let mut tape = Tape::new(printed::scenes(folder)?);
+    searches(folder, &mut tape)?;
+    geometries(folder, &mut tape)?;
+    walks::ask(&mut tape);
+    reader::ask(&mut tape);
+    let [input, output, names] = tape.files();
     Ok(vec![
         ("../crates/replay_check/stdin", input),
         ("../crates/replay_check/stdout", output),
         ("replay.lst", names),
-        ("../crates/scene_check/stdin", scenes),
-        ("../crates/scene_check/stdout", lines.into_bytes()),
         ("jumps.bin", policy::jump_records()),
     ])
 }
@@ -74,12 +73,20 @@ fn size(bytes: &[u8], verdict: &Verdict) -> usize {
 }
 
 /// The trials of a search: rooms too long by a record of any and a part of
-/// one, of exactly the size, and each of them and the cell table a byte short.
-const TRIALS: [(usize, usize); 6] = [(61, 0), (0, 0), (0, 1), (0, 2), (0, 3), (0, 4)];
+/// one, of exactly the size, and each of them and the cell table a byte short;
+/// and the byte that all are full of.
+const TRIALS: [(usize, usize, u8); 6] = [
+    (61, 0, 171),
+    (0, 0, 255),
+    (0, 1, 1),
+    (0, 2, 64),
+    (0, 3, 0),
+    (0, 4, 128),
+];
 
 /// Every directed scene that reads, the flat one first, then of each kind the
 /// first seeds with each answer.
-fn searches(folder: &Path) -> Result<Vec<Case>, String> {
+fn searches(folder: &Path, tape: &mut Tape) -> Result<(), String> {
     let mut sources = Vec::new();
     for name in directed(folder)? {
         let file = folder.join(&name);
@@ -90,19 +97,18 @@ fn searches(folder: &Path) -> Result<Vec<Case>, String> {
     for kind in scene::KINDS {
         sources.extend(chosen(kind));
     }
-    let mut cases = Vec::new();
     for Source { name, bytes } in sources {
         let Ok(scene) = scene::read(&bytes) else {
             continue;
         };
         let answer = number(&original::judge(&scene));
-        let mut case = Case::new(format!("{name} search {answer}"), bytes);
-        for (more, short) in TRIALS {
-            case.ask_search(&scene, more, short);
-        }
-        cases.push(case);
+        tape.named(&format!("{name} search {answer}"), |tape| {
+            for (more, short, fill) in TRIALS {
+                tape.ask_search(&bytes, &scene, more, short, fill);
+            }
+        });
     }
-    Ok(cases)
+    Ok(())
 }
 
 /// Seeds of a kind whose answers differ in kind, small ones.
@@ -162,7 +168,7 @@ fn ground(kind: &str) -> Option<Source> {
 
 /// A ground of each of these kinds, then the directed scenes that only a
 /// question tells apart (`asked-*.txt`), with the questions of `geometry`.
-fn geometries(folder: &Path) -> Result<Vec<Case>, String> {
+fn geometries(folder: &Path, tape: &mut Tape) -> Result<(), String> {
     let mut sources: Vec<Source> = GROUNDS.iter().filter_map(|kind| ground(kind)).collect();
     for name in directed(folder)? {
         if name.starts_with("asked-") {
@@ -170,12 +176,11 @@ fn geometries(folder: &Path) -> Result<Vec<Case>, String> {
             sources.push(Source { name, bytes });
         }
     }
-    let mut cases = Vec::new();
     for Source { name, bytes } in sources {
         let scene = scene::read(&bytes).map_err(|bad| format!("bad record {}", bad.record))?;
-        let mut case = Case::new(format!("{name} geometry"), bytes);
-        geometry::ask(&scene, &mut case);
-        cases.push(case);
+        tape.named(&format!("{name} geometry"), |tape| {
+            geometry::ask(&bytes, &scene, tape);
+        });
     }
-    Ok(cases)
+    Ok(())
 }

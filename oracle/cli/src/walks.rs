@@ -2,7 +2,7 @@
 
 use scene::{Answer, Outcome, Scene, u64_at};
 
-use crate::replay::Case;
+use crate::replay::Tape;
 
 const KINDS: [&str; 6] = ["levels", "slabs", "stairs", "doors", "far", "zeros"];
 /// The most bytes of a scene, and the seeds looked through for each kind.
@@ -10,16 +10,16 @@ const SCENE: usize = 32 * scene::RECORD;
 const SEEDS: u64 = 1000;
 
 /// Scenes with lists to walk back.
-pub fn cases() -> Vec<Case> {
-    KINDS.into_iter().filter_map(case).collect()
-}
-
-fn case(kind: &str) -> Option<Case> {
-    let (seed, bytes, answer) = found(kind)?;
-    let scene = scene::read(&bytes).expect("it was searched");
-    let mut case = Case::new(format!("make {seed} {kind} walkback"), bytes);
-    case.ask_lists(&scene, &lists(&scene, &answer));
-    Some(case)
+pub fn ask(tape: &mut Tape) {
+    for kind in KINDS {
+        let Some((seed, bytes, answer)) = found(kind) else {
+            continue;
+        };
+        let scene = scene::read(&bytes).expect("it was searched");
+        tape.named(&format!("make {seed} {kind} walkback"), |tape| {
+            tape.ask_lists(&bytes, &scene, &lists(&scene, &answer));
+        });
+    }
 }
 
 /// The first small scene of a kind with a list of four points.

@@ -189,9 +189,12 @@ pub fn verdict(bytes: &[u8]) -> Verdict {
     }
 }
 
-/// A column around a point: whether the graph looks at it, and its heights
-/// with the edges to them.
+/// A column around a point: its centre, the answers of the four sides before
+/// it, whether the graph looks at it, and its heights with the edges to them.
 pub struct Column {
+    pub x: f64,
+    pub z: f64,
+    pub sides: [bool; 4],
     pub looked: bool,
     pub heights: Vec<(f64, Option<Waypoint>)>,
 }
@@ -316,6 +319,7 @@ impl Checks {
             };
             let x = f64::from(column.x + dx) + 0.5;
             let z = f64::from(column.z + dz) + 0.5;
+            let sides = level;
             let mut heights = Vec::new();
             for y in self.candidate_heights(x, z, from[1]) {
                 let edge = self.edge(from, [x, y, z]);
@@ -324,7 +328,13 @@ impl Checks {
                 }
                 heights.push((y, edge));
             }
-            out.push(Column { looked, heights });
+            out.push(Column {
+                x,
+                z,
+                sides,
+                looked,
+                heights,
+            });
         }
         out
     }

@@ -1,13 +1,13 @@
--- `scene_check::cases::front` is safe and ends. Assumes nothing.
+-- `replay_check::sheet::front` is safe and ends. Assumes nothing.
 use mathlib.Core.Path.{sym}
 use lib.Seq.{length-take-le}
 use denote.Ref.{now}
 use borrow.Author.Needs.{needs}
-use Rattle.scene_check.proofs.cases.front.Statement.{statement}
-use Rattle.scene_check.proofs.cases.front.Tie as tie
+use Rattle.replay_check.proofs.sheet.front.Statement.{statement}
+use Rattle.replay_check.proofs.sheet.front.Tie as tie
 
 slice-aggregate-result : tie.Need-slice-aggregate-result
-slice-aggregate-result c = sym (length-take-le (c .before .before .args .n) (now (c .before .before .args .scene)) (c .before .if1 .taken))
+slice-aggregate-result c = sym (length-take-le (c .before .before .args .n) (now (c .before .before .args .s)) (c .before .if1 .taken))
 
 returns : tie.Need-returns
 returns c = search needs

@@ -1,15 +1,15 @@
--- `scene_check::digest::table` is safe and ends. Assumes nothing.
+-- `replay_check::digest::with_words` is safe and ends. Assumes nothing.
 use lib.ListN.{length}
 use Prim.Native.Nat.{_-_}
 use borrow.Author.Needs.{needs}
-use Rattle.scene_check.proofs.digest.table.Statement.{statement}
-use Rattle.scene_check.proofs.digest.table.Tie as tie
+use Rattle.replay_check.proofs.digest.with_words.Statement.{statement}
+use Rattle.replay_check.proofs.digest.with_words.Tie as tie
 
 abbrev Inv-loop : tie.InvT-loop
-Inv-loop d s sum₀ i₀ sum i = Unit
+Inv-loop d room sum₀ i₀ sum i = Unit
 
 abbrev μ-loop : tie.MeasureT-loop
-μ-loop d s sum₀ i₀ sum i = length s - i
+μ-loop d room sum₀ i₀ sum i = length room - i
 
 loop-holds : tie.Need-loop-holds Inv-loop μ-loop
 loop-holds c = tt
@@ -20,8 +20,8 @@ mul-u64-at c = search needs
 u64-at-requires : tie.Need-u64-at-requires Inv-loop μ-loop
 u64-at-requires c κs = search needs
 
-number-requires : tie.Need-number-requires Inv-loop μ-loop
-number-requires c κs = search needs
+with-requires : tie.Need-with-requires Inv-loop μ-loop
+with-requires c κs = search needs
 
 add-i : tie.Need-add-i Inv-loop μ-loop
 add-i c = search needs
@@ -35,8 +35,8 @@ loop-again c = tt
 returns : tie.Need-returns Inv-loop μ-loop
 returns c = search needs
 
-pub table-spec : {M : Type 1} → statement M
-table-spec =
+pub with-words-spec : {M : Type 1} → statement M
+with-words-spec =
     tie.close
     (tie.spec
     Inv-loop
@@ -44,7 +44,7 @@ table-spec =
     loop-holds
     mul-u64-at
     u64-at-requires
-    number-requires
+    with-requires
     add-i
     loop-less
     loop-again
