@@ -17,6 +17,7 @@ use lib.ListN.{length, getD, take, drop, length-drop, drop-of-length-le}
 use lib.Seq.{take-all}
 use Rattle.fields.specs.Little.{field, floatField}
 use Rattle.fields.specs.Laws.{four, field-out, field-parts}
+use Rattle.fields.specs.Pieces.{field-drop, field-take}
 use Rattle.world.specs.declared.Window.{Window}
 use Rattle.world.specs.declared.Point.{Point}
 use Rattle.world.specs.declared.Aabb.{Aabb}
@@ -329,7 +330,14 @@ module _ (s : List ℕ) (i : ℕ) where
   unfolding entryAt
   an-entry h = rw (lt-ltb i (length s / 8) h)
 
--- read at once: the lower four bytes, and the higher ones
+-- read as a part of its own
+pub own-part : (s : List ℕ) (at : ℕ) → field 8 (take (at + 8 - at) (drop at s)) 0 ≡ field 8 s at
+own-part s at =
+    let e : at + 8 - at ≡ 8 = omega arith in
+    let z : at + 0 ≡ at = omega arith in
+    rw e (field-take 8 8 (drop at s) 0 (omega arith) ∙ field-drop 8 at s 0 ∙ rw z)
+
+-- and at once: the lower four bytes, and the higher ones
 module _ (s : List ℕ) (at : ℕ) (h : at + 8 ≤ length s) (bytes : (j : ℕ) → getD s j 0 < 256) where
   low-fits : field 4 s at < 4294967296
   low-fits = omega (arith, four s at (omega arith), bytes at, bytes (at + 1), bytes (at + 2), bytes (at + 3))

@@ -26,14 +26,15 @@ fn along(origin: i32, size: u32, at: i64) -> usize
     }
 }
 
-// The two numbers of record i of a table of 8-byte records, by one read of 8 bytes.
+// The two numbers of record i of a table of 8-byte records, by one read of 8 bytes: of the record's own part, which the compiler sees to be long enough.
 pub fn entry_at(s: &[u8], i: usize) -> Entry
     ensures { λ r. ⌜ r ≡ entryAt (now (s .entry)) i ⌝ }
 {
     if s.len() / 8 <= i {
         return Entry::Missing;
     }
-    let both = fields::u64_at(s, 8 * i);
+    let at = 8 * i;
+    let both = fields::u64_at(&s[at..at + 8], 0);
     let low = (both % 4294967296) as u32;
     let high = (both / 4294967296) as u32;
     Entry::Of(low, high)
