@@ -1,5 +1,6 @@
-// How the end of a run of the search becomes its answer (01, "Search"): the outcome, the counts, and the list written.
+// How the end of a run of the search becomes its answer (01, "Search"): the outcome, the counts, the list written, and the frontier room all zero.
 ghost use mathlib.Core.Path.{_≡_};
+ghost use lib.ListN.{length, replicate};
 ghost use Rattle.rooms.specs.Lists.{written};
 ghost use Rattle.outcomes.specs.Outcomes.{countsOf, listIn, endAt, answerOf};
 use outcomes::Answer;
@@ -8,11 +9,13 @@ use outcomes::Turn;
 use outcomes::verdict;
 use rooms::Feet;
 
-// The answer that the end of a run makes of its node room, with its list written.
-pub fn conclude(nodes: &[u8], goal: Feet, turn: Turn, out: &mut [u8]) -> Answer
+// The answer that the end of a run makes of its node room, with its list written; nothing waits any more.
+pub fn conclude(nodes: &[u8], front: &mut [u8], goal: Feet, turn: Turn, out: &mut [u8]) -> Answer
     ensures { λ a. ⌜ a ≡ answerOf (countsOf turn) (endAt (now (nodes .entry)) goal turn) ⌝ }
     ensures { λ _. ⌜ now (out .exit) ≡ written (listIn (endAt (now (nodes .entry)) goal turn)) (now (out .entry)) ⌝ }
+    ensures { λ _. ⌜ now (front .exit) ≡ replicate (length (now (front .entry))) 0 ⌝ }
 {
+    writes::zero(front);
     match turn {
         Turn::Rest(c) | Turn::Going(c) => verdict(c),
         Turn::At(c, k) => {

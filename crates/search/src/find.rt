@@ -47,7 +47,5 @@ pub fn find_walk_path(
         turn = expand(task, cells, perms, shapes, boxes, nodes, front, c);
         t += 1;
     }
-    let answer = conclusion::conclude(nodes, task.aim.goal, turn, out);
-    writes::zero(front);
-    answer
+    conclusion::conclude(nodes, front, task.aim.goal, turn, out)
 }

@@ -8,6 +8,9 @@ use Rattle.conclusion.specs.Laws.{concludes-quiet, concludes-at, conclud
 use Rattle.conclusion.proofs.conclude.Statement.{statement}
 use Rattle.conclusion.proofs.conclude.Tie as tie
 
+zero-requires : tie.Need-zero-requires
+zero-requires c κs = tt
+
 enum-known-turn : tie.Need-enum-known-turn
 enum-known-turn c = search needs
 
@@ -30,31 +33,44 @@ verdict-requires : tie.Need-verdict-requires
 verdict-requires c κs = tt
 
 same-length : tie.Need-same-length
-same-length c = c .before .before .list-at .kept .1 .1 .1 .0
+same-length c = c .before .before .before .before .before .before .before .before .before .zero .kept .0
+
+same-length-2 : tie.Need-same-length-2
+same-length-2 c = c .before .before .list-at .kept .1 .1 .1 .0
 
 returns : tie.Need-returns
 returns c =
-    let a = c .before .before .before .before .before .before .before .before .before .args in
-    concludes-at (now (a .nodes)) (a .goal) (a .turn) _ (now (a .out)) _ _ _ (c .before .before .before .before .before .turn3 .given .1) (c .before .before .list-at .ensures)
+    let a = c .before .before .before .before .before .before .before .before .before .before .before .before .before .before .args in
+    let r = concludes-at (now (a .nodes)) (a .goal) (a .turn) _ (now (a .out)) _ _ _ (c .before .before .before .before .before .turn3 .given .1) (c .before .before .list-at .ensures) in
+    (r .0, (r .1, c .before .before .before .before .before .before .before .before .before .zero .ensures))
 
-same-length-2 : tie.Need-same-length-2
-same-length-2 c = c .before .before .list-by .kept .1 .1 .1 .1 .1 .0
+same-length-3 : tie.Need-same-length-3
+same-length-3 c = c .before .before .before .before .before .before .before .before .before .zero .kept .0
+
+same-length-4 : tie.Need-same-length-4
+same-length-4 c = c .before .before .list-by .kept .1 .1 .1 .1 .1 .0
 
 returns-2 : tie.Need-returns-2
 returns-2 c =
-    let a = c .before .before .before .before .before .before .before .before .before .args in
-    concludes-by (now (a .nodes)) (a .goal) (a .turn) _ (now (a .out)) _ _ _ _ (c .before .before .before .before .before .turn4 .given .1) (c .before .before .list-by .ensures)
+    let a = c .before .before .before .before .before .before .before .before .before .before .before .before .before .before .args in
+    let r = concludes-by (now (a .nodes)) (a .goal) (a .turn) _ (now (a .out)) _ _ _ _ (c .before .before .before .before .before .turn4 .given .1) (c .before .before .list-by .ensures) in
+    (r .0, (r .1, c .before .before .before .before .before .before .before .before .before .zero .ensures))
+
+same-length-5 : tie.Need-same-length-5
+same-length-5 c = c .before .before .before .before .zero .kept .0
 
 returns-3 : tie.Need-returns-3
 returns-3 c =
-    let a = c .before .before .before .before .args in
+    let a = c .before .before .before .before .before .before .before .before .before .args in
     let e = ⊎-elim (λ t. inl (t .1 .given .1 ∙ ap Rest (sym (t .3)))) (λ t. inr (t .1 .given .1 ∙ ap Going (sym (t .3)))) (c .before .match .came) in
-    concludes-quiet (now (a .nodes)) (a .goal) (a .turn) (c .before .match .c) (now (a .out)) _ e (c .verdict .ensures)
+    let r = concludes-quiet (now (a .nodes)) (a .goal) (a .turn) (c .before .match .c) (now (a .out)) _ e (c .verdict .ensures) in
+    (r .0, (r .1, c .before .before .before .before .zero .ensures))
 
 pub conclude-spec : {M : Type 1} → statement M
 conclude-spec =
     tie.close
     (tie.spec
+    zero-requires
     enum-known-turn
     enum-known-turn-2
     enum-known-turn-3
@@ -63,7 +79,10 @@ conclude-spec =
     list-by-requires
     verdict-requires
     same-length
-    returns
     same-length-2
+    returns
+    same-length-3
+    same-length-4
     returns-2
+    same-length-5
     returns-3)

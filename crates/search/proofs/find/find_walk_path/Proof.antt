@@ -110,17 +110,14 @@ loop-again c =
 conclude-requires : tie.Need-conclude-requires Inv-loop μ-loop
 conclude-requires c κs = tt
 
-zero-requires : tie.Need-zero-requires Inv-loop μ-loop
-zero-requires c κs = tt
-
 same-length : tie.Need-same-length Inv-loop μ-loop
-same-length c = c .before .before .before .before .before .before .before .before .before .before .loop .inv .2 ∙ c .before .before .before .before .before .before .before .before .before .before .before .before .before .before .before .begin .kept .0
+same-length c = c .before .before .before .before .before .before .before .before .before .loop .inv .2 ∙ c .before .before .before .before .before .before .before .before .before .before .before .before .before .before .begin .kept .0
 
 same-length-2 : tie.Need-same-length-2 Inv-loop μ-loop
-same-length-2 c = omega (arith, c .before .before .zero .kept .0, c .before .before .before .before .before .before .before .before .before .before .loop .inv .3, c .before .before .before .before .before .before .before .before .before .before .before .before .before .before .before .begin .kept .1 .0)
+same-length-2 c = c .before .before .before .before .conclude .kept .1 .0 ∙ c .before .before .before .before .before .before .before .before .before .loop .inv .3 ∙ c .before .before .before .before .before .before .before .before .before .before .before .before .before .before .begin .kept .1 .0
 
 same-length-3 : tie.Need-same-length-3 Inv-loop μ-loop
-same-length-3 c = omega (arith, c .before .before .zero .kept .0, c .before .before .before .before .before .before .conclude .kept .1 .1 .1 .0)
+same-length-3 c = c .before .before .before .before .conclude .kept .1 .1 .1 .1 .0
 
 -- as many expansions as the budget, or the search has ended before
 spun : (s : tie.Left-loop Inv-loop μ-loop) → let a = s .before .before .before .before .before .before .before .before .before .before .before .before .before .before .before .before .before .before .before .before .before .args in
@@ -134,9 +131,10 @@ spun s =
 
 returns-2 : tie.Need-returns-2 Inv-loop μ-loop
 returns-2 c =
-    let a = c .before .before .before .before .before .before .before .before .before .before .before .before .before .before .before .before .before .before .before .before .before .before .before .before .before .before .before .before .before .before .args in
-    let s = searched (a .r) (roomy (c .before .before .before .before .before .before .before .before .before .before .before .before .before .before .before)) (c .before .before .before .before .before .before .before .before .before .before .before .before .before .before .before .before .feet-of2 .ensures) (c .before .before .before .before .before .before .before .before .before .before .before .before .before .before .before .begin .ensures) (a .w) (now (a .cells)) (now (a .perms)) (now (a .shapes)) (now (a .boxes)) (a .body) (c .before .before .before .before .before .before .before .before .before .before .before .before .before .before .before .before .before .before .before .feet-of .ensures) (spun (c .before .before .before .before .before .before .before .before .before)) (c .before .before .before .before .before .before .before .before .before .before .loop .inv .4) (c .before .before .before .before .before .before .before .before .before .before .loop .inv .2 ∙ c .before .before .before .before .before .before .before .before .before .before .before .before .before .before .before .begin .kept .0) (c .before .before .before .before .before .before .conclude .ensures) in
-    leaves (a .w) (now (a .cells)) (now (a .perms)) (now (a .shapes)) (now (a .boxes)) (a .r) (a .body) (now (a .nodes)) (now (a .front)) (now (a .out)) none (sym (ap told (c .before .before .before .before .before .before .before .before .before .before .before .before .before .before .before .before .before .before .before .before .enum-told .given .1)) ∙ c .before .before .before .before .before .before .before .before .before .before .before .before .before .before .before .before .before .before .before .before .before .before .judge .ensures) (s .0) (s .1) (s .2) (c .before .before .zero .ensures ∙ ap (λ (n : ℕ). replicate n 0) (c .before .before .before .before .before .before .before .before .before .before .loop .inv .3 ∙ c .before .before .before .before .before .before .before .before .before .before .before .before .before .before .before .begin .kept .1 .0))
+    let a = c .before .before .before .before .before .before .before .before .before .before .before .before .before .before .before .before .before .before .before .before .before .before .before .before .before .before .before .before .before .args in
+    let e = c .before .before .before .before .conclude .ensures in
+    let s = searched (a .r) (roomy (c .before .before .before .before .before .before .before .before .before .before .before .before .before .before)) (c .before .before .before .before .before .before .before .before .before .before .before .before .before .before .before .feet-of2 .ensures) (c .before .before .before .before .before .before .before .before .before .before .before .before .before .before .begin .ensures) (a .w) (now (a .cells)) (now (a .perms)) (now (a .shapes)) (now (a .boxes)) (a .body) (c .before .before .before .before .before .before .before .before .before .before .before .before .before .before .before .before .before .before .feet-of .ensures) (spun (c .before .before .before .before .before .before .before .before)) (c .before .before .before .before .before .before .before .before .before .loop .inv .4) (c .before .before .before .before .before .before .before .before .before .loop .inv .2 ∙ c .before .before .before .before .before .before .before .before .before .before .before .before .before .before .begin .kept .0) (e .0, e .1 .0) in
+    leaves (a .w) (now (a .cells)) (now (a .perms)) (now (a .shapes)) (now (a .boxes)) (a .r) (a .body) (now (a .nodes)) (now (a .front)) (now (a .out)) none (sym (ap told (c .before .before .before .before .before .before .before .before .before .before .before .before .before .before .before .before .before .before .before .enum-told .given .1)) ∙ c .before .before .before .before .before .before .before .before .before .before .before .before .before .before .before .before .before .before .before .before .before .judge .ensures) (s .0) (s .1) (s .2) (e .1 .1 ∙ ap (λ (n : ℕ). replicate n 0) (c .before .before .before .before .before .before .before .before .before .loop .inv .3 ∙ c .before .before .before .before .before .before .before .before .before .before .before .before .before .before .begin .kept .1 .0))
 
 pub find-walk-path-spec : {M : Type 1} → statement M
 find-walk-path-spec =
@@ -159,7 +157,6 @@ find-walk-path-spec =
     loop-less
     loop-again
     conclude-requires
-    zero-requires
     same-length
     same-length-2
     same-length-3
