@@ -1,5 +1,5 @@
 // What walkprint prints of a scene (01, "Scenes and walkprint"): `telling` searches it and says what there is to print, `moving` moves the bytes, records from
-// standard input and lines to standard output. `scene_progress` takes the records in; `print_lines` has the lines.
+// standard input and lines to standard output. `scene` takes the records in; `print_lines` has the lines.
 mod moving;
 mod telling;
 

@@ -46,11 +46,11 @@ pub fn print_scene(bytes: usize) {
     let mut shapes = [0u8; 2048];
     let mut boxes = [0u8; 12288];
     let mut record = [0u8; 64];
-    let mut progress = scene_progress::begin(&cells, &perms, &shapes, &boxes);
+    let mut progress = scene::begin(&cells, &perms, &shapes, &boxes);
     let mut left = bytes;
     let mut count = input::take(left, &mut record);
     while 0 < count {
-        progress = scene_progress::take_record(
+        progress = scene::take_record(
             progress,
             &record[..count],
             &mut cells,
@@ -61,5 +61,5 @@ pub fn print_scene(bytes: usize) {
         left -= count;
         count = input::take(left, &mut record);
     }
-    print_told(scene_progress::end(progress), &cells, &perms, &shapes, &boxes);
+    print_told(scene::end(progress), &cells, &perms, &shapes, &boxes);
 }

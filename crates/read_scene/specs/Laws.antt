@@ -6,9 +6,9 @@ use mathlib.Core.List.{List}
 use lib.ListN.{length, take, drop, length-drop}
 use lib.Seq.{take-all}
 use Rattle.scene_state.specs.declared.state.Reading.{Reading}
-use Rattle.scene_state.specs.Answers.{Answer}
+use Rattle.scene_state.specs.Answers.{Answer, sceneOf}
 use Rattle.scene.specs.Scene.{Tables}
-use Rattle.scene_progress.specs.Progress.{tablesOf, further, tablesFurther, sceneOf, takenIn}
+use Rattle.scene.specs.Progress.{tablesOf, further, tablesFurther, takenIn}
 use Rattle.read_scene.specs.Whole.{recordCount, recordAt, recordsFrom, records}
 
 -- a record as a part of the scene: what is left, or 64 bytes

@@ -3,7 +3,7 @@ use Prim.Native.Nat.{ℕ, zero, suc, _+_, _*_, _/_}
 use mathlib.Core.List.{List, [], _∷_}
 use lib.ListN.{length, take, drop}
 use Rattle.scene.specs.Scene.{Read, readAll}
-use Rattle.scene_progress.specs.Progress.{tablesOf}
+use Rattle.scene.specs.Progress.{tablesOf}
 
 -- "Scene records are 64 bytes, no header": how many so many bytes are, a last partial one counted
 abbrev pub recordCount : ℕ → ℕ

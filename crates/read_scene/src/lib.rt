@@ -42,11 +42,11 @@ pub fn read_scene(
     ensures { λ _. ⌜ now (shapes .exit) ≡ read (now (bytes .entry)) (now (cells .entry)) (now (perms .entry)) (now (shapes .entry)) (now (boxes .entry)) .tables .shapes ⌝ }
     ensures { λ _. ⌜ now (boxes .exit) ≡ read (now (bytes .entry)) (now (cells .entry)) (now (perms .entry)) (now (shapes .entry)) (now (boxes .entry)) .tables .boxes ⌝ }
 {
-    let mut so_far = scene_progress::begin(cells, perms, shapes, boxes);
+    let mut so_far = scene::begin(cells, perms, shapes, boxes);
     let n = record_count(bytes.len());
     for k in 0..n {
         let piece = record_at(bytes, k);
-        so_far = scene_progress::take_record(so_far, piece, cells, perms, shapes, boxes);
+        so_far = scene::take_record(so_far, piece, cells, perms, shapes, boxes);
     }
-    scene_progress::end(so_far)
+    scene::end(so_far)
 }

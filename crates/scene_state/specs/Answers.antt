@@ -6,12 +6,8 @@ use lib.Dec.{leb, ltb}
 use lib.ListN.{length}
 use Rattle.scene_state.specs.declared.state.Reading.{Reading}
 use Rattle.scene_state.specs.declared.state.Scene.{Scene}
-use Rattle.scene_state.specs.declared.state.Begun.{Begun}
-use Rattle.scene_state.specs.declared.state.Begun.the-variants.{Ready, NoRoom}
-use Rattle.scene_state.specs.declared.state.Step.{Step}
-use Rattle.scene_state.specs.declared.state.Step.the-variants as steps
-use Rattle.scene_state.specs.declared.state.Ended.{Ended}
-use Rattle.scene_state.specs.declared.state.Ended.the-variants as ends
+use Rattle.scene_state.specs.declared.state.Progress.{Progress}
+use Rattle.scene_state.specs.declared.state.Progress.the-variants.{Going, BadScene, NoRoom}
 use Rattle.scene_state.specs.declared.state.SceneAnswer.{SceneAnswer}
 use Rattle.scene_state.specs.declared.state.SceneAnswer.the-variants as scenes
 use Rattle.scene_state.specs.State.{empty, inUse}
@@ -21,33 +17,30 @@ pub data Answer (A : Type 0) : Type 0 where
   given : A → Answer A
   refused : ℕ → ℕ → Answer A
 
+-- what the good records so far say, 7 BadScene, or 5 NoRoom
+abbrev pub progressAnswer : Progress → Answer Reading
+progressAnswer (Going r) = given r
+progressAnswer (BadScene k) = refused 7 k
+progressAnswer NoRoom = refused 5 0
+
 -- ---- 5 NoRoom: "a scene table's room below its largest size (before 7, nothing written)": 4,096 cells of 8 bytes, 256 permissions, 256 shapes of 8 bytes and
 -- 256 boxes of 48
-
-abbrev pub begunAnswer : Begun → Answer Reading
-begunAnswer (Ready r) = given r
-begunAnswer NoRoom = refused 5 0
 
 unfoldable pub begun : List ℕ → List ℕ → List ℕ → List ℕ → Answer Reading
 begun cells perms shapes boxes =
     cond (leb 32768 (length cells) && leb 256 (length perms) && leb 2048 (length shapes) && leb 12288 (length boxes)) (given empty) (refused 5 0)
 
--- ---- 7 BadScene: "first bad record, counted from 0"
-
-abbrev pub stepAnswer : Step → Answer Reading
-stepAnswer (steps.On r) = given r
-stepAnswer (steps.Bad k) = refused 7 k
-
--- "a missing or partial record is bad at its own number": records 0 to 2 can be missing
-
-abbrev pub endedAnswer : Ended → Answer Scene
-endedAnswer (ends.Whole x) = given x
-endedAnswer (ends.Bad k) = refused 7 k
+-- ---- the end of the input: "a missing or partial record is bad at its own number", and records 0 to 2 can be missing
 
 unfoldable pub ended : Reading → Answer Scene
 ended r =
     cond (ltb (r .kind) 3) (refused 7 (r .number))
     (given (record { request = r .request; body = r .body; window = r .window; «in_use» = inUse (r .counts) }))
+
+-- a refusal stands
+unfoldable pub sceneOf : Answer Reading → Answer Scene
+sceneOf (given r) = ended r
+sceneOf (refused n k) = refused n k
 
 -- ---- of a whole scene: 0 and the scene, 7 BadScene, 5 NoRoom
 

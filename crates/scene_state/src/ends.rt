@@ -1,12 +1,12 @@
 // How reading begins and how it ends.
 ghost use mathlib.Core.Path.{_≡_};
 ghost use Rattle.scene_state.specs.State.{inUse, empty};
-ghost use Rattle.scene_state.specs.Answers.{begunAnswer, begun, endedAnswer, ended};
-use crate::state::Begun;
-use crate::state::Ended;
+ghost use Rattle.scene_state.specs.Answers.{progressAnswer, begun, sceneAnswer, sceneOf};
 use crate::state::InUse;
+use crate::state::Progress;
 use crate::state::Reading;
 use crate::state::Scene;
+use crate::state::SceneAnswer;
 use scene_rules::Counts;
 use world::Body;
 use world::Point;
@@ -37,18 +37,18 @@ fn empty() -> Reading
 }
 
 // Whether the lent tables have room for any scene; nothing is written.
-pub fn begin(cells: &[u8], perms: &[u8], shapes: &[u8], boxes: &[u8]) -> Begun
-    ensures { λ r. ⌜ begunAnswer r ≡ begun (now (cells .entry)) (now (perms .entry)) (now (shapes .entry)) (now (boxes .entry)) ⌝ }
+pub fn begin(cells: &[u8], perms: &[u8], shapes: &[u8], boxes: &[u8]) -> Progress
+    ensures { λ r. ⌜ progressAnswer r ≡ begun (now (cells .entry)) (now (perms .entry)) (now (shapes .entry)) (now (boxes .entry)) ⌝ }
 {
     let room = (32768 <= cells.len()) & (256 <= perms.len());
     if room & (2048 <= shapes.len()) & (12288 <= boxes.len()) {
-        return Begun::Ready(empty());
+        return Progress::Going(empty());
     }
-    Begun::NoRoom
+    Progress::NoRoom
 }
 
 // How many bytes of each table are in use.
-pub fn in_use(c: Counts) -> InUse
+fn in_use(c: Counts) -> InUse
     ensures { λ r. ⌜ r ≡ inUse c ⌝ }
 {
     InUse {
@@ -59,20 +59,26 @@ pub fn in_use(c: Counts) -> InUse
     }
 }
 
-// What stands where the input ends.
-pub fn end(state: Reading) -> Ended
-    ensures { λ r. ⌜ endedAnswer r ≡ ended state ⌝ }
+// What stands where the input ends: a scene and the part of each lent table that it made, or a refusal. One of the first three records may be missing.
+pub fn end(progress: Progress) -> SceneAnswer
+    ensures { λ a. ⌜ sceneAnswer a ≡ sceneOf (progressAnswer progress) ⌝ }
 {
-    if state.kind < 3 {
-        return Ended::Bad(state.number);
+    match progress {
+        Progress::Going(state) => {
+            if state.kind < 3 {
+                return SceneAnswer::BadScene(state.number);
+            }
+            let request = state.request;
+            let body = state.body;
+            let window = state.window;
+            SceneAnswer::Whole(Scene {
+                request,
+                body,
+                window,
+                in_use: in_use(state.counts),
+            })
+        }
+        Progress::BadScene(number) => SceneAnswer::BadScene(number),
+        Progress::NoRoom => SceneAnswer::NoRoom,
     }
-    let request = state.request;
-    let body = state.body;
-    let window = state.window;
-    Ended::Whole(Scene {
-        request,
-        body,
-        window,
-        in_use: in_use(state.counts),
-    })
 }

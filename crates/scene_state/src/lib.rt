@@ -5,11 +5,8 @@ pub mod state;
 
 pub use ends::begin;
 pub use ends::end;
-pub use ends::in_use;
-pub use state::Begun;
-pub use state::Ended;
 pub use state::InUse;
+pub use state::Progress;
 pub use state::Reading;
 pub use state::Scene;
 pub use state::SceneAnswer;
-pub use state::Step;

@@ -15,16 +15,11 @@ pub struct Reading {
     pub counts: Counts,
 }
 
-// Reading begins, or 5 NoRoom.
-pub enum Begun {
-    Ready(Reading),
+// How far a scene has been read: what the good records so far say; 7 BadScene with the number of the first bad record; or 5 NoRoom.
+pub enum Progress {
+    Going(Reading),
+    BadScene(u64),
     NoRoom,
-}
-
-// The record was good, or 7 BadScene with its number.
-pub enum Step {
-    On(Reading),
-    Bad(u64),
 }
 
 // How many bytes of each table the scene made.
@@ -41,12 +36,6 @@ pub struct Scene {
     pub body: Body,
     pub window: Window,
     pub in_use: InUse,
-}
-
-// The scene is whole, or 7 BadScene with the number of a missing record.
-pub enum Ended {
-    Whole(Scene),
-    Bad(u64),
 }
 
 // What reading a whole scene answers: the scene; 7 BadScene with the number of the first bad record; or 5 NoRoom.

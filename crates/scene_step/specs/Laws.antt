@@ -8,13 +8,16 @@ use borrow.Author.Tests.{leb-true, ltb-true, ltb-false, eqb-true, not-true}
 use lib.Dec.{leb, ltb, eqb}
 use lib.ListN.{length, drop}
 use Rattle.tables.specs.BadWorld.{boxRule, sizeAbove}
+use Rattle.world.specs.declared.Request.{Request}
+use Rattle.world.specs.declared.Body.{Body}
+use Rattle.world.specs.declared.Window.{Window}
 use Rattle.scene_rules.specs.declared.Counts.{Counts}
 use Rattle.scene_records.specs.Layout.{kindOf, numberOf, threeZeros, zeros, unusedFrom, windowOf, cellCount, boxOf, permissionOf}
 use Rattle.scene_rules.specs.Rules.{inOrder, roomInShape, shapeRule, stateRule, windowRule, rule, good}
 use Rattle.scene_rules.specs.Laws.{kind-3, kind-4, kind-5}
 use Rattle.scene_state.specs.declared.state.Reading.{Reading}
 use Rattle.scene_state.specs.Answers.{given, refused}
-use Rattle.scene_step.specs.Next.{countAfter, withBoxCounted, countsAfter, next, goodIn, step, ShapeFits, Allowed}
+use Rattle.scene_step.specs.Next.{requestAfter, bodyAfter, windowAfter, countAfter, withBoxCounted, countsAfter, nextNumber, next, goodIn, step, ShapeFits, Allowed}
 
 -- both of two tests pass
 pub left-true : (a b : Bool) → a && b ≡ true → a ≡ true
@@ -114,6 +117,13 @@ module _ (r : Reading) (s : List ℕ) where
   unfolding step
   left n m e true g = absurd (let z : _≡_ {A = ℕ} 0 1 = cc (rw g at e) in omega arith)
   left n m e false g = g
+
+-- the state behind a record by its parts
+pub parts : (k : ℕ) (r : Reading) (s : List ℕ) {n : ℕ} {q : Request} {b : Body} {w : Window} {c : Counts} →
+    n ≡ nextNumber (r .number) → q ≡ requestAfter k (r .request) s → b ≡ bodyAfter k (r .body) s → w ≡ windowAfter k (r .window) s → c ≡ countsAfter k (r .counts) s →
+    _≡_ {A = Reading} (record { number = n; kind = k; request = q; body = b; window = w; counts = c }) (next k r s)
+unfolding next
+parts k r s en eq eb ew ec = rw (en, eq, eb, ew, ec)
 
 -- behind kind 3 the cells are the window's
 pub cells-counted : (k : ℕ) (r : Reading) (s : List ℕ) → k ≡ 3 → next k r s .counts .cells ≡ cellCount (windowOf s)

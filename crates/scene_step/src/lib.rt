@@ -3,19 +3,19 @@
 mod after;
 
 ghost use mathlib.Core.Path.{_≡_};
-ghost use Rattle.scene_state.specs.Answers.{stepAnswer};
+ghost use Rattle.scene_state.specs.Answers.{progressAnswer};
 ghost use Rattle.scene_step.specs.Next.{step};
 use scene_records::byte_at;
+use scene_state::Progress;
 use scene_state::Reading;
-use scene_state::Step;
 
 // The state behind the record, or 7 BadScene with the record's number.
-pub fn next_state(state: Reading, bytes: &[u8]) -> Step
-    ensures { λ r. ⌜ stepAnswer r ≡ step state (now (bytes .entry)) ⌝ }
+pub fn next_state(state: Reading, bytes: &[u8]) -> Progress
+    ensures { λ r. ⌜ progressAnswer r ≡ step state (now (bytes .entry)) ⌝ }
 {
     if !scene_rules::good_record(state.kind, state.counts, bytes) {
-        return Step::Bad(state.number);
+        return Progress::BadScene(state.number);
     }
     let kind = byte_at(bytes, 0);
-    Step::On(after::next(state, bytes, kind))
+    Progress::Going(after::next(state, bytes, kind))
 }

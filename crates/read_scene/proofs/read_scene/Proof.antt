@@ -6,8 +6,9 @@ use borrow.Author.Needs.{needs}
 use denote.Ref.{now}
 use lib.ListN.{length}
 use Rattle.scene.specs.Scene.{Read, readAll}
-use Rattle.scene_progress.specs.Progress.{tablesOf, progressAnswer, takenIn}
-use Rattle.scene_progress.specs.Laws.{takes-whole}
+use Rattle.scene_state.specs.Answers.{progressAnswer}
+use Rattle.scene.specs.Progress.{tablesOf, takenIn}
+use Rattle.scene.specs.Laws.{takes-whole}
 use Rattle.read_scene.specs.Whole.{recordsFrom, records}
 use Rattle.read_scene.specs.Laws.{from-first, goes-on, ends}
 use Rattle.read_scene.proofs.read_scene.Statement.{statement}

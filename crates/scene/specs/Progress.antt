@@ -2,22 +2,13 @@
 use Prim.Native.Nat.{ℕ}
 use mathlib.Core.List.{List, [], _∷_}
 use Rattle.scene_state.specs.declared.state.Reading.{Reading}
-use Rattle.scene_state.specs.declared.state.Scene.{Scene}
-use Rattle.scene_state.specs.Answers.{Answer, given, refused, ended}
+use Rattle.scene_state.specs.Answers.{Answer, given, refused, sceneOf}
 use Rattle.scene_step.specs.Next.{step}
 use Rattle.scene.specs.Scene.{Tables, Read, tablesRead}
-use Rattle.scene_progress.specs.declared.Progress.{Progress}
-use Rattle.scene_progress.specs.declared.Progress.the-variants.{Going, BadScene, NoRoom}
 
 -- four tables
 abbrev pub tablesOf : List ℕ → List ℕ → List ℕ → List ℕ → Tables
 tablesOf cells perms shapes boxes = record { cells = cells; perms = perms; shapes = shapes; boxes = boxes }
-
--- what the good records say, or a refusal's number and record
-abbrev pub progressAnswer : Progress → Answer Reading
-progressAnswer (Going r) = given r
-progressAnswer (BadScene k) = refused 7 k
-progressAnswer NoRoom = refused 5 0
 
 -- one record more: "first bad record", so a refusal stands whatever follows
 unfoldable pub further : Answer Reading → List ℕ → Answer Reading
@@ -28,11 +19,6 @@ further (refused n k) s = refused n k
 unfoldable pub tablesFurther : Answer Reading → List ℕ → Tables → Tables
 tablesFurther (given r) s t = tablesRead r s t
 tablesFurther (refused n k) s t = t
-
--- the end of the input: a scene, or a refusal
-unfoldable pub sceneOf : Answer Reading → Answer Scene
-sceneOf (given r) = ended r
-sceneOf (refused n k) = refused n k
 
 -- `take_record` for each record, and the end of the input
 unfoldable pub takenIn : Answer Reading → Tables → List (List ℕ) → Read
