@@ -1,1 +1,1 @@
-// How many steps an expansion may have in a world that is not bad (`specs/Bounds.antt`): theorems only. No code.
+// How many steps an expansion may have (01, The graph, "Graph step") in a world that is not bad (`specs/Bounds.antt`): theorems only. No code.

@@ -1,4 +1,4 @@
-// What a mob's search is asked, beside the tables: `ends` is the start and the goal, two points.
+// What a mob's search is asked (01, Policy), beside the tables: `ends` is the start and the goal, two points.
 ghost use mathlib.Core.Path.{_≡_};
 ghost use Rattle.c_records.specs.Asked.{mobIn};
 use crate::wishes::has_bit;

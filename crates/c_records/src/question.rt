@@ -1,4 +1,4 @@
-// What a search, a walk-back or an edge is asked about, beside the tables of the world. A field past a record's end is 0, so that every call answers for every
+// What a search, a walk-back or an edge is asked about (01, "Numbers given back"), beside the tables of the world. A field past a record's end is 0, so that every call answers for every
 // length.
 ghost use mathlib.Core.Path.{_≡_};
 ghost use Rattle.c_records.specs.Asked.{questionIn};

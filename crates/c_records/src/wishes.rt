@@ -1,4 +1,4 @@
-// A mob's policy as one number: a bit for each wish, and one, of weight 128, for a body in water.
+// A mob's policy (01, Policy) as one number: a bit for each wish, and one, of weight 128, for a body in water.
 ghost use mathlib.Core.Path.{_≡_};
 ghost use Prim.Native.Nat.{_<_};
 ghost use Rattle.policy.specs.Flags.{has};

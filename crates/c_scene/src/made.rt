@@ -1,4 +1,4 @@
-// What reading a scene gives back: a record of 168 bytes with the request, the body, the window and the sizes in use.
+// What reading a scene (01, "Scenes and walkprint") gives back: a record of 168 bytes with the request, the body, the window and the sizes in use.
 ghost use mathlib.Core.Path.{_≡_};
 ghost use Prim.Native.Nat.{_+_, _*_};
 ghost use mir.Syntax.{w32};

@@ -12,7 +12,6 @@ use Rattle.moves.specs.declared.answer.Movement.{Movement}
 use Rattle.moves.specs.declared.answer.Moving.{Moving}
 use Rattle.moves.specs.declared.answer.Moving.the-variants.{By, None}
 use Rattle.moves.specs.declared.answer.Waypoint.{Waypoint}
-use Rattle.moves.specs.declared.answer.EdgeAnswer.{EdgeAnswer}
 use Rattle.moves.specs.declared.answer.EdgeAnswer.the-variants.{To, Nowhere}
 use Rattle.moves.specs.Moves.{moving}
 use Rattle.moves.specs.Laws.{Number, moving-number}

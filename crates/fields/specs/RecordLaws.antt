@@ -11,7 +11,7 @@ use lib.ListN.{length, take, drop, set, length-append, take-append-drop}
 use lib.Seq.{take-add, drop-drop, take-at, length-take-le, set-append-left, set-at}
 use Rattle.fields.specs.Little.{bytesOf, fitsAt, field, withField}
 use Rattle.fields.specs.Laws.{length-with, length-bytes, read-back, read-other, with-parts}
-use Rattle.fields.specs.Pieces.{Bytes, field-below, bytes-field, with-is, take-with, drop-with}
+use Rattle.fields.specs.Pieces.{Bytes, bytes-field, with-is, take-with, drop-with}
 use Rattle.fields.specs.Records.{recordSize, fieldsAt, withFields, withRecord, recordBytes, recordsBytes, Fill, firsts}
 
 -- ---- a record written, field by field
@@ -140,10 +140,6 @@ record-bytes (n ∷ ns) s at by b h =
     ∙ ap (λ (l : List ℕ). take n (drop (at + by) s) ++ l)
     (record-bytes ns s at (by + n) b (omega arith) ∙ ap (λ (k : ℕ). take (recordSize ns) (drop k s)) there ∙ ap (take (recordSize ns)) (sym (drop-drop n (at + by) s)))
     ∙ sym (take-add n (recordSize ns) (drop (at + by) s))
-
-pub record-fill : (ws s : List ℕ) (at by : ℕ) → Bytes s → Fill ws (fieldsAt ws s at by)
-record-fill [] s at by b = tt
-record-fill (n ∷ ns) s at by b = (field-below n s (at + by) b, record-fill ns s at (by + n) b)
 
 -- ---- a room of records
 

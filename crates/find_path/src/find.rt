@@ -1,4 +1,4 @@
-// A mob's search: the permission table of its policy, then the search that its policy and its body ask for.
+// A mob's search (01, Policy, `find_path`): the permission table of its policy, then the search that its policy and its body ask for.
 use outcomes::Path;
 use policy::Filled;
 use policy::WalkPolicy;

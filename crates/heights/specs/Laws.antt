@@ -11,9 +11,7 @@ use Rattle.floats.specs.Order.{le-left}
 use Rattle.regions.specs.Ranges.{along}
 use Rattle.world.specs.declared.Point.{Point}
 use Rattle.world.specs.declared.Aabb.{Aabb}
-use Rattle.world.specs.declared.Found.{Found}
 use Rattle.world.specs.declared.Found.the-variants.{Here, End}
-use Rattle.world.specs.declared.Cell.{Cell}
 use Rattle.world.specs.declared.Cell.the-variants.{Unknown, Known}
 use Rattle.world.specs.Boxes.{moved}
 use Rattle.world.specs.Laws.{run-none as boxes-none, run-end as boxes-end, run-more as boxes-more}

@@ -1,4 +1,4 @@
-// What an edge answers: the waypoint that it leads to, which carries its kind of movement, or that there is none.
+// What an edge answers (01, The graph, "Edge"): the waypoint that it leads to, which carries its kind of movement, or that there is none.
 ghost use mathlib.Core.Path.{_≡_};
 ghost use Rattle.moves.specs.Moves.{movementNumber};
 use world::Point;

@@ -1,4 +1,4 @@
-// Moves the bytes: a scene from standard input, record by record, and its lines to standard output.
+// Moves the bytes (01, "Scenes and walkprint"): a scene from standard input, record by record, and its lines to standard output.
 use crate::telling;
 use libc::STDOUT_FILENO;
 use print_lines::Told;

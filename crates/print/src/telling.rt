@@ -1,4 +1,4 @@
-// What there is to tell of a scene: its refusal, or what the search answers.
+// What there is to tell of a scene (01, "Scenes and walkprint"): its refusal, or what the search answers.
 ghost use mathlib.Core.Path.{_≡_};
 ghost use Prim.Native.Nat.{_*_};
 ghost use lib.ListN.{take};

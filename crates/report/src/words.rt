@@ -1,4 +1,4 @@
-// The words of walkprint's lines, as parts of one text: an outcome's, a movement's, and `refused`.
+// The words of walkprint's lines (01, "Scenes and walkprint"), as parts of one text: an outcome's, a movement's, and `refused`.
 ghost use mathlib.Core.Path.{_≡_};
 ghost use Prim.Native.Nat.{_+_, _≤_, _<_};
 ghost use lib.ListN.{length, getD};

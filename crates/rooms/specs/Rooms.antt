@@ -16,7 +16,7 @@ use Rattle.rooms.specs.declared.Label.{Label}
 use Rattle.rooms.specs.declared.NodeRecord.{NodeRecord}
 use Rattle.rooms.specs.declared.Entry.{Entry}
 use Rattle.rooms.specs.declared.Counts.{Counts}
-use Rattle.rooms.specs.Records.{nodeLayout, nodeWords, nodeAt, entryLayout, entryWords, entryAt}
+use Rattle.rooms.specs.Records.{nodeLayout, nodeWords, nodeAt, entryAt}
 use Rattle.rooms.specs.Scans.{waits, estimateOf}
 
 -- what the search notes of a node: the pattern of its cost, its closed mark, and its frontier record

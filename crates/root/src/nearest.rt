@@ -1,4 +1,4 @@
-// The nearest f64 to the root of a number above 0, worked out in whole numbers:
+// The nearest f64 to the root of a number above 0 (01, Numbers), worked out in whole numbers:
 //
 // 1. x is m * 2^e, in units of 2^-2148, with m of 53 binary digits (`scaled`).
 // 2. The exponent is made even, and 54 zeros are put after m's digits.

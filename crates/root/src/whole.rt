@@ -1,4 +1,4 @@
-// The whole part of a square root, by bisection.
+// The whole part of a square root, by bisection (behind 01's root, Numbers).
 //
 // The square of `low` is never too large, and that of `low + width` always is: so the root lies from
 // `low` on, in a range of `width` numbers. Each turn halves the range. It squares the number in the

@@ -1,4 +1,4 @@
-// One record of a scene.
+// One record of a scene (01, "Scenes and walkprint"): the state behind it, and what it writes into the tables.
 ghost use mathlib.Core.Path.{_≡_};
 ghost use lib.ListN.{set};
 ghost use Rattle.scene_state.specs.Answers.{progressAnswer};

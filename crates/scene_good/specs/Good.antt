@@ -16,7 +16,7 @@ use Rattle.regions.specs.declared.Spot.{Spot}
 use Rattle.regions.specs.Regions.{cellsOf}
 use Rattle.world.specs.declared.Window.{Window}
 use Rattle.world.specs.Space.{firstOf, countOf, boxAt}
-use Rattle.tables.specs.BadWorld.{Sizes, sizeAbove, boxRule, records, badWorld}
+use Rattle.tables.specs.BadWorld.{Sizes, sizeAbove, boxRule, badWorld}
 use Rattle.tables.specs.Laws.{sizes-of}
 use Rattle.tables.specs.Good.{GoodWorld, good-is-not-bad}
 use Rattle.scene_rules.specs.declared.Counts.{Counts}

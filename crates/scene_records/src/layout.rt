@@ -1,4 +1,4 @@
-// The fields of a scene record.
+// The fields of a scene record (01, "Scenes and walkprint").
 ghost use mathlib.Core.Path.{_≡_};
 ghost use lib.ListN.{getD};
 ghost use Rattle.tables.specs.BadWorld.{sizeAbove};

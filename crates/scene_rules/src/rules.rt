@@ -1,4 +1,4 @@
-// The order of the kinds, each kind's rule, and the whole record.
+// When a record is good (01, "Scenes and walkprint"): the order of the kinds, each kind's rule, and the whole record.
 ghost use mathlib.Core.Path.{_≡_};
 ghost use Rattle.scene_records.specs.Layout.{numberOf};
 ghost use Rattle.scene_rules.specs.Rules.{inOrder, shapeRule, rule, good};

@@ -1,4 +1,4 @@
-// How reading begins and how it ends.
+// How reading a scene begins and how it ends (01, "Scenes and walkprint").
 ghost use mathlib.Core.Path.{_≡_};
 ghost use Rattle.scene_state.specs.State.{inUse, empty};
 ghost use Rattle.scene_state.specs.Answers.{progressAnswer, begun, sceneAnswer, sceneOf};

@@ -1,4 +1,4 @@
-// What has been read of a scene, and the reader's answers.
+// What has been read of a scene (01, "Scenes and walkprint"), and the reader's answers.
 use scene_rules::Counts;
 use world::Body;
 use world::Request;

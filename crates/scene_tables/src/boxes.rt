@@ -1,4 +1,4 @@
-// A box record of 48 bytes.
+// A box record of 48 bytes (01, "Tables, little-endian records").
 ghost use mathlib.Core.Path.{_≡_};
 ghost use Rattle.scene_tables.specs.Made.{withBox};
 

@@ -1,4 +1,4 @@
-// Records of 8 bytes: cells and shapes.
+// Records of 8 bytes (01, "Tables, little-endian records"): cells and shapes.
 ghost use mathlib.Core.Path.{_≡_};
 ghost use Prim.Native.Nat.{_^_, _≤_};
 ghost use Rattle.scene_tables.specs.Made.{withEntry, unfilled, emptyShapes, withShape};

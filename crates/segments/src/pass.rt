@@ -1,4 +1,4 @@
-// One pass over the shapes under a footprint: how far they cover the centre line, of what is covered so far.
+// One pass over the shapes under a footprint (01, The graph, supported segments): how far they cover the centre line, of what is covered so far.
 //
 // A shape that counts and is no support refuses the way, and the pass ends there.
 ghost use mathlib.Core.Path.{_≡_};

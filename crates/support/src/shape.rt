@@ -1,4 +1,4 @@
-// What one shape does to a way: the footprint that it must lie under, whether it counts, and how far it covers the centre line, of what is covered
+// What one shape does to a way (01, The graph, supported segments): the footprint that it must lie under, whether it counts, and how far it covers the centre line, of what is covered
 // so far. A shape that counts and is no support refuses the way.
 ghost use mathlib.Core.Path.{_≡_};
 ghost use Rattle.support.specs.Support.{footprint, counts};

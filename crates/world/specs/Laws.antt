@@ -23,9 +23,7 @@ use Rattle.world.specs.declared.Point.{Point}
 use Rattle.world.specs.declared.Aabb.{Aabb}
 use Rattle.world.specs.declared.Cell.{Cell}
 use Rattle.world.specs.declared.Cell.the-variants.{Unknown, Known}
-use Rattle.world.specs.declared.Found.{Found}
 use Rattle.world.specs.declared.Found.the-variants.{Here, End}
-use Rattle.world.specs.declared.Entry.{Entry}
 use Rattle.world.specs.declared.Entry.the-variants.{Of, Missing}
 use Rattle.world.specs.Boxes.{moved, cube, corner}
 use Rattle.world.specs.Space.{Place, At, Out, place, onward, recordOf, entryAt, entryIn, mayOccupy, maySupport, collides, ofParts, known, knownBy, cellIn, cellAt, pointAt, boxAt, boxHere, run, blockOf, space}

@@ -10,7 +10,7 @@ use Rattle.exploration.specs.Lists.{has, count}
 use Rattle.exploration.specs.Graph.{Graph, GraphLaws, Route, Reach, at-start}
 use Rattle.exploration.specs.Policy.{Policy, PolicyLaws}
 use Rattle.exploration.specs.Explore as explore
-use Rattle.exploration.specs.Explore.{final, outcome, answer}
+use Rattle.exploration.specs.Explore.{final, answer}
 use Rattle.exploration.specs.Claims as claims
 use Rattle.exploration.specs.Laws.Lists.{count-le}
 use Rattle.exploration.specs.Laws.Expansions.{sound-room, final-sound}

@@ -26,7 +26,7 @@ use Rattle.rooms.specs.declared.Label.{Label}
 use Rattle.rooms.specs.declared.NodeRecord.{NodeRecord}
 use Rattle.rooms.specs.declared.Entry.{Entry}
 use Rattle.rooms.specs.Waypoints.{samePoint}
-use Rattle.rooms.specs.Records.{nodeLayout, nodeAt, entryLayout, entryAt}
+use Rattle.rooms.specs.Records.{nodeLayout, nodeAt}
 use Rattle.rooms.specs.Scans as scans
 use Rattle.rooms.specs.Scans.{waits, isAt, firstAt, indexOr, nextOf}
 use Rattle.rooms.specs.Rooms.{Note, nobody, parentOf, nodeOf, nodeIn, nodesOf, nodeWaits, nodeSooner, parentWord, nodeBytes, nodeRoom}

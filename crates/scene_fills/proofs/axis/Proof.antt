@@ -1,14 +1,12 @@
 -- `scene_fills::axis` meets its contract. Assumes nothing.
-use mathlib.Core.Bool.{true, false, cond}
+use mathlib.Core.Bool.{cond}
 use mathlib.Core.Logic.{⊎-elim}
 use mathlib.Core.Path.{_≡_, ap, _∙_}
-use denote.Ref.{now}
 use lib.IntN.{ℤ, pos, _-ℤ_}
 use lib.Signed.{ltZ}
 use mir.Syntax.{w32, w64}
 use mir.Val.{SFits, toZ}
 use borrow.Author.Needs.{needs}
-use Rattle.fields.specs.Little.{signedField}
 use Rattle.scene_fills.specs.Fills.{axisOf}
 use Rattle.scene_fills.specs.Laws.{wide-fits, apart-fits, apart-is, size-is, less-fits, less-is}
 use Rattle.scene_fills.proofs.axis.Statement.{statement}

@@ -1,7 +1,6 @@
 -- `scene_fills::fill_region` meets its contract. Assumes nothing.
 use mathlib.Core.List.{List, foldl}
 use mathlib.Core.Path.{_≡_, refl, sym, ap, _∙_}
-use denote.Ref.{now}
 use lib.ListN.{length}
 use Rattle.regions.specs.Regions.{cellsOf}
 use Rattle.regions.specs.RegionLaws.{toCome, Proper, begun, taken, still-proper, fewer, ended}
