@@ -4,4 +4,3 @@ pub mod Laws
 pub mod Pieces
 pub mod RecordLaws
 pub mod Signed
-pub mod Values

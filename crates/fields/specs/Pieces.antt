@@ -1,12 +1,12 @@
--- Fields of a piece of a table: behind an offset, before one, in front of other bytes and behind them; and a table with a field set, piece by piece.
+-- Fields of a piece of a table: behind an offset, before one, behind other bytes; and a table with a field set, piece by piece.
 use Prim.Native.Nat.{ℕ, zero, suc, _+_, _*_, _/_, _%_, _^_, _<_, _≤_}
 use native.Mathlib.Omega.{arith}
 use native.Mathlib.Nat.{mod-one, pow-zero, pow-suc, mod-eq-of-lt, div-eq-of-lt, add-mul-mod-self-left, add-mul-div-left, min-le-right, le-min}
 use mathlib.Core.Path.{_≡_, refl, sym, ap, _∙_}
 use mathlib.Core.Bool.{Bool, true, false, cond}
 use mathlib.Core.List.{List, [], _∷_, _++_, append-assoc}
-use lib.ListN.{length, getD, set, take, drop, length-append, length-take, length-drop, length-set, List·getD-append}
-use lib.Seq.{sets, sets-eq, drop-append-seam, drop-cons, getD-drop, getD-take, take-set-le, drop-set-lt, set-append-left}
+use lib.ListN.{length, getD, set, take, drop, length-append, length-take, length-drop}
+use lib.Seq.{sets, sets-eq, drop-append-seam, drop-cons, getD-drop, getD-take, take-set-le, drop-set-lt}
 use lib.Arith.{mod-mul}
 use Rattle.fields.specs.Little.{leAt, bytesOf, fitsAt, field, withField}
 use Rattle.fields.specs.Laws.{field-in, field-parts, with-in, length-bytes, le-same, leb-same, positive}
@@ -49,12 +49,7 @@ field-take n k s at h =
     let bytes : leAt n (take k s) at ≡ leAt n s at = le-same n (take k s) s at (λ j a b. getD-take k s j 0 (omega arith)) in
     rw (test, bytes)
 
--- a field of two tables, one behind the other: of the first, and of the second
-pub field-first : (n : ℕ) (s t : List ℕ) (at : ℕ) → at + n ≤ length s → field n (s ++ t) at ≡ field n s at
-field-first n s t at h =
-    let long : at + n ≤ length (s ++ t) = omega (arith, length-append s t) in
-    field-in n (s ++ t) at long ∙ le-same n (s ++ t) s at (λ j a b. List·getD-append s t 0 j (omega arith)) ∙ sym (field-in n s at h)
-
+-- a field behind another table
 pub field-second : (n : ℕ) (s t : List ℕ) (at : ℕ) → field n (s ++ t) (length s + at) ≡ field n t at
 field-second n s t at = sym (field-drop n (length s) (s ++ t) at) ∙ ap (λ (l : List ℕ). field n l at) (drop-append-seam s t)
 
@@ -145,14 +140,3 @@ drop-with k n s at v h = go (fitsAt n s at)
     go : (b : Bool) → drop k (cond b (sets s at (bytesOf n v)) s) ≡ drop k s
     go true = drop-sets k (bytesOf n v) s at (rw length-bytes h)
     go false = refl
-
--- a field of the first of two tables set
-sets-first : (vs s t : List ℕ) (i : ℕ) → i + length vs ≤ length s → sets (s ++ t) i vs ≡ sets s i vs ++ t
-sets-first [] s t i h = refl
-sets-first (v ∷ vs) s t i h =
-    ap (λ (l : List ℕ). sets l (suc i) vs) (set-append-left s t i v (omega arith)) ∙ sets-first vs (set s i v) t (suc i) (simp length-set (omega arith))
-
-pub with-first : (n : ℕ) (s t : List ℕ) (at v : ℕ) → at + n ≤ length s → withField n (s ++ t) at v ≡ withField n s at v ++ t
-with-first n s t at v h =
-    with-in n (s ++ t) at v (omega (arith, length-append s t)) ∙ sets-first (bytesOf n v) s t at (omega (arith, length-bytes n v))
-    ∙ ap (λ (l : List ℕ). l ++ t) (sym (with-in n s at v h))

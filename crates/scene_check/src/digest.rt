@@ -40,9 +40,7 @@ fn of_body(d: u64, b: Body) -> u64 {
 }
 
 fn signed(d: u64, x: i32) -> u64 {
-    let mut bits = [0u8; 4];
-    stores::put_i32(&mut bits, 0, x);
-    number(d, fields::u32_at(&bits, 0) as u64)
+    number(d, stores::signed_bits(x) as u64)
 }
 
 fn of_window(d: u64, w: Window) -> u64 {
