@@ -1,57 +1,15 @@
--- The record of a scene as 21 words, and the 32 bits of an i32.
-use Prim.Native.Nat.{ℕ, suc, _+_, _-_, _*_, _%_, _<_, _≤_}
+-- The record of a scene in 21 words.
+use Prim.Native.Nat.{ℕ, _+_, _*_, _<_, _≤_}
 use native.Mathlib.Omega.{arith}
 use mathlib.Core.Path.{_≡_, refl, _∙_}
 use mathlib.Core.List.{List, [], _∷_, _++_}
-use borrow.Author.Tests.{le-ltb}
-use lib.Dec.{T}
-use lib.IntN.{ℤ, pos, negsuc, _+ℤ_, natAbs}
 use lib.ListN.{length, replicate}
-use lib.Signed.{nonNeg}
-use mir.Syntax.{w32, w64}
-use mir.Val.{Fits, SFits, toZ, ofZ}
-use mir.Facts.{toZ-ofZ}
+use mir.Syntax.{w32}
+use mir.Val.{ofZ}
 use Rattle.fields.specs.Records.{withFields, withWords}
 use Rattle.fields.specs.RecordLaws.{halves, record-same, length-record}
 use Rattle.scene_state.specs.declared.state.Scene.{Scene}
 use Rattle.c_scene.specs.Scenes.{requestFields, bodyFields, inUseFields, sceneLayout, sceneFields, withScene}
-
--- ---- 32 bits: a number and 2^32, but for the multiples of 2^32
-
--- what the code asks of the sum, and what it gives
-pub record Added (z y : ℤ) : Type 0 where
-  pub fits : SFits w64 y
-  pub natural : T (nonNeg y)
-  pub small : Fits w64 (natAbs y)
-  pub is : natAbs y % 4294967296 ≡ ofZ w32 z
-
-added : (z : ℤ) → SFits w32 z → Added z (z +ℤ pos 4294967296)
-added (pos n) f = let b : n < 2147483648 = f .sfits in record { fits = record { sfits = omega arith }; natural = tt; small = record { fits = omega arith }; is = omega arith }
-added (negsuc k) f =
-    let b : k < 2147483648 = f .sfits in
-    rw (le-ltb 4294967296 (suc k) (omega arith)) (record { fits = record { sfits = omega arith }; natural = tt; small = record { fits = omega arith }; is = omega arith })
-
-wide : (z : ℤ) → SFits w32 z → SFits w64 z
-wide (pos n) f = let b : n < 2147483648 = f .sfits in record { sfits = omega arith }
-wide (negsuc k) f = let b : k < 2147483648 = f .sfits in record { sfits = omega arith }
-
-module _ (z : ℤ) (f : SFits w32 z) where
-  here : toZ w32 (ofZ w32 z) ≡ z
-  here = toZ-ofZ f
-
-  there : toZ w64 (ofZ w64 z) ≡ z
-  there = toZ-ofZ (wide z f)
-
-  pub cast-fits : SFits w64 (toZ w32 (ofZ w32 z))
-  cast-fits = rw here (wide z f)
-
-  pub sum-fits : SFits w64 (toZ w64 (ofZ w64 (toZ w32 (ofZ w32 z))) +ℤ pos 4294967296)
-  sum-fits = rw (here, there) (added z f .fits)
-
-  pub sum-is : Added z (toZ w64 (ofZ w64 (toZ w64 (ofZ w64 (toZ w32 (ofZ w32 z))) +ℤ pos 4294967296)))
-  sum-is = rw (here, there, toZ-ofZ (added z f .fits)) (added z f)
-
--- ---- words
 
 -- the six numbers of a window are written by three words
 module _ (s vs : List ℕ) (a b c d e f : ℕ) (room : 168 ≤ length s) where

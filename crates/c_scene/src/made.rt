@@ -1,18 +1,9 @@
 // What reading a scene (01, "Scenes and walkprint") gives back: a record of 168 bytes with the request, the body, the window and the sizes in use.
 ghost use mathlib.Core.Path.{_≡_};
 ghost use Prim.Native.Nat.{_+_, _*_};
-ghost use mir.Syntax.{w32};
-ghost use mir.Val.{ofZ};
 ghost use Rattle.c_scene.specs.Scenes.{withScene};
 use floats::bits_of;
 use scene_state::Scene;
-
-// The 32 bits of an i32, in two's complement.
-fn bits32(x: i32) -> u32
-    ensures { λ r. ⌜ r ≡ ofZ w32 x ⌝ }
-{
-    (((x as i64) + 4294967296) as u64 % 4294967296) as u32
-}
 
 // Two numbers of 32 bits in one word, the first in its lower half.
 fn word(low: u32, high: u32) -> u64
@@ -42,8 +33,8 @@ pub(crate) fn put_scene(x: Scene, made: &mut [u8])
         bits_of(x.body.width),
         bits_of(x.body.height),
         bits_of(x.body.step_height),
-        word(bits32(w.x), bits32(w.y)),
-        word(bits32(w.z), w.sx),
+        word(stores::signed_bits(w.x), stores::signed_bits(w.y)),
+        word(stores::signed_bits(w.z), w.sx),
         word(w.sy, w.sz),
         x.in_use.cells as u64,
         x.in_use.perms as u64,

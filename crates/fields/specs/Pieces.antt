@@ -1,4 +1,4 @@
--- Fields of a piece of a table: behind an offset, before one, in front of other bytes and behind them; and a table with a field set, piece by piece.
+-- Fields of a piece of a table: behind an offset, before one, behind other bytes; and a table with a field set, piece by piece.
 use Prim.Native.Nat.{ℕ, zero, suc, _+_, _*_, _/_, _%_, _^_, _<_, _≤_}
 use native.Mathlib.Omega.{arith}
 use native.Mathlib.Nat.{mod-one, pow-zero, pow-suc, mod-eq-of-lt, div-eq-of-lt, add-mul-mod-self-left, add-mul-div-left, min-le-right, le-min}
@@ -49,7 +49,7 @@ field-take n k s at h =
     let bytes : leAt n (take k s) at ≡ leAt n s at = le-same n (take k s) s at (λ j a b. getD-take k s j 0 (omega arith)) in
     rw (test, bytes)
 
--- a field of two tables, one behind the other, that lies in the second
+-- a field behind another table
 pub field-second : (n : ℕ) (s t : List ℕ) (at : ℕ) → field n (s ++ t) (length s + at) ≡ field n t at
 field-second n s t at = sym (field-drop n (length s) (s ++ t) at) ∙ ap (λ (l : List ℕ). field n l at) (drop-append-seam s t)
 

@@ -1,9 +1,11 @@
 // Little-endian fields of byte tables (01, Tables): writes at an offset, total. Where a field does not fit, a write changes nothing. The definitions
-// are those of `fields`, which reads.
+// are those of `fields`, which reads. An i32 or an f64 is written as its bits.
 ghost use mathlib.Core.Path.{_≡_};
 ghost use Prim.Native.Nat.{_+_, _≤_};
 ghost use lib.ListN.{length};
-ghost use Rattle.fields.specs.Little.{withField, withSigned, withFloat};
+ghost use mir.Syntax.{w32};
+ghost use mir.Val.{ofZ};
+ghost use Rattle.fields.specs.Little.{withField};
 
 // The four bytes at an offset that has them, set.
 fn put_four(s: &mut [u8], at: usize, v: u32)
@@ -35,21 +37,9 @@ pub fn put_u64(s: &mut [u8], at: usize, v: u64)
     }
 }
 
-// The f64 at an offset set to x.
-pub fn put_f64(s: &mut [u8], at: usize, x: f64)
-    ensures { λ _. ⌜ now (s .exit) ≡ withFloat (now (s .entry)) at x ⌝ }
+// The 32 bits of an i32, in two's complement.
+pub fn signed_bits(x: i32) -> u32
+    ensures { λ r. ⌜ r ≡ ofZ w32 x ⌝ }
 {
-    put_u64(s, at, floats::bits_of(x));
-}
-
-// The i32 at an offset set to x, in two's complement.
-pub fn put_i32(s: &mut [u8], at: usize, x: i32)
-    ensures { λ _. ⌜ now (s .exit) ≡ withSigned (now (s .entry)) at x ⌝ }
-{
-    let bits = if x < 0 {
-        4294967295 - ((-1 - x) as u32)
-    } else {
-        x as u32
-    };
-    put_u32(s, at, bits);
+    (((x as i64) + 4294967296) as u64 % 4294967296) as u32
 }

@@ -12,7 +12,7 @@ pub extern "C" fn walkprint_jump_apex(power: f32, gravity: f64, height: &mut [u8
 {
     match jump::jump_apex(power, gravity) {
         Apex::Height(h) => {
-            stores::put_f64(height, 0, h);
+            stores::put_u64(height, 0, floats::bits_of(h));
             0
         }
         Apex::Endless => 6,

@@ -13,7 +13,7 @@ pub extern "C" fn walkprint_root(x: f64, root: &mut [u8]) -> u64
 {
     match root::root(x) {
         Root::Of(r) => {
-            stores::put_f64(root, 0, r);
+            stores::put_u64(root, 0, floats::bits_of(r));
             0
         }
         Root::Refused => 9,

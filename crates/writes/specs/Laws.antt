@@ -4,7 +4,7 @@ use mathlib.Core.List.{List, [], _∷_}
 use mathlib.Core.Logic.{_≢_, _⊎_, inl, inr, ⊎-elim}
 use Prim.Native.Nat.{ℕ, zero, suc, _+_, _*_, _<_, _≤_}
 use native.Mathlib.Omega.{arith}
-use lib.ListN.{length}
+use lib.ListN.{length, replicate}
 use Rattle.fields.specs.Records.{withFields, withWords, Fill}
 use Rattle.fields.specs.RecordLaws.{record-in, record-same, halves, length-record, record-back, record-apart, drop-record}
 use Rattle.rooms.specs.declared.NodeRecord.{NodeRecord}
@@ -23,26 +23,23 @@ apart (suc k) zero h = inl (omega arith)
 apart (suc k) (suc j) h = ⊎-elim (λ l. inl (omega arith)) (λ l. inr (omega arith)) (apart k j (λ e. h (ap suc e)))
 
 module _ (a : List ℕ) (k : ℕ) (r : NodeRecord) where
-  new : List ℕ
-  new = withFields nodeLayout a (56 * k) 0 (nodeWords r)
-
-  wrote-node : Fill nodeLayout (nodeWords r) → 56 * k + 56 ≤ length a → WroteNode a k r new
-  unfolding nodeAt new
+  wrote-node : Fill nodeLayout (nodeWords r) → 56 * k + 56 ≤ length a → WroteNode a k r (withFields nodeLayout a (56 * k) 0 (nodeWords r))
+  unfolding nodeAt
   wrote-node fill room = record {
     here = ap nodeFrom (record-back nodeLayout a (56 * k) 0 (nodeWords r) fill (omega arith));
     there = λ j h. ap nodeFrom (record-apart nodeLayout a (56 * k) 0 (nodeWords r) nodeLayout (56 * j) 0 (⊎-elim (λ l. inl (omega arith)) (λ l. inr (omega arith)) (apart k j h)));
     past = λ m h. drop-record nodeLayout a (56 * k) 0 (nodeWords r) (56 * m) (omega arith);
   }
 
-  asWords-is : r .parent < 4294967296 → withWords a k (asWords r) ≡ withNode a k r
+  words-are : r .parent < 4294967296 → withWords a k (asWords r) ≡ withNode a k r
   unfolding withNode
-  asWords-is h = record-same (8 ∷ 8 ∷ 8 ∷ 8 ∷ 8 ∷ 8 ∷ 8 ∷ []) nodeLayout a (56 * k) (asWords r) (nodeWords r) refl
-      (λ room. halves [] (withFields entryLayout (withFields entryLayout a (56 * k) 0 (nodeWords r)) (56 * k) 24 (r .label .lift ∷ r .label .movement ∷ r .cost ∷ [])) (56 * k) 48 (r .parent) (r .closed) [] (rw (length-record, length-record) (omega (arith, room))) h)
+  words-are h = record-same (replicate 7 8) nodeLayout a (56 * k) (asWords r) (nodeWords r) refl
+      (λ room. halves [] (withFields (replicate 6 8) a (56 * k) 0 (asWords r)) (56 * k) 48 (r .parent) (r .closed) [] (rw length-record (omega (arith, room))) h)
 
   pub put-node : {b : List ℕ} → Fill nodeLayout (nodeWords r) → b ≡ withWords a k (asWords r) → PutNode a k r b
-  unfolding withNode new
+  unfolding withNode
   put-node fill e =
-      let is = e ∙ asWords-is (fill .1 .1 .1 .1 .1 .1 .0) in
+      let is = e ∙ words-are (fill .1 .1 .1 .1 .1 .1 .0) in
       record { is = is; wrote = λ room. subst (WroteNode a k r) (sym (is ∙ record-in nodeLayout a (56 * k) (nodeWords r) room)) (wrote-node fill room) }
 
 module _ (a : List ℕ) (k : ℕ) (e : Entry) where

@@ -22,9 +22,9 @@ returns c =
     let fy : SFits w32 (w .y) = search needs in
     let fz : SFits w32 (w .z) = search needs in
     let fs : Fits w32 (w .sy) = search needs in
-    let x = rw (toZ-ofZ fx) at (c .before .before .before .before .before .before .before .before .before .before .before .before .bits32 .ensures) in
-    let y = rw (toZ-ofZ fy) at (c .before .before .before .before .before .before .before .before .before .before .bits322 .ensures) in
-    let z = rw (toZ-ofZ fz) at (c .before .before .before .before .before .before .before .bits323 .ensures) in
+    let x = rw (toZ-ofZ fx) at (c .before .before .before .before .before .before .before .before .before .before .before .before .signed-bits .ensures) in
+    let y = rw (toZ-ofZ fy) at (c .before .before .before .before .before .before .before .before .before .before .signed-bits2 .ensures) in
+    let z = rw (toZ-ofZ fz) at (c .before .before .before .before .before .before .before .signed-bits3 .ensures) in
     let first : c .before .before .before .before .before .before .before .before .before .word .result ≡ ofZ w32 (w .x) + 4294967296 * ofZ w32 (w .y) = c .before .before .before .before .before .before .before .before .before .word .ensures ∙ (λ i. x i + 4294967296 * y i) in
     let second : c .before .before .before .before .before .before .word2 .result ≡ ofZ w32 (w .z) + 4294967296 * w .sx = c .before .before .before .before .before .before .word2 .ensures ∙ (λ i. z i + 4294967296 * w .sx) in
     c .before .before .put-record .ensures
