@@ -15,18 +15,20 @@ fn number(n: usize) -> [u8; 2] {
     u16::try_from(n).expect("it fits two bytes").to_le_bytes()
 }
 
+/// Marsaglia's xorshift: the word after one in a row of all words but 0.
+pub fn stirred(mut w: u64) -> u64 {
+    w ^= w << 13;
+    w ^= w >> 7;
+    w ^ w << 17
+}
+
 /// A row of numbers, folded to one.
 #[derive(Debug, Clone, Copy)]
-struct Row(u64);
+pub struct Row(pub u64);
 
 impl Row {
-    /// Marsaglia's xorshift, of the sum so far and the number.
-    fn take(&mut self, x: u64) {
-        let mut w = self.0.wrapping_add(x ^ 0x9e37_79b9_7f4a_7c15);
-        w ^= w << 13;
-        w ^= w >> 7;
-        w ^= w << 17;
-        self.0 = w;
+    pub fn take(&mut self, x: u64) {
+        self.0 = stirred(self.0.wrapping_add(x ^ 0x9e37_79b9_7f4a_7c15));
     }
 
     fn take_float(&mut self, x: f64) {
