@@ -156,7 +156,14 @@ fn rules() -> Vec<Rule> {
     // 255 makes it a square times a power of 4.
     let scale = 511 * LEAD;
     let down = (ONE - 256) * LEAD;
-    rules.around(10_000, scale | DIGITS & !(DIGITS >> 25), down, 0, 1, &[-1, 0, 1]);
+    rules.around(
+        10_000,
+        scale | DIGITS & !(DIGITS >> 25),
+        down,
+        0,
+        1,
+        &[-1, 0, 1],
+    );
     rules.around(8_000, scale | DIGITS, down, 0, 2, &[-2, -1, 0, 1, 2]);
     rules.add(44_096, u64::MAX, 0, 0);
     rules.add(20_000, SIGN | 31 * LEAD | DIGITS, 1007 * LEAD, 0);
@@ -229,7 +236,15 @@ pub fn files() -> (Vec<u8>, Vec<u8>) {
     input.extend(0..=255u8);
     let mut output = String::new();
     for (place, (rule, (power, gravity))) in rules.iter().zip(jumps).enumerate() {
-        let Rule { count, seed, mask, first, kind, added, step } = *rule;
+        let Rule {
+            count,
+            seed,
+            mask,
+            first,
+            kind,
+            added,
+            step,
+        } = *rule;
         for word in [count, seed, mask, first, kind, added, step] {
             input.extend(word.to_le_bytes());
         }

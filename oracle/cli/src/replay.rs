@@ -202,7 +202,16 @@ impl Tape {
         let heights = Checks::new(scene).candidate_heights(centre(x), centre(z), y);
         self.put(COLUMN, 0);
         self.sheet[SIDES..SIDES + 4].fill(0);
-        self.points(bytes, scene, from, to, true, heights.first(), f64::INFINITY, None);
+        self.points(
+            bytes,
+            scene,
+            from,
+            to,
+            true,
+            heights.first(),
+            f64::INFINITY,
+            None,
+        );
     }
 
     /// The nine columns around a point: each height with the next, the edge to
@@ -274,14 +283,7 @@ impl Tape {
     /// A search in rooms with so many bytes more than its budget asks for, one
     /// of them a byte short: 1 to 3 a room, 4 the cell table. Rooms and tables
     /// are full of a byte.
-    pub fn ask_search(
-        &mut self,
-        bytes: &[u8],
-        scene: &Scene,
-        more: usize,
-        short: usize,
-        fill: u8,
-    ) {
+    pub fn ask_search(&mut self, bytes: &[u8], scene: &Scene, more: usize, short: usize, fill: u8) {
         let budget = scene.request.node_budget as usize;
         let asked = [56 * budget, 24 * budget, 40 * (budget + 1)];
         let mut lent = [0; 3];
