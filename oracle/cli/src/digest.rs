@@ -3,20 +3,15 @@
 
 const MODULUS: u64 = 2_147_483_647;
 
-/// Begins at 0; each byte b makes it (257 d + b + 1) mod (2^31 - 1), and so
-/// does a number, modulo 2^31 - 1.
+/// Begins at 0; each byte b makes it (257 d + b + 1) mod (2^31 - 1).
 #[derive(Debug, Default, Clone, Copy)]
 pub struct Digest(pub u64);
 
 impl Digest {
     pub fn take(&mut self, bytes: &[u8]) {
         for &byte in bytes {
-            self.number(u64::from(byte));
+            self.0 = (257 * self.0 + u64::from(byte) + 1) % MODULUS;
         }
-    }
-
-    pub fn number(&mut self, number: u64) {
-        self.0 = (257 * self.0 + number % MODULUS + 1) % MODULUS;
     }
 
     pub fn of(bytes: &[u8]) -> u64 {

@@ -4,6 +4,7 @@
 mod bench;
 mod digest;
 mod geometry;
+mod numbers;
 mod policy;
 mod printed;
 mod reader;

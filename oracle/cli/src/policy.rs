@@ -25,6 +25,11 @@ fn permissions(combination: u32) -> Vec<u8> {
     original::permission_bytes(&policy, combination & 128 != 0, &all)
 }
 
+/// Both of a combination.
+pub fn answers(combination: u32) -> (Vec<u8>, Vec<u8>) {
+    (passages(combination), permissions(combination))
+}
+
 /// All passages, then all permission bytes, combination by combination.
 pub fn bytes() -> Vec<u8> {
     let mut out = Vec::new();
@@ -42,7 +47,7 @@ pub fn text() -> String {
     let mut out = String::new();
     let mut whole = [Digest::default(); 2];
     for combination in 0..COMBINATIONS {
-        let (passages, permissions) = (passages(combination), permissions(combination));
+        let (passages, permissions) = answers(combination);
         whole[0].take(&passages);
         whole[1].take(&permissions);
         let _ = writeln!(
@@ -69,23 +74,6 @@ pub fn text() -> String {
             power.to_bits(),
             gravity.to_bits()
         );
-    }
-    out
-}
-
-/// Each jump in 24 bytes: power's bits, number (0 or 6), gravity's bits,
-/// height's bits (0 where the number is 6).
-pub fn jump_records() -> Vec<u8> {
-    let mut out = Vec::new();
-    for (power, gravity) in jumps() {
-        let (number, height) = match original::jump_apex(power, gravity) {
-            Apex::Height(height) => (0u32, height.to_bits()),
-            Apex::Endless => (6, 0),
-        };
-        out.extend(power.to_bits().to_le_bytes());
-        out.extend(number.to_le_bytes());
-        out.extend(gravity.to_bits().to_le_bytes());
-        out.extend(height.to_le_bytes());
     }
     out
 }

@@ -15,18 +15,20 @@ fn number(n: usize) -> [u8; 2] {
     u16::try_from(n).expect("it fits two bytes").to_le_bytes()
 }
 
+/// Marsaglia's xorshift: the word after one in a row of all words but 0.
+pub fn stirred(mut w: u64) -> u64 {
+    w ^= w << 13;
+    w ^= w >> 7;
+    w ^ w << 17
+}
+
 /// A row of numbers, folded to one.
 #[derive(Debug, Clone, Copy)]
-struct Row(u64);
+pub struct Row(pub u64);
 
 impl Row {
-    /// Marsaglia's xorshift, of the sum so far and the number.
-    fn take(&mut self, x: u64) {
-        let mut w = self.0.wrapping_add(x ^ 0x9e37_79b9_7f4a_7c15);
-        w ^= w << 13;
-        w ^= w >> 7;
-        w ^= w << 17;
-        self.0 = w;
+    pub fn take(&mut self, x: u64) {
+        self.0 = stirred(self.0.wrapping_add(x ^ 0x9e37_79b9_7f4a_7c15));
     }
 
     fn take_float(&mut self, x: f64) {
@@ -200,7 +202,16 @@ impl Tape {
         let heights = Checks::new(scene).candidate_heights(centre(x), centre(z), y);
         self.put(COLUMN, 0);
         self.sheet[SIDES..SIDES + 4].fill(0);
-        self.points(bytes, scene, from, to, true, heights.first(), f64::INFINITY, None);
+        self.points(
+            bytes,
+            scene,
+            from,
+            to,
+            true,
+            heights.first(),
+            f64::INFINITY,
+            None,
+        );
     }
 
     /// The nine columns around a point: each height with the next, the edge to
@@ -272,14 +283,7 @@ impl Tape {
     /// A search in rooms with so many bytes more than its budget asks for, one
     /// of them a byte short: 1 to 3 a room, 4 the cell table. Rooms and tables
     /// are full of a byte.
-    pub fn ask_search(
-        &mut self,
-        bytes: &[u8],
-        scene: &Scene,
-        more: usize,
-        short: usize,
-        fill: u8,
-    ) {
+    pub fn ask_search(&mut self, bytes: &[u8], scene: &Scene, more: usize, short: usize, fill: u8) {
         let budget = scene.request.node_budget as usize;
         let asked = [56 * budget, 24 * budget, 40 * (budget + 1)];
         let mut lent = [0; 3];

@@ -7,7 +7,7 @@ use std::path::Path;
 use scene::Verdict;
 
 use crate::replay::Tape;
-use crate::{geometry, policy, printed, reader, scene_file, walks};
+use crate::{geometry, numbers, printed, reader, scene_file, walks};
 
 /// A scene and where it comes from.
 struct Source {
@@ -34,11 +34,13 @@ pub fn lists(folder: &Path) -> Result<Vec<(&'static str, Vec<u8>)>, String> {
     walks::ask(&mut tape);
     reader::ask(&mut tape);
     let [input, output, names] = tape.files();
+    let (records, lines) = numbers::files();
     Ok(vec![
         ("../crates/replay_check/stdin", input),
         ("../crates/replay_check/stdout", output),
         ("replay.lst", names),
-        ("jumps.bin", policy::jump_records()),
+        ("../crates/numbers_check/stdin", records),
+        ("../crates/numbers_check/stdout", lines),
     ])
 }
 

@@ -1,10 +1,15 @@
 -- `replay_check::trial::searched` is safe and ends: each room has the bytes that are lent of it. Assumes nothing.
+use Prim.Native.Nat.{ℕ, _≤_, _%_}
 use mathlib.Core.Path.{sym}
 use lib.Seq.{length-take-le}
 use native.Mathlib.Omega.{arith}
 use borrow.Author.Needs.{needs}
 use Rattle.replay_check.proofs.trial.searched.Statement.{statement}
 use Rattle.replay_check.proofs.trial.searched.Tie as tie
+
+-- a number of the sheet, as a part of a room
+fits : (n : ℕ) → n % 28801 ≤ 28800
+fits n = omega arith
 
 byte-at-requires : tie.Need-byte-at-requires
 byte-at-requires c κs = search needs
@@ -28,19 +33,19 @@ array-borrow-prefix-nodes : tie.Need-array-borrow-prefix-nodes
 array-borrow-prefix-nodes c = search needs
 
 slice-aggregate-find-walk-path : tie.Need-slice-aggregate-find-walk-path
-slice-aggregate-find-walk-path c = sym (length-take-le _ _ (omega arith))
+slice-aggregate-find-walk-path c = sym (length-take-le _ _ (fits _))
 
 array-borrow-prefix-front : tie.Need-array-borrow-prefix-front
 array-borrow-prefix-front c = search needs
 
 slice-aggregate-find-walk-path-2 : tie.Need-slice-aggregate-find-walk-path-2
-slice-aggregate-find-walk-path-2 c = sym (length-take-le _ _ (omega arith))
+slice-aggregate-find-walk-path-2 c = sym (length-take-le _ _ (fits _))
 
 array-borrow-prefix-out : tie.Need-array-borrow-prefix-out
 array-borrow-prefix-out c = search needs
 
 slice-aggregate-find-walk-path-3 : tie.Need-slice-aggregate-find-walk-path-3
-slice-aggregate-find-walk-path-3 c = sym (length-take-le _ _ (omega arith))
+slice-aggregate-find-walk-path-3 c = sym (length-take-le _ _ (fits _))
 
 find-walk-path-requires : tie.Need-find-walk-path-requires
 find-walk-path-requires c κs = search needs

@@ -1,11 +1,11 @@
--- `policy_check::jumps::power_of` is safe and ends. Assumes nothing.
+-- `numbers_check::jumps::power_of` is safe and ends. Assumes nothing.
 use mathlib.Core.Path.{_∙_}
 use lib.Ieee.{binary32}
 use lib.Ieee.Bits.{nanBits-above}
 use borrow.Author.Tests.{le-ltb}
 use borrow.Author.Needs.{needs}
-use Rattle.policy_check.proofs.jumps.power_of.Statement.{statement}
-use Rattle.policy_check.proofs.jumps.power_of.Tie as tie
+use Rattle.numbers_check.proofs.jumps.power_of.Statement.{statement}
+use Rattle.numbers_check.proofs.jumps.power_of.Tie as tie
 
 float-from-bits-result : tie.Need-float-from-bits-result
 float-from-bits-result c = rw (nanBits-above binary32 (c .before .args .pattern) ∙ le-ltb _ _ (c .if1 .left)) tt

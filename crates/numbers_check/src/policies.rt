@@ -1,6 +1,5 @@
-// Every policy, asked about every flag byte.
-use crate::digest;
-use digest::Digests;
+// A policy, asked about every flag byte.
+use crate::digest::with_byte;
 use policy::Flags;
 use policy::Passage;
 use policy::WalkPolicy;
@@ -24,15 +23,6 @@ fn numbered(number: u32) -> WalkPolicy {
     }
 }
 
-// The flag bytes 0 to 255.
-fn all_flags() -> [u8; 256] {
-    let mut flags = [0u8; 256];
-    for i in 0..256usize {
-        flags[i] = i as u8;
-    }
-    flags
-}
-
 fn passage_number(passage: Passage) -> u8 {
     match passage {
         Passage::Shape => 0,
@@ -41,24 +31,16 @@ fn passage_number(passage: Passage) -> u8 {
     }
 }
 
-// The digests with how a combination meets each flag byte, and with its permission byte.
-pub(crate) fn asked(combination: u32, before: Digests) -> Digests {
+// How a combination, which is a policy's number, and in water from 128 on, meets each flag byte, and its permission byte.
+pub(crate) fn with_policy(d: u64, combination: u32, flags: &[u8; 256]) -> u64 {
     let policy = numbered(combination);
-    let flags = all_flags();
     let mut table = [0u8; 256];
-    policy.fill_permissions(said(combination, 128), &flags, &mut table);
-    let mut passages = before.passages;
-    let mut permissions = before.permissions;
+    policy.fill_permissions(said(combination, 128), flags, &mut table);
+    let mut sum = d;
     for i in 0..256usize {
-        let bits = i as u8;
-        passages = digest::with(
-            passages,
-            passage_number(policy.door_passage(Flags { bits })),
-        );
-        permissions = digest::with(permissions, table[i]);
+        let bits = flags[i];
+        let passage = policy.door_passage(Flags { bits });
+        sum = with_byte(with_byte(sum, passage_number(passage)), table[i]);
     }
-    Digests {
-        passages,
-        permissions,
-    }
+    sum
 }
