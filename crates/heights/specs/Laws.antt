@@ -2,7 +2,7 @@
 use Prim.Native.Nat.{ℕ, _+_, _-_, _*_, _≤_, _<_}
 use native.Mathlib.Omega.{arith}
 use mathlib.Core.Path.{_≡_, refl}
-use mathlib.Core.Bool.{Bool, true, false, _&&_, cond}
+use mathlib.Core.Bool.{Bool, true, false, not, _&&_, cond}
 use mathlib.Core.List.{List, [], _∷_, map}
 use lib.ListN.{drop}
 use lib.Ieee.{Float, binary64, le, add, sub, isNan}
@@ -18,8 +18,9 @@ use Rattle.world.specs.Laws.{run-none as boxes-none, run-end as boxes-end, run-
 use Rattle.world.specs.Space.{Space, Block, run, boxHere, blockOf}
 use Rattle.heights.specs.declared.Band.{Band}
 use Rattle.heights.specs.declared.Height.{Height}
+use Rattle.heights.specs.declared.Height.the-variants.{At}
 use Rattle.heights.specs.Heights.{reaches, topsOf, topsIn, tops}
-use Rattle.heights.specs.Next.{better, pass, Numbers, numbers-gather}
+use Rattle.heights.specs.Next.{beyond, lower, better, pass, Numbers, numbers-gather}
 
 module _ (band : Band) (x z : Float) (after : Height) where
   -- ---- a run of boxes, moved by a point
@@ -30,6 +31,26 @@ module _ (band : Band) (x z : Float) (after : Height) where
   -- what one box makes of the best so far
   abbrev pub taken : Height → Aabb → Height
   taken best b = cond (reaches band x z b) (better after best (b .max .y)) best
+
+  -- by the code's test: nothing, or the lower top
+  module _ (best : Height) (b : Aabb) {r n : Bool} (p : r ≡ reaches band x z b) (q : n ≡ beyond after (b .max .y)) where
+    pub left-out : not (r && n) ≡ true → best ≡ taken best b
+    unfolding better
+    left-out e = rw (← p, ← q) (go r n e)
+      where
+        go : (r n : Bool) → not (r && n) ≡ true → best ≡ cond r (cond n (lower best (At (b .max .y))) best) best
+        go true true e = cc
+        go true false e = refl
+        go false n e = refl
+
+    pub let-in : not (r && n) ≡ false → lower best (At (b .max .y)) ≡ taken best b
+    unfolding better
+    let-in e = rw (← p, ← q) (go r n e)
+      where
+        go : (r n : Bool) → not (r && n) ≡ false → lower best (At (b .max .y)) ≡ cond r (cond n (lower best (At (b .max .y))) best) best
+        go true true e = refl
+        go true false e = cc
+        go false n e = cc
 
   pass-cons : (best : Height) (b : Aabb) (bs : List Aabb) → pass after best (topsOf band x z (b ∷ bs)) ≡ pass after (taken best b) (topsOf band x z bs)
   unfolding topsOf

@@ -56,10 +56,7 @@ fn take_box(band: Band, x: f64, z: f64, after: Height, best: Height, b: Aabb) ->
     ensures { λ r. ⌜ r ≡ taken band x z after best b ⌝ }
 {
     let top = b.max.y;
-    if !reaches_to(band, x, z, b) {
-        return best;
-    }
-    if !is_beyond(after, top) {
+    if !(reaches_to(band, x, z, b) & is_beyond(after, top)) {
         return best;
     }
     let Height::At(least) = best else {
