@@ -22,8 +22,8 @@ use Rattle.rooms.specs.Laws.Rooms.{BySamePoint}
 use Rattle.visits.specs.declared.Aim.{Aim}
 use Rattle.visits.specs.Best.{best}
 use Rattle.visits.specs.Visits.{Kept, Near}
-use Rattle.search.specs.declared.Place.{Place}
-use Rattle.search.specs.declared.Column.{Column}
+use Rattle.strides.specs.declared.Place.{Place}
+use Rattle.strides.specs.declared.Column.{Column}
 use Rattle.search.specs.declared.Around.{Around}
 
 -- some steps from a node, visited in order: over every graph whose points compare as 01 says

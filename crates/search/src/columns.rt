@@ -1,43 +1,20 @@
 // The columns of one expansion (01, The graph, "Graph step"; "Pop, close, try the connector, then the columns").
 use crate::Around;
-use crate::Column;
-use crate::Place;
 use crate::Task;
 use heights::Height;
-use moves::EdgeAnswer;
 use rooms::Counts;
 use sides::Sides;
-use visits::Aim;
-use visits::Visit;
+use strides::Column;
+use strides::Place;
 use world::Point;
 ghost use mathlib.Core.Path.{_≡_};
-ghost use mathlib.Core.List.{[]};
 ghost use Prim.Native.Nat.{_+_, _<_};
 ghost use lib.ListN.{length};
 ghost use Rattle.world.specs.Space.{space};
-ghost use Rattle.edges.specs.Edges.{edge};
-ghost use Rattle.steps.specs.Columns.{ahead, columnIf, stepsFrom};
+ghost use Rattle.steps.specs.Columns.{columnIf, stepsFrom};
 ghost use Rattle.steps.specs.Expansion.{sidesBefore};
 ghost use Rattle.visits.specs.Visits.{Ready};
-ghost use Rattle.search.specs.Steps.{Went, Stepped, Looked};
-
-// One height of a column, by the edge to it: where there is one, it is noted and its step visited.
-fn step_to(nodes: &mut [u8], front: &mut [u8], aim: Aim, at: Place, edge: EdgeAnswer, c: Column) -> Column
-    requires { ⌜ Ready (now nodes) (now front) (aim .budget) 1 (c .counts) × (at .number < c .counts .retained) ⌝ }
-    ensures { λ a. ⌜ Went aim at (ahead edge []) c a (now (nodes .entry)) (now (front .entry)) (now (nodes .exit)) (now (front .exit)) ⌝ }
-{
-    let EdgeAnswer::To(way) = edge else {
-        return c;
-    };
-    let level = c.level | sides::is_level(at.point, way.feet);
-    let visit = reach::visit(nodes, front, aim, at.number, at.node, c.counts, words::feet_of(way.feet), words::label_of(way));
-    let Visit::Counted(counts) = visit else {
-        // A closed side still answers (01).
-        let counts = c.counts;
-        return Column { counts, level };
-    };
-    Column { counts, level }
-}
+ghost use Rattle.search.specs.Steps.{Stepped, Looked};
 
 // Column n, where it is looked at: its heights upwards.
 fn column(
@@ -48,8 +25,7 @@ fn column(
     requires { ⌜ c .sides ≡ sidesBefore (space (task .w) (now cells) (now perms) (now shapes) (now boxes)) (task .r) (task .body) (at .point) n ⌝ }
     ensures { λ a. ⌜ Looked (task .aim) at (space (task .w) (now (cells .entry)) (now (perms .entry)) (now (shapes .entry)) (now (boxes .entry))) (task .r) (task .body) n c a (now (nodes .entry)) (now (front .entry)) (now (nodes .exit)) (now (front .exit)) ⌝ }
 {
-    let sides = c.sides;
-    if !sides.looked(n) {
+    if !c.sides.looked(n) {
         return c;
     }
     let centre = steps::column_centre(at.point, n);
@@ -60,12 +36,12 @@ fn column(
     loop {
         let Height::At(y) = heights::next_height(task.w, cells, perms, shapes, boxes, band, centre.x, centre.z, after) else {
             let counts = gone.counts;
-            let sides = sides.answered(n, gone.level);
+            let sides = c.sides.answered(n, gone.level);
             return Around { counts, sides };
         };
         let to = Point { x: centre.x, y, z: centre.z };
         let edge = edges::edge(task.w, cells, perms, shapes, boxes, task.r, task.body, at.point, to);
-        gone = step_to(nodes, front, task.aim, at, edge, gone);
+        gone = strides::step_to(nodes, front, task.aim, at, edge, gone);
         after = Height::At(y);
     }
 }

@@ -1,6 +1,6 @@
 // The search (01, "Search"): one expansion of a node on the rooms, as the theory's run of 01's graph under 01's policy.
 //
-// `columns` goes through the columns around the node's point, in 01's order, and visits the steps of each, upwards. `turns` has the whole expansion: pick,
+// `columns` goes through the columns around the node's point, in 01's order, and visits the steps of each, upwards (`strides`). `turns` has the whole expansion: pick,
 // close, try the connector, then the columns. `find` is the public call: as many expansions as the budget, or fewer where the search ends. What it answers is
 // the crate `outcomes`, whether it begins `refusals`.
 pub(crate) mod columns;
@@ -9,11 +9,9 @@ pub(crate) mod turns;
 
 pub use find::find_walk_path;
 use rooms::Counts;
-use rooms::NodeRecord;
 use sides::Sides;
 use visits::Aim;
 use world::Body;
-use world::Point;
 use world::Request;
 use world::Window;
 
@@ -23,19 +21,6 @@ pub struct Task {
     pub r: Request,
     pub body: Body,
     pub aim: Aim,
-}
-
-// The node that is expanded: its number, its record, and the point that its feet are read as.
-pub struct Place {
-    pub number: usize,
-    pub node: NodeRecord,
-    pub point: Point,
-}
-
-// What a column has come to: the counts, and whether an edge so far does not climb.
-pub struct Column {
-    pub counts: Counts,
-    pub level: bool,
 }
 
 // What the columns so far have come to: the counts, and the side answers.

@@ -1,10 +1,10 @@
 // One expansion (01, "Search": "Pop, close, try the connector (a start equal to the goal needs none: its list is the start alone), then the columns").
-use crate::Place;
 use crate::Task;
 use crate::columns::columns;
 use moves::EdgeAnswer;
 use outcomes::Turn;
 use rooms::Counts;
+use strides::Place;
 ghost use mathlib.Core.Path.{_≡_};
 ghost use Prim.Native.Nat.{_+_};
 ghost use Rattle.world.specs.Space.{space};

@@ -19,7 +19,7 @@ use Rattle.ends.specs.Ends.{endsGood}
 use Rattle.ends.specs.Laws.{ends-parts, ends-all}
 use Rattle.steps.specs.Graph.{graph}
 use Rattle.walk_back.specs.declared.Walked.the-variants.{Yes, No, BadWorld, TooLarge}
-use Rattle.walk_back.specs.Listed.{waypoints}
+use Rattle.listed.specs.Listed.{waypoints}
 use Rattle.walk_back.specs.WalkBack.{isRouteList, RouteList, walked}
 
 -- ---- the test of a list

@@ -28,17 +28,14 @@ use Rattle.steps.specs.Expansion.{columnsFrom, columns-begin, columns-on, colum
 use Rattle.rooms.specs.declared.Feet.{Feet}
 use Rattle.rooms.specs.declared.Label.{Label}
 use Rattle.rooms.specs.Waypoints.{canonicalWord, sameWord, samePoint, alike, standing}
-use Rattle.words.specs.Words.{pointOf, feetOf, labelOf, stepOf, labelIf}
+use Rattle.words.specs.Words.{pointOf, feetOf, stepOf, labelIf}
 use Rattle.steps.specs.Graph.{graph}
-use Rattle.walk_back.specs.declared.listed.Listed.{Listed}
-use Rattle.walk_back.specs.Listed.{listedAt, feet, label, entry, entriesFrom, waypoints}
+use Rattle.listed.specs.declared.Listed.{Listed}
+use Rattle.listed.specs.Listed.{listedAt, feet, label, entry, entriesFrom, waypoints}
+use Rattle.listed.specs.Compared.{leadsTo, labelledBy, starts, begins}
 use Rattle.walk_back.specs.WalkBack.{isRouteList}
 
 -- ---- one edge, and the edges of a column
-
--- an edge leads to a record: its point, its movement and its lift
-unfoldable pub leadsTo : Listed → Waypoint → Bool
-leadsTo v step = samePoint (feetOf (step .feet)) (feet v) && alike (labelOf step) (label v)
 
 -- What was noted of the edges of a column, where these of them are left: one leads to the record; or none did so far, and whether one was level.
 abbrev pub Noted : Listed → Point → List Waypoint → Bool → Bool → List Waypoint → Type 0
@@ -161,11 +158,6 @@ module _ (sp : Space) (r : Request) (body : Body) (from : Point) (v : Listed) wh
 
 -- ---- one pair
 
--- an answer is an edge with a label
-abbrev pub labelledBy : EdgeAnswer → Label → Bool
-labelledBy Nowhere l = false
-labelledBy (To step) l = alike (labelOf step) l
-
 -- the connector has a record's movement and lift
 abbrev pub connectorTo : Space → Request → Body → Point → Listed → Bool
 connectorTo sp r body from v = labelledBy (connector sp r body from) (label v)
@@ -284,9 +276,6 @@ module _ (sp : Space) (r : Request) (body : Body) (s : List ℕ) (p : Listed) (k
 
 -- ---- the tests of a list, in the code's order
 
-abbrev pub starts : Request → Listed → Bool
-starts r v = samePoint (feetOf (r .start)) (feet v) && alike standing (label v)
-
 no-waypoints : (s : List ℕ) → length s ≡ 0 → waypoints s ≡ []
 unfolding waypoints entriesFrom
 no-waypoints s e = let d : length s / 40 ≡ 0 = omega arith in rw d
@@ -306,12 +295,12 @@ module _ (sp : Space) (r : Request) (body : Body) (s : List ℕ) where
       ap (λ (b : Bool). eqb (length s % 40) 0 && endsGood sp r body && b) (ap (isRoute (graph sp r body)) (no-waypoints s e))
       ∙ and-false (eqb (length s % 40) 0 && endsGood sp r body)
 
-  first-is : (v : Listed) (ws : List (Feet × Label)) → isRoute (graph sp r body) (entry v ∷ ws) ≡ (starts r v && isWay (graph sp r body) (feet v) ws)
+  first-is : (v : Listed) (ws : List (Feet × Label)) → isRoute (graph sp r body) (entry v ∷ ws) ≡ (starts (r .start) v && isWay (graph sp r body) (feet v) ws)
   unfolding isRoute graph
   first-is v ws = sym (and-assoc (samePoint (feetOf (r .start)) (feet v)) (alike standing (label v)) _)
 
   -- the first record, and those behind it
-  in-order : eqb (length s % 40) 0 ≡ true → 0 < length s → isRouteList sp r body s ≡ (endsGood sp r body && (starts r (listedAt s 0) && isWay (graph sp r body) (feet (listedAt s 0)) (rest s 1)))
+  in-order : eqb (length s % 40) 0 ≡ true → 0 < length s → isRouteList sp r body s ≡ (endsGood sp r body && (starts (r .start) (listedAt s 0) && isWay (graph sp r body) (feet (listedAt s 0)) (rest s 1)))
   unfolding isRouteList
   in-order e l =
       let whole = eqb-true (length s % 40) 0 e in
@@ -319,10 +308,7 @@ module _ (sp : Space) (r : Request) (body : Body) (s : List ℕ) where
       rw e (ap (λ (b : Bool). endsGood sp r body && b) (ap (isRoute (graph sp r body)) (waypoints-are s h) ∙ first-is (listedAt s 0) (rest s 1)))
 
   -- whole records, and not none; the start first; good ends; and a way
-  abbrev pub begins : Bool
-  begins = eqb (length s % 40) 0 && ltb 0 (length s) && starts r (listedAt s 0)
-
-  pub route-is : (begins && endsGood sp r body && isWay (graph sp r body) (feet (listedAt s 0)) (rest s 1)) ≡ isRouteList sp r body s
+  pub route-is : (begins (r .start) s && endsGood sp r body && isWay (graph sp r body) (feet (listedAt s 0)) (rest s 1)) ≡ isRouteList sp r body s
   route-is = go (eqb (length s % 40) 0) refl (ltb 0 (length s)) refl
     where
       turn : (a b c : Bool) → (a && b && c) ≡ (b && (a && c))
@@ -330,7 +316,7 @@ module _ (sp : Space) (r : Request) (body : Body) (s : List ℕ) where
       turn false b c = sym (and-false b)
 
       go : (a : Bool) → eqb (length s % 40) 0 ≡ a → (b : Bool) → ltb 0 (length s) ≡ b →
-          (a && b && starts r (listedAt s 0) && endsGood sp r body && isWay (graph sp r body) (feet (listedAt s 0)) (rest s 1)) ≡ isRouteList sp r body s
-      go true e true f = turn (starts r (listedAt s 0)) (endsGood sp r body) _ ∙ sym (in-order e (ltb-true 0 (length s) f))
+          (a && b && starts (r .start) (listedAt s 0) && endsGood sp r body && isWay (graph sp r body) (feet (listedAt s 0)) (rest s 1)) ≡ isRouteList sp r body s
+      go true e true f = turn (starts (r .start) (listedAt s 0)) (endsGood sp r body) _ ∙ sym (in-order e (ltb-true 0 (length s) f))
       go true e false f = sym (empty-list (omega (arith, ltb-false 0 (length s) f)))
       go false e b f = sym (partial-record e)

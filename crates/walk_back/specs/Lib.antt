@@ -1,5 +1,4 @@
--- The walk-back. What a reader must believe: Listed, WalkBack. What is proved of it: Claims. What the code goes by: Laws.
-pub mod Listed
+-- The walk-back. What a reader must believe: WalkBack, and `listed`. What is proved of it: Claims. What the code goes by: Laws.
 pub mod WalkBack
 pub mod Laws
 pub mod Claims

@@ -20,7 +20,7 @@ use Rattle.rooms.specs.declared.Label.{Label}
 use Rattle.steps.specs.Graph.{graph}
 use Rattle.walk_back.specs.declared.Walked.{Walked}
 use Rattle.walk_back.specs.declared.Walked.the-variants.{Yes, No, BadWorld, TooLarge}
-use Rattle.walk_back.specs.Listed.{waypoints}
+use Rattle.listed.specs.Listed.{waypoints}
 
 -- 01's numbers, and two of our own for yes and no
 abbrev pub walkedNumber : Walked → ℕ

@@ -1,7 +1,6 @@
 // The walk-back (01, Modules 5): whether a list of waypoint records is a route. It searches nothing and reads no rooms.
 //
-// `listed` has the records of the list and how they compare, `pairs` whether one pair is a graph step, and here the list is gone through once.
-pub mod listed;
+// The crate `listed` has the records of the list and how they compare, `pairs` whether one pair is a graph step, and here the list is gone through once.
 mod pairs;
 
 ghost use mathlib.Core.Path.{_≡_};
@@ -10,9 +9,8 @@ ghost use lib.ListN.{length};
 ghost use Rattle.world.specs.Space.{space};
 ghost use Rattle.exploration.specs.WalkBack.{isWay};
 ghost use Rattle.steps.specs.Graph.{graph};
-ghost use Rattle.walk_back.specs.Listed.{listedAt, feet, entriesFrom};
+ghost use Rattle.listed.specs.Listed.{listedAt, feet, entriesFrom};
 ghost use Rattle.walk_back.specs.WalkBack.{walked};
-pub use listed::Listed;
 use rooms::Feet;
 use world::Body;
 use world::Request;
@@ -71,7 +69,7 @@ pub fn walk_back(
     if request::sizes_too_large(r, body) {
         return Walked::TooLarge;
     }
-    if ((list.len() % 40 == 0) & (0 < list.len()) & listed::is_start(r.start, listed::listed_at(list, 0)))
+    if listed::begins_at(r.start, list)
         && ends::ends_good(w, cells, perms, shapes, boxes, r, body)
         && leads(w, cells, perms, shapes, boxes, r, body, list)
     {

@@ -15,7 +15,7 @@ use Rattle.rooms.specs.declared.Feet.{Feet}
 use Rattle.rooms.specs.declared.Label.{Label}
 use Rattle.rooms.specs.Records.{waypointLayout, waypointWords, feetFrom, labelFrom}
 use Rattle.rooms.specs.Lists.{waypointBytes, listBytes}
-use Rattle.walk_back.specs.Listed.{listedAt, entry, entriesFrom, waypoints}
+use Rattle.listed.specs.Listed.{listedAt, entry, entriesFrom, waypoints}
 use Rattle.claims.specs.Laws.Fits.{Each, end, more}
 use Rattle.claims.specs.Laws.Below.{Words64, fills}
 

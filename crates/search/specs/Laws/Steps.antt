@@ -25,12 +25,12 @@ use Rattle.rooms.specs.declared.Counts.{Counts}
 use Rattle.rooms.specs.Rooms.{Note, stateOf}
 use Rattle.visits.specs.declared.Aim.{Aim}
 use Rattle.visits.specs.Best.{best}
-use Rattle.visits.specs.declared.Visit.{Visit}
-use Rattle.visits.specs.Visits.{Ready, Near, countsBy, Visited, VisitedIf}
+use Rattle.visits.specs.Visits.{Ready, Near, Visited}
 use Rattle.visits.specs.Laws.Visits.{kept-none, kept-trans, near-none, near-trans, is-ready}
-use Rattle.search.specs.declared.Place.{Place}
-use Rattle.search.specs.declared.Column.{Column}
+use Rattle.strides.specs.declared.Place.{Place}
+use Rattle.strides.specs.declared.Column.{Column}
 use Rattle.search.specs.declared.Around.{Around}
+use Rattle.strides.specs.Strides.{Strode}
 use Rattle.search.specs.Steps.{Stepped, Went, Looked}
 
 -- ---- readiness goes on
@@ -85,19 +85,16 @@ module _ {aim : Aim} {at : Place} where
 
   -- ---- one height
 
-  pub went-nowhere : {c : Column} {a f : List ℕ} (e : EdgeAnswer) → Nowhere ≡ e → c .counts .retained ≤ aim .budget → Went aim at (ahead e []) c c a f a f
-  went-nowhere {c} {a} {f} e i h = subst (λ (x : EdgeAnswer). Went aim at (ahead x []) c c a f a f) i (went-none a f h)
-
-  -- where a visit answers v, also at a closed node: 01, "a closed side still answers"
-  pub went-to : {c : Column} {r : Counts} {v : Visit} {a f b g : List ℕ} (e : EdgeAnswer) (w : Waypoint) (p : Feet) (l : Label) (flat : Bool) → To w ≡ e → p ≡ feetOf (w .feet) → l ≡ labelOf w → flat ≡ levelTo (at .point) (w .feet)
-      → Ready a f (aim .budget) 1 (c .counts) → at .number < c .counts .retained → VisitedIf aim (at .number) (at .node) (c .counts) p l v a f b g → countsBy (c .counts) v ≡ r
-      → Went aim at (ahead e []) c (record { counts = r; level = c .level || flat }) a f b g
+  -- by the edge to it, where the rooms are ready
+  pub went-by : {c r : Column} {a f b g : List ℕ} (e : EdgeAnswer) → Strode aim at e c r a f b g → Ready a f (aim .budget) 1 (c .counts) → at .number < c .counts .retained
+      → Went aim at (ahead e []) c r a f b g
   unfolding level
-  went-to {c} {r} {v} {a} {f} {b} {g} e w p l flat i j k m h n x o = subst (λ (x : EdgeAnswer). Went aim at (ahead x []) c (record { counts = r; level = c .level || flat }) a f b g) i
-      (record { steps = stepped-one w (subst (λ (x : Counts). Visited aim (at .number) (at .node) (c .counts) (feetOf (w .feet)) (labelOf w) x a f b g) o
-                  (subst (λ (x : Feet). Visited aim (at .number) (at .node) (c .counts) x (labelOf w) (countsBy (c .counts) v) a f b g) j
-                  (subst (λ (x : Label). Visited aim (at .number) (at .node) (c .counts) p x (countsBy (c .counts) v) a f b g) k (x .done (is-ready a f (aim .budget) (at .number) (c .counts) h n)))));
-                noted = ap (λ (x : Bool). c .level || x) (m ∙ or-none (levelTo (at .point) (w .feet))) })
+  went-by {c} {r} {a} {f} Nowhere s h n = record {
+    steps = rw (s .visited .nodes) (rw (s .visited .front) (rw (s .visited .counts) (stepped-none a f (h .few))));
+    noted = s .noted }
+  went-by {c} {r} {a} {f} (To w) s h n = record {
+    steps = stepped-one w (s .visited .0 (is-ready a f (aim .budget) (at .number) (c .counts) h n));
+    noted = s .noted ∙ ap (λ (x : Bool). c .level || x) (or-none (levelTo (at .point) (w .feet))) }
 
 -- ---- a loop over steps: those gone, and those left
 

@@ -34,7 +34,7 @@ use Rattle.visits.specs.declared.Closing.{Closing}
 use Rattle.visits.specs.Visits.{Ready, Closed, ClosedIf}
 use Rattle.visits.specs.Laws.Visits.{kept-none, kept-trans, near-none, near-trans, near-le, is-ready}
 use Rattle.outcomes.specs.declared.Turn.the-variants.{Rest, Going, At, By}
-use Rattle.search.specs.declared.Place.{Place}
+use Rattle.strides.specs.declared.Place.{Place}
 use Rattle.search.specs.Steps.{Stepped}
 use Rattle.search.specs.Laws.Steps.{ready-after}
 use Rattle.search.specs.Turns.{mostSteps, Bounded, Turned}

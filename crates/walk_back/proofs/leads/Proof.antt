@@ -15,9 +15,10 @@ use Rattle.moves.specs.declared.answer.EdgeAnswer.{EdgeAnswer}
 use Rattle.rooms.specs.Waypoints.{samePoint}
 use Rattle.words.specs.Words.{feetOf}
 use Rattle.places.specs.Laws.{asked, spared}
-use Rattle.walk_back.specs.declared.listed.Listed.{Listed}
-use Rattle.walk_back.specs.Listed.{listedAt, feet, label}
-use Rattle.walk_back.specs.Laws.{labelledBy, connectorTo, wayFrom, at-end, pair-on, pair-last}
+use Rattle.listed.specs.declared.Listed.{Listed}
+use Rattle.listed.specs.Listed.{listedAt, feet, label}
+use Rattle.listed.specs.Compared.{labelledBy}
+use Rattle.walk_back.specs.Laws.{connectorTo, wayFrom, at-end, pair-on, pair-last}
 use Rattle.walk_back.proofs.leads.Statement.{statement}
 use Rattle.walk_back.proofs.leads.Tie as tie
 
@@ -50,7 +51,7 @@ last-pair c =
     c .before .before .before .before .before .before .loop .inv ∙ pair-last (sp s) (s .args .r) (s .args .body) (now (s .args .list)) (c .before .before .before .before .before .before .loop .last) (c .before .before .before .before .before .before .loop .k) (c .before .before .before .before .before .loop-test .taken) _ _ (c .before .before .before .listed-at2 .ensures) (c .before .before .before .before .point-of .ensures) (sym (c .before .before .has-step .ensures) ∙ not-true _ (c .before .if1 .taken))
 
 listed-at-requires : tie.Need-listed-at-requires Inv-loop μ-loop
-listed-at-requires c κs = search needs
+listed-at-requires c κs = tt
 
 loop-holds : tie.Need-loop-holds Inv-loop μ-loop
 loop-holds c = let s = c .before .before .before .before .before .before in ap (λ (v : Listed). wayFrom (sp s) (s .args .r) (s .args .body) (now (s .args .list)) v 1) (sym (c .listed-at .ensures))
@@ -59,7 +60,7 @@ point-of-requires : tie.Need-point-of-requires Inv-loop μ-loop
 point-of-requires c κs = tt
 
 listed-at-requires-2 : tie.Need-listed-at-requires-2 Inv-loop μ-loop
-listed-at-requires-2 c κs = omega (arith, c .before .loop-test .taken)
+listed-at-requires-2 c κs = tt
 
 has-step-requires : tie.Need-has-step-requires Inv-loop μ-loop
 has-step-requires c κs = tt

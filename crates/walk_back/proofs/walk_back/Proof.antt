@@ -1,18 +1,13 @@
 -- `walk_back::walk_back` meets its contract. Assumes nothing.
-use mathlib.Core.Path.{_≡_, sym, ap, _∙_}
-use mathlib.Core.Bool.{Bool, true, false, _&&_, cond}
+use mathlib.Core.Path.{_≡_, sym, _∙_}
+use mathlib.Core.Bool.{Bool, true, false, cond}
 use mathlib.Core.Logic.{inl, inr}
-use borrow.Author.Needs.{needs}
 use borrow.Author.Tests.{not-true, not-false}
 use denote.Ref.{now}
-use lib.Dec.{eqb, ltb}
-use lib.ListN.{length}
-use Prim.Native.Nat.{_%_}
 use Rattle.world.specs.Space.{Space, space}
 use Rattle.walk_back.specs.declared.Walked.the-variants.{Yes, No}
-use Rattle.walk_back.specs.declared.listed.Listed.{Listed}
 use Rattle.walk_back.specs.WalkBack.{isRouteList, walked}
-use Rattle.walk_back.specs.Laws.{starts, begins, route-is}
+use Rattle.walk_back.specs.Laws.{route-is}
 use Rattle.walk_back.proofs.walk_back.Statement.{statement}
 use Rattle.walk_back.proofs.walk_back.Tie as tie
 
@@ -24,13 +19,6 @@ past : (c : tie.Else3) (route : Bool) → let s = c .before .before .before .bef
     cond route Yes No ≡ walked (s .args .w) (now (s .args .cells)) (now (s .args .perms)) (now (s .args .shapes)) (now (s .args .boxes)) (s .args .r) (s .args .body) (now (s .args .list))
 unfolding walked
 past c route e = rw (sym (c .before .before .before .before .before .bad-world .ensures) ∙ c .before .before .before .before .if1 .left, sym (c .before .before .before .valid-request .ensures) ∙ not-false _ (c .before .before .if2 .left), sym (c .before .sizes-too-large .ensures) ∙ c .if3 .left, e)
-
--- the first test of a list
-begins-is : (c : tie.After-is-start) → let s = c .before .before .before .before .before .before .before .before .before .before .before .before .before in
-    (eqb (length (now (s .args .list)) % 40) 0 && ltb 0 (length (now (s .args .list))) && c .is-start .result) ≡ begins (sp s) (s .args .r) (s .args .body) (now (s .args .list))
-begins-is c =
-    let a = c .before .before .before .before .before .before .before .before .before .before .before .before .before .args in
-    ap (λ (b : Bool). eqb (length (now (a .list)) % 40) 0 && ltb 0 (length (now (a .list))) && b) (c .is-start .ensures ∙ ap (λ (v : Listed). starts (a .r) v) (c .before .listed-at .ensures))
 
 bad-world-requires : tie.Need-bad-world-requires
 bad-world-requires c κs = tt
@@ -53,11 +41,8 @@ returns-3 : tie.Need-returns-3
 unfolding walked
 returns-3 c = rw (sym (c .before .before .before .before .before .bad-world .ensures) ∙ c .before .before .before .before .if1 .left, sym (c .before .before .before .valid-request .ensures) ∙ not-false _ (c .before .before .if2 .left), sym (c .before .sizes-too-large .ensures) ∙ c .if3 .taken)
 
-listed-at-requires : tie.Need-listed-at-requires
-listed-at-requires c κs = search needs
-
-is-start-requires : tie.Need-is-start-requires
-is-start-requires c κs = tt
+begins-at-requires : tie.Need-begins-at-requires
+begins-at-requires c κs = tt
 
 ends-good-requires : tie.Need-ends-good-requires
 ends-good-requires c κs = tt
@@ -67,18 +52,18 @@ leads-requires c κs = tt
 
 returns-4 : tie.Need-returns-4
 returns-4 c =
-    let s = c .before .before .before .before .before .before .before .before .before .before .before .before .before .before .before .before .before .before in
-    past (c .before .before .before .before .before .before .before) true (sym (route-is (sp s) (s .args .r) (s .args .body) (now (s .args .list)))
-    ∙ rw (sym (begins-is (c .before .before .before .before .before)) ∙ c .before .before .before .before .if4 .taken, sym (c .before .before .before .ends-good .ensures) ∙ c .before .before .if5 .taken, sym (c .before .leads .ensures) ∙ c .if6 .taken))
+    let s = c .before .before .before .before .before .before .before .before .before .before .before .before .before .before .before .before .before in
+    past (c .before .before .before .before .before .before) true (sym (route-is (sp s) (s .args .r) (s .args .body) (now (s .args .list)))
+    ∙ rw (sym (c .before .before .before .before .before .begins-at .ensures) ∙ c .before .before .before .before .if4 .taken, sym (c .before .before .before .ends-good .ensures) ∙ c .before .before .if5 .taken, sym (c .before .leads .ensures) ∙ c .if6 .taken))
 
 returns-5 : tie.Need-returns-5
 returns-5 c =
-    let s = c .before .before .before .before .before .before .before .before .before .before .before .before .before .before in
-    past (c .before .before .before) false (sym (route-is (sp s) (s .args .r) (s .args .body) (now (s .args .list)))
+    let s = c .before .before .before .before .before .before .before .before .before .before .before .before .before in
+    past (c .before .before) false (sym (route-is (sp s) (s .args .r) (s .args .body) (now (s .args .list)))
     ∙ elim (c .if4 .came) [
-      inl t ↦ rw (sym (begins-is (c .before)) ∙ t .0 .taken, sym (t .1 .ensures) ∙ t .2 .taken, sym (t .3 .ensures) ∙ t .4 .left)
-    | inr (inl t) ↦ rw (sym (begins-is (c .before)) ∙ t .0 .taken, sym (t .1 .ensures) ∙ t .2 .left)
-    | inr (inr t) ↦ rw (sym (begins-is (c .before)) ∙ t .left) ])
+      inl t ↦ rw (sym (c .before .begins-at .ensures) ∙ t .0 .taken, sym (t .1 .ensures) ∙ t .2 .taken, sym (t .3 .ensures) ∙ t .4 .left)
+    | inr (inl t) ↦ rw (sym (c .before .begins-at .ensures) ∙ t .0 .taken, sym (t .1 .ensures) ∙ t .2 .left)
+    | inr (inr t) ↦ rw (sym (c .before .begins-at .ensures) ∙ t .left) ])
 
 pub walk-back-spec : {M : Type 1} → statement M
 walk-back-spec =
@@ -90,8 +75,7 @@ walk-back-spec =
     returns-2
     sizes-too-large-requires
     returns-3
-    listed-at-requires
-    is-start-requires
+    begins-at-requires
     ends-good-requires
     leads-requires
     returns-4

@@ -9,7 +9,7 @@ use Rattle.find_path.proofs.find.find_path.Statement.{statement}
 use Rattle.find_path.proofs.find.find_path.Tie as tie
 
 fill-permissions-requires : tie.Need-fill-permissions-requires
-fill-permissions-requires c κs = search needs
+fill-permissions-requires c κs = tt
 
 enum-told : tie.Need-enum-told
 enum-told c = search needs
@@ -18,13 +18,13 @@ enum-told-2 : tie.Need-enum-told-2
 enum-told-2 c = search needs
 
 request-of-requires : tie.Need-request-of-requires
-request-of-requires c κs = search needs
+request-of-requires c κs = tt
 
 find-walk-path-requires : tie.Need-find-walk-path-requires
-find-walk-path-requires c κs = search needs
+find-walk-path-requires c κs = tt
 
 same-length : tie.Need-same-length
-same-length c = search needs
+same-length c = c .before .before .before .before .fill-permissions .kept .1 .1 .1 .0
 
 returns : tie.Need-returns
 unfolding path nodesAfterPath frontAfterPath outAfterPath
@@ -36,16 +36,16 @@ returns c =
     (unsearched flags perms _ e, (fill .1, (unsearched flags perms _ e, (unsearched flags perms _ e, unsearched flags perms _ e))))
 
 same-length-2 : tie.Need-same-length-2
-same-length-2 c = search needs
+same-length-2 c = c .before .before .before .before .before .before .before .before .before .before .before .before .before .before .before .before .fill-permissions .kept .1 .1 .1 .0
 
 same-length-3 : tie.Need-same-length-3
-same-length-3 c = search needs
+same-length-3 c = c .before .before .before .before .before .before .find-walk-path .kept .1 .1 .1 .1 .1 .1 .1 .0
 
 same-length-4 : tie.Need-same-length-4
-same-length-4 c = search needs
+same-length-4 c = c .before .before .before .before .before .before .find-walk-path .kept .1 .1 .1 .1 .1 .1 .1 .1 .0
 
 same-length-5 : tie.Need-same-length-5
-same-length-5 c = search needs
+same-length-5 c = c .before .before .before .before .before .before .find-walk-path .kept .1 .1 .1 .1 .1 .1 .1 .1 .1 .0
 
 returns-2 : tie.Need-returns-2
 unfolding path nodesAfterPath frontAfterPath outAfterPath

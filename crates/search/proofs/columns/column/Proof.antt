@@ -15,17 +15,17 @@ use Rattle.sides.specs.declared.Sides.{Sides}
 use Rattle.sides.specs.Sides.{lookedBy}
 use Rattle.steps.specs.Expansion.{stepsAfter, column-begins, heightsLeft, none-left, next-ahead, fewer}
 use Rattle.search.specs.Steps.{Went}
-use Rattle.search.specs.Laws.Steps.{ready-after, went-none, went-more, Along, along-none, along-on, along-end, along-short, ahead-split, looked-not, looked-on}
+use Rattle.search.specs.Laws.Steps.{ready-after, went-none, went-more, went-by, Along, along-none, along-on, along-end, along-short, ahead-split, looked-not, looked-on}
 use Rattle.search.proofs.columns.column.Statement.{statement}
 use Rattle.search.proofs.columns.column.Tie as tie
 
 abbrev Inv-loop : tie.InvT-loop
-Inv-loop task cells perms shapes boxes nodes₀ front₀ at n sides centre band gone₀ after₀ nodes front gone after =
+Inv-loop task cells perms shapes boxes nodes₀ front₀ at n c centre band gone₀ after₀ nodes front gone after =
     (length nodes ≡ length nodes₀) × (length front ≡ length front₀)
     × Along (λ ws. Went (task .aim) at ws gone₀ gone nodes₀ front₀ nodes front) (columnIf (space (task .w) cells perms shapes boxes) (task .r) (task .body) (at .point) n) (stepsAfter (space (task .w) cells perms shapes boxes) (task .r) (task .body) (at .point) n after)
 
 abbrev μ-loop : tie.MeasureT-loop
-μ-loop task cells perms shapes boxes nodes₀ front₀ at n sides centre band gone₀ after₀ nodes front gone after =
+μ-loop task cells perms shapes boxes nodes₀ front₀ at n c centre band gone₀ after₀ nodes front gone after =
     heightsLeft (space (task .w) cells perms shapes boxes) (task .r) (task .body) (at .point) n after
 
 abbrev sp : tie.Start Inv-loop μ-loop → Space
@@ -35,7 +35,7 @@ looked-requires : tie.Need-looked-requires Inv-loop μ-loop
 looked-requires c κs = tt
 
 returns : tie.Need-returns Inv-loop μ-loop
-returns c = looked-not (c .before .before .before .before .before .before .before .before .before .args .n) (c .before .before .before .before .before .before .before .before .before .pre .1) (sym (c .before .looked .ensures) ∙ not-true _ (c .if1 .taken)) (c .before .before .before .before .before .before .before .before .before .pre .0 .0 .few)
+returns c = looked-not (c .before .before .before .before .before .before .before .before .args .n) (c .before .before .before .before .before .before .before .before .pre .1) (sym (c .before .looked .ensures) ∙ not-true _ (c .if1 .taken)) (c .before .before .before .before .before .before .before .before .pre .0 .0 .few)
 
 column-centre-requires : tie.Need-column-centre-requires Inv-loop μ-loop
 column-centre-requires c κs = tt
@@ -45,9 +45,9 @@ band-of-requires c κs = tt
 
 loop-holds : tie.Need-loop-holds Inv-loop μ-loop
 loop-holds c =
-    let s = c .before .before .before .before .before .before .before .before .before .before .before .before in
+    let s = c .before .before .before .before .before .before .before .before .before .before .before in
     let z = ap (λ (x : Sides). lookedBy x (s .args .n)) (sym (s .pre .1)) ∙ sym (c .before .before .before .before .looked .ensures) ∙ not-false _ (c .before .before .before .if1 .left) in
-    (refl, refl, along-none (column-begins (sp s) (s .args .task .r) (s .args .task .body) (s .args .at .point) (s .args .n) z) (went-none (now (s .args .nodes)) (now (s .args .front)) (c .before .before .before .before .before .before .before .before .before .before .before .before .pre .0 .0 .few)))
+    (refl, refl, along-none (column-begins (sp s) (s .args .task .r) (s .args .task .body) (s .args .at .point) (s .args .n) z) (went-none (now (s .args .nodes)) (now (s .args .front)) (c .before .before .before .before .before .before .before .before .before .before .before .pre .0 .0 .few)))
 
 next-height-requires : tie.Need-next-height-requires Inv-loop μ-loop
 next-height-requires c κs = tt
@@ -69,32 +69,33 @@ same-length-2 c = c .before .before .before .before .before .loop .inv .1
 
 returns-2 : tie.Need-returns-2 Inv-loop μ-loop
 returns-2 c =
-    let s = c .before .before .before .before .before .before .before .before .before .before .before .before .before .before .before .before .before .before in
+    let s = c .before .before .before .before .before .before .before .before .before .before .before .before .before .before .before .before .before in
     let g = along-end (c .before .before .before .before .before .loop .inv .2) (none-left (sp s) (s .args .task .r) (s .args .task .body) (s .args .at .point) (s .args .n) (c .before .before .before .before .before .loop .after) (c .before .before .before .before .before .before .before .band-of .ensures) (c .before .before .before .before .before .before .before .before .column-centre .ensures) (c .before .before .before .before .next-height .ensures) (c .before .before .enum-told .given .1)) in
-    looked-on (s .args .n) (c .before .before .before .before .before .before .before .before .before .before .before .before .before .before .before .before .before .before .pre .1) (c .before .before .before .before .before .loop .gone) (c .answered .result) (c .answered .ensures) g
+    looked-on (s .args .n) (c .before .before .before .before .before .before .before .before .before .before .before .before .before .before .before .before .before .pre .1) (c .before .before .before .before .before .loop .gone) (c .answered .result) (c .answered .ensures) g
 
 edge-requires : tie.Need-edge-requires Inv-loop μ-loop
 edge-requires c κs = tt
 
 step-to-requires : tie.Need-step-to-requires Inv-loop μ-loop
-step-to-requires c κs =
-    let u = c .before .before .before .before .before .before .before .loop .inv .2 in
-    (ready-after (c .before .before .before .before .before .before .before .before .before .before .before .before .before .before .before .before .before .before .before .before .pre .0 .0) (u .went .steps .near) (omega (arith, along-short u)) (c .before .before .before .before .before .before .before .loop .inv .0) (c .before .before .before .before .before .before .before .loop .inv .1), omega (arith, c .before .before .before .before .before .before .before .before .before .before .before .before .before .before .before .before .before .before .before .before .pre .0 .1, u .went .steps .near .more))
+step-to-requires c κs = tt
 
 loop-less : tie.Need-loop-less Inv-loop μ-loop
 loop-less c =
-    let s = c .before .before .before .before .before .before .before .before .before .before .before .before .before .before .before .before .before .before .before .before .before .before .before .before .before in
+    let s = c .before .before .before .before .before .before .before .before .before .before .before .before .before .before .before .before .before .before .before .before .before .before .before .before in
     fewer (sp s) (s .args .task .r) (s .args .task .body) (s .args .at .point) (s .args .n) (c .before .before .before .before .before .before .before .before .before .before .before .before .loop .after) (c .before .before .before .before .before .before .before .before .before .before .before .before .before .before .band-of .ensures) (c .before .before .before .before .before .before .before .before .before .before .before .before .before .before .before .column-centre .ensures) (c .before .before .before .before .before .before .before .before .before .before .before .next-height .ensures) _ (c .before .before .before .before .before .before .before .before .before .y .given .1)
 
 loop-again : tie.Need-loop-again Inv-loop μ-loop
 loop-again c =
-    let s = c .before .before .before .before .before .before .before .before .before .before .before .before .before .before .before .before .before .before .before .before .before .before .before .before .before in
+    let s = c .before .before .before .before .before .before .before .before .before .before .before .before .before .before .before .before .before .before .before .before .before .before .before .before in
     let i = c .before .before .before .before .before .before .before .before .before .before .before .before .loop in
     let y = c .before .before .before .before .before .before .before .before .before .y .given .0 .0 in
     let e = edge (sp s) (s .args .task .r) (s .args .task .body) (s .args .at .point) (target (c .before .before .before .before .before .before .before .before .before .before .before .before .before .before .before .column-centre .result) y) in
     let rest = next-ahead (sp s) (s .args .task .r) (s .args .task .body) (s .args .at .point) (s .args .n) (i .after) (c .before .before .before .before .before .before .before .before .before .before .before .before .before .before .band-of .ensures) (c .before .before .before .before .before .before .before .before .before .before .before .before .before .before .before .column-centre .ensures) (c .before .before .before .before .before .before .before .before .before .before .before .next-height .ensures) y (c .before .before .before .before .before .before .before .before .before .y .given .1) in
+    let u = i .inv .2 in
     (c .before .before .before .before .step-to .kept .0 ∙ i .inv .0, c .before .before .before .before .step-to .kept .1 .0 ∙ i .inv .1,
-    along-on (ahead e []) (i .inv .2) (rest ∙ ahead-split e (stepsAfter (sp s) (s .args .task .r) (s .args .task .body) (s .args .at .point) (s .args .n) (At y))) (λ vs g. went-more g (rw (c .before .before .before .before .before .before .before .edge .ensures) at (c .before .before .before .before .step-to .ensures))))
+    along-on (ahead e []) u (rest ∙ ahead-split e (stepsAfter (sp s) (s .args .task .r) (s .args .task .body) (s .args .at .point) (s .args .n) (At y)))
+        (λ vs g. went-more g (went-by e (rw (c .before .before .before .before .before .before .before .edge .ensures) at (c .before .before .before .before .step-to .ensures))
+            (ready-after (s .pre .0 .0) (u .went .steps .near) (omega (arith, along-short u)) (i .inv .0) (i .inv .1)) (omega (arith, s .pre .0 .1, u .went .steps .near .more)))))
 
 pub column-spec : {M : Type 1} → statement M
 column-spec =

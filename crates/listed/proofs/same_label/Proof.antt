@@ -1,12 +1,12 @@
--- `walk_back::listed::same_label` meets its contract. Assumes nothing.
+-- `listed::same_label` meets its contract. Assumes nothing.
 use lib.Dec.{eqb}
 use mathlib.Core.Bool.{_&&_}
 use mathlib.Core.Path.{ap, _∙_}
 use Prim.Native.Nat.{ℕ}
 use Rattle.rooms.specs.Waypoints.{sameWord, alike}
 use Rattle.words.specs.Words.{labelOf}
-use Rattle.walk_back.proofs.listed.same_label.Statement.{statement}
-use Rattle.walk_back.proofs.listed.same_label.Tie as tie
+use Rattle.listed.proofs.same_label.Statement.{statement}
+use Rattle.listed.proofs.same_label.Tie as tie
 
 movement-number-requires : tie.Need-movement-number-requires
 movement-number-requires c κs = tt

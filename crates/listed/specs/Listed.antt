@@ -5,7 +5,7 @@ use lib.ListN.{length}
 use Rattle.fields.specs.Little.{field}
 use Rattle.rooms.specs.declared.Feet.{Feet}
 use Rattle.rooms.specs.declared.Label.{Label}
-use Rattle.walk_back.specs.declared.listed.Listed.{Listed}
+use Rattle.listed.specs.declared.Listed.{Listed}
 
 -- "feet x, y, z, lift, movement as u64": waypoint record k of a list
 unfoldable pub listedAt : List ℕ → ℕ → Listed

@@ -1,9 +1,9 @@
--- `walk_back::listed::is_start` meets its contract. Assumes nothing.
+-- `listed::is_start` meets its contract. Assumes nothing.
 use lib.Dec.{eqb}
 use mathlib.Core.Bool.{_&&_}
 use Rattle.rooms.specs.Waypoints.{alike}
-use Rattle.walk_back.proofs.listed.is_start.Statement.{statement}
-use Rattle.walk_back.proofs.listed.is_start.Tie as tie
+use Rattle.listed.proofs.is_start.Statement.{statement}
+use Rattle.listed.proofs.is_start.Tie as tie
 
 same-feet-requires : tie.Need-same-feet-requires
 same-feet-requires c κs = tt

@@ -1,12 +1,9 @@
-// The records of the list that is walked back, and how they compare with the start, an edge and the goal (01, The graph, "Same point").
+// The records of a list that is walked back (01, Modules 5), and how they compare with the start, an edge and the goal (01, The graph, "Same point").
 ghost use mathlib.Core.Path.{_≡_};
-ghost use mathlib.Core.Bool.{_&&_};
-ghost use Prim.Native.Nat.{_*_, _≤_};
-ghost use lib.ListN.{length};
-ghost use Rattle.rooms.specs.Waypoints.{samePoint, alike, standing};
+ghost use Rattle.rooms.specs.Waypoints.{samePoint, alike};
 ghost use Rattle.words.specs.Words.{feetOf, labelOf};
-ghost use Rattle.walk_back.specs.Listed.{listedAt, feet, label};
-ghost use Rattle.walk_back.specs.Laws.{leadsTo, labelledBy};
+ghost use Rattle.listed.specs.Listed.{listedAt, feet, label};
+ghost use Rattle.listed.specs.Compared.{leadsTo, labelledBy, starts, begins};
 use equal_points::same_word;
 use moves::EdgeAnswer;
 use moves::Waypoint;
@@ -22,11 +19,19 @@ pub struct Listed {
     pub movement: u64,
 }
 
-// Record k.
-pub(crate) fn listed_at(list: &[u8], k: usize) -> Listed
-    requires { ⌜ 40 * k ≤ length (now list) ⌝ }
+// Record k; past the list every word is 0.
+pub fn listed_at(list: &[u8], k: usize) -> Listed
     ensures { λ v. ⌜ v ≡ listedAt (now (list .entry)) k ⌝ }
 {
+    if list.len() / 40 < k {
+        return Listed {
+            x: 0,
+            y: 0,
+            z: 0,
+            lift: 0,
+            movement: 0,
+        };
+    }
     let at = 40 * k;
     let x = fields::u64_at(list, at);
     let y = fields::u64_at(list, at + 8);
@@ -43,7 +48,7 @@ pub(crate) fn listed_at(list: &[u8], k: usize) -> Listed
 }
 
 // Whether a point is a record's.
-pub(crate) fn same_feet(p: Point, v: Listed) -> bool
+pub fn same_feet(p: Point, v: Listed) -> bool
     ensures { λ r. ⌜ r ≡ samePoint (feetOf p) (feet v) ⌝ }
 {
     let feet = words::feet_of(p);
@@ -58,14 +63,14 @@ pub(crate) fn same_feet(p: Point, v: Listed) -> bool
 }
 
 // Whether an edge leads to a record: its point, its movement and its lift.
-pub(crate) fn leads_to(v: Listed, step: Waypoint) -> bool
+pub fn leads_to(v: Listed, step: Waypoint) -> bool
     ensures { λ r. ⌜ r ≡ leadsTo v step ⌝ }
 {
     same_feet(step.feet, v) & same_label(step, v)
 }
 
 // Whether an edge has a record's movement and lift.
-pub(crate) fn same_label(step: Waypoint, v: Listed) -> bool
+fn same_label(step: Waypoint, v: Listed) -> bool
     ensures { λ r. ⌜ r ≡ alike (labelOf step) (label v) ⌝ }
 {
     let kind = step.movement;
@@ -75,7 +80,7 @@ pub(crate) fn same_label(step: Waypoint, v: Listed) -> bool
 }
 
 // Whether an answer is an edge with a record's movement and lift.
-pub(crate) fn labelled_by(answer: EdgeAnswer, v: Listed) -> bool
+pub fn labelled_by(answer: EdgeAnswer, v: Listed) -> bool
     ensures { λ r. ⌜ r ≡ labelledBy answer (label v) ⌝ }
 {
     let EdgeAnswer::To(step) = answer else {
@@ -85,8 +90,15 @@ pub(crate) fn labelled_by(answer: EdgeAnswer, v: Listed) -> bool
 }
 
 // Whether a record is the start's: its point, Walk, and lift 0.
-pub(crate) fn is_start(start: Point, v: Listed) -> bool
-    ensures { λ r. ⌜ r ≡ (samePoint (feetOf start) (feet v) && alike standing (label v)) ⌝ }
+fn is_start(start: Point, v: Listed) -> bool
+    ensures { λ r. ⌜ r ≡ starts start v ⌝ }
 {
     same_feet(start, v) & ((0 == v.movement) & same_word(0, v.lift))
+}
+
+// Whether a list is of whole records, and the first of them is the start's.
+pub fn begins_at(start: Point, list: &[u8]) -> bool
+    ensures { λ r. ⌜ r ≡ begins start (now (list .entry)) ⌝ }
+{
+    (list.len() % 40 == 0) & (0 < list.len()) & is_start(start, listed_at(list, 0))
 }

@@ -1,10 +1,10 @@
--- `walk_back::listed::same_feet` meets its contract. Assumes nothing.
+-- `listed::same_feet` meets its contract. Assumes nothing.
 use mathlib.Core.Path.{ap, _∙_}
 use Rattle.rooms.specs.declared.Feet.{Feet}
 use Rattle.rooms.specs.Waypoints.{samePoint}
-use Rattle.walk_back.specs.Listed.{feet}
-use Rattle.walk_back.proofs.listed.same_feet.Statement.{statement}
-use Rattle.walk_back.proofs.listed.same_feet.Tie as tie
+use Rattle.listed.specs.Listed.{feet}
+use Rattle.listed.proofs.same_feet.Statement.{statement}
+use Rattle.listed.proofs.same_feet.Tie as tie
 
 feet-of-requires : tie.Need-feet-of-requires
 feet-of-requires c κs = tt

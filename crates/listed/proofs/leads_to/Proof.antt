@@ -1,8 +1,8 @@
--- `walk_back::listed::leads_to` meets its contract. Assumes nothing.
+-- `listed::leads_to` meets its contract. Assumes nothing.
 use mathlib.Core.Bool.{_&&_}
-use Rattle.walk_back.specs.Laws.{leadsTo}
-use Rattle.walk_back.proofs.listed.leads_to.Statement.{statement}
-use Rattle.walk_back.proofs.listed.leads_to.Tie as tie
+use Rattle.listed.specs.Compared.{leadsTo}
+use Rattle.listed.proofs.leads_to.Statement.{statement}
+use Rattle.listed.proofs.leads_to.Tie as tie
 
 same-feet-requires : tie.Need-same-feet-requires
 same-feet-requires c κs = tt

@@ -1,7 +1,7 @@
--- `walk_back::listed::labelled_by` meets its contract. Assumes nothing.
+-- `listed::labelled_by` meets its contract. Assumes nothing.
 use borrow.Author.Needs.{needs}
-use Rattle.walk_back.proofs.listed.labelled_by.Statement.{statement}
-use Rattle.walk_back.proofs.listed.labelled_by.Tie as tie
+use Rattle.listed.proofs.labelled_by.Statement.{statement}
+use Rattle.listed.proofs.labelled_by.Tie as tie
 
 enum-known-answer : tie.Need-enum-known-answer
 enum-known-answer c = search needs
