@@ -1,1 +1,2 @@
 pub mod Print
+pub mod Laws

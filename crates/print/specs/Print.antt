@@ -3,6 +3,9 @@ use Prim.Native.Nat.{ℕ, zero, suc, _*_}
 use mathlib.Core.List.{List, [], _++_}
 use lib.ListN.{length, take}
 use Rattle.floats.specs.Floats.{nought}
+use Rattle.world.specs.declared.Window.{Window}
+use Rattle.world.specs.declared.Request.{Request}
+use Rattle.world.specs.declared.Body.{Body}
 use Rattle.scene_state.specs.declared.state.Scene.{Scene}
 use Rattle.scene_state.specs.Answers.{Answer, given, refused}
 use Rattle.scene.specs.Scene.{Tables, readAll}
@@ -29,29 +32,27 @@ toldOf a out = record {
 }
 
 module _ (cells perms shapes boxes : List ℕ) where
-  -- the search of a scene with tables of exactly the sizes in use: its answer, and what it leaves in the lent rooms
+  -- what the search is asked of a scene, with tables of exactly the sizes in use
+  abbrev pub asked : {A : Type 0} → (Window → List ℕ → List ℕ → List ℕ → List ℕ → Request → Body → A) → Scene → A
+  asked f s =
+      let used = s .«in_use» in
+      f (s .window) (take (used .cells) cells) (take (used .perms) perms) (take (used .shapes) shapes) (take (used .boxes) boxes) (s .request) (s .body)
+
+  -- its answer, and what it leaves in the lent rooms: of a refusal, what they held
   unfoldable pub answered : Scene → ℕ → ℕ → ℕ → search.Answer
-  answered s nodes front out =
-      found (s .window) (take (s .«in_use» .cells) cells) (take (s .«in_use» .perms) perms) (take (s .«in_use» .shapes) shapes)
-      (take (s .«in_use» .boxes) boxes) (s .request) (s .body) nodes front out
+  answered = asked found
 
   unfoldable pub nodesOf : Answer Scene → List ℕ → List ℕ → List ℕ → List ℕ
   nodesOf (refused n k) nodes front out = nodes
-  nodesOf (given s) nodes front out =
-      nodesAfter (s .window) (take (s .«in_use» .cells) cells) (take (s .«in_use» .perms) perms) (take (s .«in_use» .shapes) shapes)
-      (take (s .«in_use» .boxes) boxes) (s .request) (s .body) nodes front out
+  nodesOf (given s) nodes front out = asked nodesAfter s nodes front out
 
   unfoldable pub frontOf : Answer Scene → List ℕ → List ℕ → List ℕ → List ℕ
   frontOf (refused n k) nodes front out = front
-  frontOf (given s) nodes front out =
-      frontAfter (s .window) (take (s .«in_use» .cells) cells) (take (s .«in_use» .perms) perms) (take (s .«in_use» .shapes) shapes)
-      (take (s .«in_use» .boxes) boxes) (s .request) (s .body) nodes front out
+  frontOf (given s) nodes front out = asked frontAfter s nodes front out
 
   unfoldable pub outOf : Answer Scene → List ℕ → List ℕ → List ℕ → List ℕ
   outOf (refused n k) nodes front out = out
-  outOf (given s) nodes front out =
-      outAfter (s .window) (take (s .«in_use» .cells) cells) (take (s .«in_use» .perms) perms) (take (s .«in_use» .shapes) shapes)
-      (take (s .«in_use» .boxes) boxes) (s .request) (s .body) nodes front out
+  outOf (given s) nodes front out = asked outAfter s nodes front out
 
   -- all that is told of a scene or of its refusal
   unfoldable pub told : Answer Scene → List ℕ → List ℕ → List ℕ → Told

@@ -42,6 +42,22 @@ whole {s} {t} {l} {r} w h =
       count = n;
     }
 
+-- a line's first three fields, and what stands behind them
+abbrev pub head : List ℕ → List ℕ → List ℕ → List ℕ
+head w a b = w ++ (32 ∷ (a ++ (32 ∷ b)))
+
+pub head-then : (w a b rest : List ℕ) → head w a b ++ rest ≡ w ++ (32 ∷ (a ++ (32 ∷ (b ++ rest))))
+head-then w a b rest = simp append-assoc
+
+-- they were written at the start, with the byte that ends them, and two fields more have room
+pub record Headed (old new : List ℕ) (r : ℕ) (fields : List ℕ) (end : ℕ) : Type 0 where
+  pub wrote : Wrote old new 0 r (fields ++ (end ∷ []))
+  pub room : r + 42 ≤ length new
+
+pub headed : {old new : List ℕ} {r : ℕ} (w a b : List ℕ) (end : ℕ) → Wrote old new 0 r (w ++ (32 ∷ (a ++ (32 ∷ (b ++ (end ∷ [])))))) → r + 42 ≤ length new →
+    Headed old new r (head w a b) end
+headed w a b end wrote room = record { wrote = rw (head-then w a b (end ∷ [])) wrote; room = room }
+
 -- ---- in a buffer
 
 -- a whole line that was written, under whatever name the definitions have for it

@@ -1,11 +1,14 @@
 // walkprint's lines (01, "Scenes and walkprint"), each written at the start of a lent buffer. A line has at most 128 bytes: a buffer that is
 // shorter is left as it was, and the answer is 0.
 ghost use mathlib.Core.Path.{_≡_};
-ghost use Prim.Native.Nat.{_≤_, _<_};
+ghost use Prim.Native.Nat.{_+_, _≤_};
 ghost use lib.ListN.{length};
-ghost use Rattle.report.specs.Lines.{lineOne, recordOf, refusedLine, firstLine, waypointFields, waypointLine, inBuffer, countIn};
-ghost use Rattle.report.specs.LineLaws.{Whole};
+ghost use Rattle.digits.specs.Digits.{decimal};
+ghost use Rattle.report.specs.Lines.{recordOf, firstLine, waypointFields, waypointLine, inBuffer, countIn};
+ghost use Rattle.report.specs.LineLaws.{head, Headed, Whole};
+ghost use Rattle.report.specs.Words.{spell};
 use crate::words;
+use crate::words::Word;
 
 // The room that every line has enough of.
 pub const ROOM: usize = 128;
@@ -14,23 +17,14 @@ const SPACE: u8 = 32;
 
 const NEWLINE: u8 = 10;
 
-// Line 1 of a search that was not refused.
-fn line_one(
-    out: &mut [u8],
-    number: u64,
-    waypoints: u64,
-    retained: u64,
-    closed: u64,
-    bits: u64,
-) -> usize
-    requires { ⌜ (128 ≤ length (now out)) × (number < 3) ⌝ }
-    ensures { λ r. ⌜ Whole (now (out .entry)) (now (out .exit)) r (lineOne number waypoints retained closed bits) ⌝ }
+// What the first line begins with: a word and two counts. Of a refusal that is all.
+fn put_head(out: &mut [u8], word: Word, a: u64, b: u64, end: u8) -> usize
+    requires { ⌜ (128 ≤ length (now out)) × (word .from + word .size ≤ 53) × (word .size ≤ 20) ⌝ }
+    ensures { λ r. ⌜ Headed (now (out .entry)) (now (out .exit)) r (head (spell (word .from) (word .size)) (decimal a) (decimal b)) end ⌝ }
 {
-    let a = words::put_word(out, 0, words::outcome_word(number));
-    let b = digits::put_decimal(out, a, waypoints, SPACE);
-    let c = digits::put_decimal(out, b, retained, SPACE);
-    let d = digits::put_decimal(out, c, closed, SPACE);
-    digits::put_hex(out, d, bits, NEWLINE)
+    let c = words::put_word(out, 0, word);
+    let d = digits::put_decimal(out, c, a, SPACE);
+    digits::put_decimal(out, d, b, end)
 }
 
 // The record that a refusal names: only 7 BadScene has one, and the others print 0.
@@ -38,17 +32,6 @@ fn record_of(number: u64, bad: u64) -> u64
     ensures { λ r. ⌜ r ≡ recordOf number bad ⌝ }
 {
     if number == 7 { bad } else { 0 }
-}
-
-// The line of a refusal.
-fn refused_line(out: &mut [u8], number: u64, bad: u64) -> usize
-    requires { ⌜ 128 ≤ length (now out) ⌝ }
-    ensures { λ r. ⌜ Whole (now (out .entry)) (now (out .exit)) r (refusedLine number bad) ⌝ }
-{
-    let a = words::put_word(out, 0, words::REFUSED);
-    let b = digits::put_decimal(out, a, number, SPACE);
-    let named = record_of(number, bad);
-    digits::put_decimal(out, b, named, NEWLINE)
 }
 
 // The first line, by the number given back: line 1 for 0 to 2, and else a refusal's, which is all that is printed then.
@@ -68,16 +51,12 @@ pub fn first_line(
         return 0;
     }
     if number < 3 {
-        return line_one(
-            out,
-            number,
-            waypoints,
-            retained,
-            closed,
-            floats::bits_of(total),
-        );
+        let word = words::outcome_word(number);
+        let a = put_head(out, word, waypoints, retained, SPACE);
+        let b = digits::put_decimal(out, a, closed, SPACE);
+        return digits::put_hex(out, b, floats::bits_of(total), NEWLINE);
     }
-    refused_line(out, number, bad)
+    put_head(out, words::REFUSED, number, record_of(number, bad), NEWLINE)
 }
 
 // The fields of a waypoint's line.

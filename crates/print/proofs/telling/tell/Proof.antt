@@ -1,6 +1,8 @@
 -- `print::telling::tell` meets its contract. Assumes nothing.
+use denote.Ref.{now}
 use mathlib.Core.Path.{refl}
-use Rattle.print.specs.Print.{answered, told, nodesOf, frontOf, outOf}
+use Rattle.print.specs.Print.{told, nodesOf, frontOf, outOf}
+use Rattle.print.specs.Laws.{tells}
 use borrow.Author.Needs.{needs}
 use Rattle.print.proofs.telling.tell.Statement.{statement}
 use Rattle.print.proofs.telling.tell.Tie as tie
@@ -9,34 +11,34 @@ enum-told : tie.Need-enum-told
 enum-told c = search needs
 
 refusal-requires : tie.Need-refusal-requires
-refusal-requires c κs = search needs
+refusal-requires c κs = tt
 
 enum-known-answer : tie.Need-enum-known-answer
 enum-known-answer c = search needs
 
 refusal-requires-2 : tie.Need-refusal-requires-2
-refusal-requires-2 c κs = search needs
+refusal-requires-2 c κs = tt
 
 enum-known-answer-2 : tie.Need-enum-known-answer-2
 enum-known-answer-2 c = search needs
 
 front-of-requires : tie.Need-front-of-requires
-front-of-requires c κs = search needs
+front-of-requires c κs = tt
 
 front-of-requires-2 : tie.Need-front-of-requires-2
-front-of-requires-2 c κs = search needs
+front-of-requires-2 c κs = tt
 
 front-of-requires-3 : tie.Need-front-of-requires-3
-front-of-requires-3 c κs = search needs
+front-of-requires-3 c κs = tt
 
 front-of-requires-4 : tie.Need-front-of-requires-4
-front-of-requires-4 c κs = search needs
+front-of-requires-4 c κs = tt
 
 find-walk-path-requires : tie.Need-find-walk-path-requires
-find-walk-path-requires c κs = search needs
+find-walk-path-requires c κs = tt
 
 told-of-requires : tie.Need-told-of-requires
-told-of-requires c κs = search needs
+told-of-requires c κs = tt
 
 returns : tie.Need-returns
 unfolding told nodesOf frontOf outOf
@@ -56,10 +58,15 @@ same-length-3 : tie.Need-same-length-3
 same-length-3 c = search needs
 
 returns-3 : tie.Need-returns-3
-unfolding told answered nodesOf frontOf outOf
 returns-3 c =
-    let s = rw (c .before .before .before .before .before .before .before .before .before .before .before .before .before .before .before .front-of .ensures, c .before .before .before .before .before .before .before .before .before .before .before .before .before .before .front-of2 .ensures, c .before .before .before .before .before .before .before .before .before .before .before .before .before .front-of3 .ensures, c .before .before .before .before .before .before .before .before .before .before .before .before .front-of4 .ensures) at (c .before .before .before .before .before .before .before .before .find-walk-path .ensures) in
-    rw (c .before .before .before .before .before .before .before .before .before .before .before .before .before .before .before .before .before .before .answer2 .given .1) (rw (s .0, s .1 .1 .1) at (c .told-of .ensures), s .1)
+    let found = c .before .before .before .before .before .before .before .before in
+    let fronts = found .before .before .before .before in
+    let scene = fronts .before .before .before .before .before .before .answer2 .given in
+    let a = fronts .before .before .before .before .before .before .before .before .before .before .before .before .before .before .before .args in
+    rw (scene .1)
+    (tells (now (a .cells)) (now (a .perms)) (now (a .shapes)) (now (a .boxes)) (now (a .nodes)) (now (a .front)) (now (a .out)) (scene .0 .0)
+    (fronts .before .before .before .front-of .ensures) (fronts .before .before .front-of2 .ensures) (fronts .before .front-of3 .ensures) (fronts .front-of4 .ensures)
+    (found .find-walk-path .ensures) (c .told-of .ensures))
 
 pub tell-spec : {M : Type 1} → statement M
 tell-spec =

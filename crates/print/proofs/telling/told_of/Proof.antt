@@ -1,17 +1,16 @@
 -- `print::telling::told_of` meets its contract. Assumes nothing.
 use Rattle.print.specs.Print.{toldOf}
-use borrow.Author.Needs.{needs}
 use Rattle.print.proofs.telling.told_of.Statement.{statement}
 use Rattle.print.proofs.telling.told_of.Tie as tie
 
 list-of-requires : tie.Need-list-of-requires
-list-of-requires c κs = search needs
+list-of-requires c κs = tt
 
 length-of-requires : tie.Need-length-of-requires
-length-of-requires c κs = search needs
+length-of-requires c κs = tt
 
 number-of-requires : tie.Need-number-of-requires
-number-of-requires c κs = search needs
+number-of-requires c κs = tt
 
 returns : tie.Need-returns
 unfolding toldOf
