@@ -3,8 +3,8 @@
  * believed. Every function below is proved to meet its contract, which
  * docs/CONTRACTS.md states (walk_c); this header says the same in words.
  *
- * Link target/staticlib/libwalk_c.a (`rt staticlib walk_c`; README.md, "From C
- * and Rust").
+ * Link libwalk_c.a from the folder that `tools/library` prints (README.md,
+ * "From C and Rust").
  *
  * What a caller owes. A slice is a pointer and a length in bytes. The pointer
  * is not NULL, also where the length is 0, and that many bytes behind it can be
