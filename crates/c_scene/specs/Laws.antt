@@ -1,7 +1,7 @@
 -- The record of a scene in 21 words.
 use Prim.Native.Nat.{ℕ, _+_, _*_, _<_, _≤_}
 use native.Mathlib.Omega.{arith}
-use mathlib.Core.Path.{_≡_, refl, _∙_}
+use mathlib.Core.Path.{_≡_, refl, ap, _∙_}
 use mathlib.Core.List.{List, [], _∷_, _++_}
 use lib.ListN.{length, replicate}
 use mir.Syntax.{w32}
@@ -29,11 +29,14 @@ sceneWords x =
     ++ (bodyFields (x .body)
     ++ ((ofZ w32 (w .x) + 4294967296 * ofZ w32 (w .y)) ∷ (ofZ w32 (w .z) + 4294967296 * w .sx) ∷ (w .sy + 4294967296 * w .sz) ∷ inUseFields (x .«in_use»)))
 
-pub scene-words : (x : Scene) (s : List ℕ) → ofZ w32 (x .window .x) < 4294967296 → ofZ w32 (x .window .z) < 4294967296 → x .window .sy < 4294967296 →
-    withWords s 0 (sceneWords x) ≡ withScene x s
-unfolding withScene
-scene-words x s h i j =
-    let w = x .window in
-    record-same (replicate 21 8) sceneLayout s 0 (sceneWords x) (sceneFields x) refl
-    (λ room. six (withFields (replicate 14 8) s 0 0 (requestFields (x .request) ++ bodyFields (x .body))) (inUseFields (x .«in_use»))
-    (ofZ w32 (w .x)) (ofZ w32 (w .y)) (ofZ w32 (w .z)) (w .sx) (w .sy) (w .sz) (rw length-record room) h i j)
+module _ (x : Scene) (s : List ℕ) (h : ofZ w32 (x .window .x) < 4294967296) (i : ofZ w32 (x .window .z) < 4294967296) (j : x .window .sy < 4294967296) where
+  scene-words : withWords s 0 (sceneWords x) ≡ withScene x s
+  unfolding withScene
+  scene-words =
+      let w = x .window in
+      record-same (replicate 21 8) sceneLayout s 0 (sceneWords x) (sceneFields x) refl
+      (λ room. six (withFields (replicate 14 8) s 0 0 (requestFields (x .request) ++ bodyFields (x .body))) (inUseFields (x .«in_use»))
+      (ofZ w32 (w .x)) (ofZ w32 (w .y)) (ofZ w32 (w .z)) (w .sx) (w .sy) (w .sz) (rw length-record room) h i j)
+
+  pub scene-put : {new words : List ℕ} → words ≡ sceneWords x → new ≡ withWords s 0 words → new ≡ withScene x s
+  scene-put e f = f ∙ ap (withWords s 0) e ∙ scene-words

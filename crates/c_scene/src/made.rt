@@ -16,20 +16,19 @@ fn word(low: u32, high: u32) -> u64
 pub(crate) fn put_scene(x: Scene, made: &mut [u8])
     ensures { λ _. ⌜ now (made .exit) ≡ withScene x (now (made .entry)) ⌝ }
 {
-    let r = x.request;
     let w = x.window;
     let words = [
-        bits_of(r.start.x),
-        bits_of(r.start.y),
-        bits_of(r.start.z),
-        bits_of(r.goal.x),
-        bits_of(r.goal.y),
-        bits_of(r.goal.z),
-        bits_of(r.max_range),
-        bits_of(r.step_height),
-        bits_of(r.jump_height),
-        bits_of(r.max_drop),
-        r.node_budget,
+        bits_of(x.request.start.x),
+        bits_of(x.request.start.y),
+        bits_of(x.request.start.z),
+        bits_of(x.request.goal.x),
+        bits_of(x.request.goal.y),
+        bits_of(x.request.goal.z),
+        bits_of(x.request.max_range),
+        bits_of(x.request.step_height),
+        bits_of(x.request.jump_height),
+        bits_of(x.request.max_drop),
+        x.request.node_budget,
         bits_of(x.body.width),
         bits_of(x.body.height),
         bits_of(x.body.step_height),

@@ -8,7 +8,7 @@ use lib.IntN.{ℤ, pos, negsuc, _+ℤ_, natAbs}
 use lib.Signed.{nonNeg}
 use mir.Syntax.{w32, w64}
 use mir.Val.{Fits, SFits, toZ, ofZ}
-use mir.Facts.{toZ-ofZ}
+use mir.Facts.{toZ-ofZ, sfits-widen}
 
 -- what the code asks of the sum, and what it gives
 pub record Added (z y : ℤ) : Type 0 where
@@ -23,19 +23,18 @@ added (negsuc k) f =
     let b : k < 2147483648 = f .sfits in
     rw (le-ltb 4294967296 (suc k) (omega arith)) (record { fits = record { sfits = omega arith }; natural = tt; small = record { fits = omega arith }; is = omega arith })
 
-wide : (z : ℤ) → SFits w32 z → SFits w64 z
-wide (pos n) f = let b : n < 2147483648 = f .sfits in record { sfits = omega arith }
-wide (negsuc k) f = let b : k < 2147483648 = f .sfits in record { sfits = omega arith }
-
 module _ (z : ℤ) (f : SFits w32 z) where
   here : toZ w32 (ofZ w32 z) ≡ z
   here = toZ-ofZ f
 
+  wide : SFits w64 z
+  wide = sfits-widen {w = w32} {w′ = w64} tt f
+
   there : toZ w64 (ofZ w64 z) ≡ z
-  there = toZ-ofZ (wide z f)
+  there = toZ-ofZ wide
 
   pub cast-fits : SFits w64 (toZ w32 (ofZ w32 z))
-  cast-fits = rw here (wide z f)
+  cast-fits = rw here wide
 
   pub sum-fits : SFits w64 (toZ w64 (ofZ w64 (toZ w32 (ofZ w32 z))) +ℤ pos 4294967296)
   sum-fits = rw (here, there) (added z f .fits)

@@ -21,10 +21,15 @@ pub fn put_waypoint(out: &mut [u8], k: usize, feet: Feet, label: Label)
 pub fn put_node(nodes: &mut [u8], k: usize, r: NodeRecord)
     ensures { λ _. ⌜ PutNode (now (nodes .entry)) k r (now (nodes .exit)) ⌝ }
 {
-    let p = r.feet;
-    let l = r.label;
-    let last = (r.parent as u64) + 4294967296 * (r.closed as u64);
-    let words = [p.x, p.y, p.z, l.lift, l.movement, r.cost, last];
+    let words = [
+        r.feet.x,
+        r.feet.y,
+        r.feet.z,
+        r.label.lift,
+        r.label.movement,
+        r.cost,
+        (r.parent as u64) + 4294967296 * (r.closed as u64),
+    ];
     records::put_record(nodes, k, &words);
 }
 

@@ -9,7 +9,7 @@ use Rattle.writes.proofs.put_node.Tie as tie
 
 returns : tie.Need-returns
 returns c =
-    let a = c .before .before .before .before .before .before .before .before .before .before .args in
+    let a = c .before .before .before .before .before .before .before .before .args in
     let fill : Fill nodeLayout (nodeWords (a .r)) = search needs in
     put-node (now (a .nodes)) (a .k) (a .r) fill (c .before .before .put-record .ensures)
 
