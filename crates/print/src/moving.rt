@@ -48,8 +48,11 @@ pub fn print_scene(bytes: usize) {
     let mut record = [0u8; 64];
     let mut progress = scene::begin(&cells, &perms, &shapes, &boxes);
     let mut left = bytes;
-    let mut count = input::take(left, &mut record);
-    while 0 < count {
+    loop {
+        let count = input::take(left, &mut record);
+        if count == 0 {
+            break;
+        }
         progress = scene::take_record(
             progress,
             &record[..count],
@@ -59,7 +62,6 @@ pub fn print_scene(bytes: usize) {
             &mut boxes,
         );
         left -= count;
-        count = input::take(left, &mut record);
     }
     print_told(scene::end(progress), &cells, &perms, &shapes, &boxes);
 }

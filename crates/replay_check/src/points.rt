@@ -22,7 +22,7 @@ fn is_looked_at(asked: &[u8], n: usize, level: bool) -> bool {
     e.answered(n, level).looked(n)
 }
 
-// Of a column around a point: its first height, the next after the sheet's, and whether the graph looks there.
+// Of a column around a point: its first height, and the next after the sheet's.
 fn column(
     s: Scene,
     cells: &[u8],
@@ -36,9 +36,11 @@ fn column(
     let n = sheet::number(asked, sheet::COLUMN);
     let band = steps::band_of(s.request, s.body, from);
     let at = steps::column_centre(from, n);
+    let w = s.window;
+    let none = Height::None;
     let last = Height::At(fields::f64_at(asked, sheet::AFTER));
-    let first = heights::next_height(s.window, cells, perms, shapes, boxes, band, at.x, at.z, Height::None);
-    let next = heights::next_height(s.window, cells, perms, shapes, boxes, band, at.x, at.z, last);
+    let first = heights::next_height(w, cells, perms, shapes, boxes, band, at.x, at.z, none);
+    let next = heights::next_height(w, cells, perms, shapes, boxes, band, at.x, at.z, last);
     digest::with_height(digest::with_height(d, first), next)
 }
 
@@ -67,7 +69,7 @@ fn pair(
     digest::with_edge(digest::with_edge(f, to), end)
 }
 
-// All of it.
+// All of it, and first whether the graph looks at the column.
 pub(crate) fn answered(
     s: Scene,
     cells: &[u8],

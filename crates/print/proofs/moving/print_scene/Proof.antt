@@ -1,7 +1,5 @@
 -- `print::moving::print_scene` is safe and ends: the tables keep their lengths, and each record leaves fewer bytes. Assumes nothing.
-use native.Mathlib.Omega.{arith}
 use mathlib.Core.Path.{_≡_, sym}
-use Prim.Native.Nat.{_≤_}
 use lib.ListN.{length}
 use lib.Seq.{length-take-le}
 use borrow.Author.Needs.{needs}
@@ -9,11 +7,11 @@ use Rattle.print.proofs.moving.print_scene.Statement.{statement}
 use Rattle.print.proofs.moving.print_scene.Tie as tie
 
 abbrev Inv-loop : tie.InvT-loop
-Inv-loop bytes cells₀ perms₀ shapes₀ boxes₀ record₀ progress₀ left₀ count₀ cells perms shapes boxes «record» progress left count =
-    (length cells ≡ 32768) × (length perms ≡ 256) × (length shapes ≡ 2048) × (length boxes ≡ 12288) × (length «record» ≡ 64) × (count ≤ 64) × (count ≤ left)
+Inv-loop bytes cells₀ perms₀ shapes₀ boxes₀ record₀ progress₀ left₀ cells perms shapes boxes «record» progress left =
+    (length cells ≡ 32768) × (length perms ≡ 256) × (length shapes ≡ 2048) × (length boxes ≡ 12288) × (length «record» ≡ 64)
 
 abbrev μ-loop : tie.MeasureT-loop
-μ-loop bytes cells₀ perms₀ shapes₀ boxes₀ record₀ progress₀ left₀ count₀ cells perms shapes boxes «record» progress left count = left
+μ-loop bytes cells₀ perms₀ shapes₀ boxes₀ record₀ progress₀ left₀ cells perms shapes boxes «record» progress left = left
 
 slice-aggregate-begin : tie.Need-slice-aggregate-begin Inv-loop μ-loop
 slice-aggregate-begin c = search needs
@@ -30,20 +28,20 @@ slice-aggregate-begin-4 c = search needs
 begin-requires : tie.Need-begin-requires Inv-loop μ-loop
 begin-requires c κs = search needs
 
+loop-holds : tie.Need-loop-holds Inv-loop μ-loop
+loop-holds c = search needs
+
 slice-aggregate-take : tie.Need-slice-aggregate-take Inv-loop μ-loop
 slice-aggregate-take c = search needs
 
 take-requires : tie.Need-take-requires Inv-loop μ-loop
 take-requires c κs = search needs
 
-loop-holds : tie.Need-loop-holds Inv-loop μ-loop
-loop-holds c = search needs
-
 array-share-prefix-record : tie.Need-array-share-prefix-record Inv-loop μ-loop
 array-share-prefix-record c = search needs
 
 slice-aggregate-take-record : tie.Need-slice-aggregate-take-record Inv-loop μ-loop
-slice-aggregate-take-record c = sym (length-take-le _ _ (omega (arith, c .before .before .loop .inv)))
+slice-aggregate-take-record c = sym (length-take-le _ _ (c .before .before .before .take .ensures .1 .0))
 
 slice-aggregate-take-record-2 : tie.Need-slice-aggregate-take-record-2 Inv-loop μ-loop
 slice-aggregate-take-record-2 c = search needs
@@ -62,12 +60,6 @@ take-record-requires c κs = search needs
 
 sub-left : tie.Need-sub-left Inv-loop μ-loop
 sub-left c = search needs
-
-slice-aggregate-take-2 : tie.Need-slice-aggregate-take-2 Inv-loop μ-loop
-slice-aggregate-take-2 c = search needs
-
-take-requires-2 : tie.Need-take-requires-2 Inv-loop μ-loop
-take-requires-2 c κs = search needs
 
 loop-less : tie.Need-loop-less Inv-loop μ-loop
 loop-less c = search needs
@@ -107,9 +99,9 @@ print-scene-spec =
     slice-aggregate-begin-3
     slice-aggregate-begin-4
     begin-requires
+    loop-holds
     slice-aggregate-take
     take-requires
-    loop-holds
     array-share-prefix-record
     slice-aggregate-take-record
     slice-aggregate-take-record-2
@@ -118,8 +110,6 @@ print-scene-spec =
     slice-aggregate-take-record-5
     take-record-requires
     sub-left
-    slice-aggregate-take-2
-    take-requires-2
     loop-less
     loop-again
     end-requires
