@@ -20,7 +20,7 @@ max c = record { sfits = c .i32-at2 .ok }
 
 -- the first cell: the min's, or 0
 from-is : (c : tie.Joined1) → toZ w64 (c .if1 .first) ≡ cond (ltZ (c .before .before .i32-at .result -ℤ c .before .before .before .before .args .origin) (pos 0)) (pos 0) (c .before .before .i32-at .result -ℤ c .before .before .before .before .args .origin)
-from-is c = 
+from-is c =
     let far = apart-is _ _ (min (c .before .before)) (c .before .before .before .before .fits .origin) in
     ⊎-elim (λ t. rw (rw far at (t .0 .taken)) (ap (toZ w64) (t .1))) (λ e. rw (rw far at (e .0 .left)) (ap (toZ w64) (e .1) ∙ far)) (c .if1 .came)
 

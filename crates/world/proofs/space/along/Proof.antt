@@ -1,5 +1,6 @@
 -- `world::space::along` meets its contract. Assumes nothing.
 -- A signed local holds bits: what the machine reads back from them is the number, since it fits (`origin`, `at`, `size` below).
+use Prim.Native.Nat.{_^_, _<_}
 use borrow.Author.Needs.{needs}
 use native.Mathlib.Omega.{arith}
 use mathlib.Core.Path.{_≡_}
@@ -25,20 +26,23 @@ module _ (s : tie.Start) where
   at : toZ w64 (ofZ w64 (s .args .at)) ≡ s .args .at
   at = toZ-ofZ (s .fits .at)
 
+  few : s .args .size < 2 ^ 32
+  few = s .fits .size .fits
+
   size : toZ w64 (s .args .size) ≡ pos (s .args .size)
-  size = toZ-pos w64 (omega arith)
+  size = toZ-pos w64 (omega (arith, few))
 
   -- the row's end
   finish : toZ w64 (ofZ w64 (toZ w64 (ofZ w64 (toZ w32 (ofZ w32 (s .args .origin)))) +ℤ toZ w64 (s .args .size))) ≡ s .args .origin +ℤ pos (s .args .size)
-  finish = rw (origin, size) (toZ-ofZ (end-fits (s .args .origin) (s .args .at) (s .args .size) (s .fits .origin) (omega arith)))
+  finish = rw (origin, size) (toZ-ofZ (end-fits (s .args .origin) (s .args .at) (s .args .size) (s .fits .origin) few))
 
 -- where the number is inside
 module _ (c : tie.Then1) where
-  in-row : inRow (c .before .args .origin) (c .before .args .at) (c .before .args .size) (c .before .fits .origin) (omega arith) ≡ true
+  in-row : inRow (c .before .args .origin) (c .before .args .at) (c .before .args .size) (c .before .fits .origin) (few (c .before)) ≡ true
   in-row = rw (finish (c .before), at (c .before), origin (c .before)) at (c .if1 .taken)
 
   distance : SFits w64 (c .before .args .at -ℤ c .before .args .origin)
-  distance = far-fits (c .before .args .origin) (c .before .args .at) (c .before .args .size) (c .before .fits .origin) (omega arith) in-row
+  distance = far-fits (c .before .args .origin) (c .before .args .at) (c .before .args .size) (c .before .fits .origin) (few (c .before)) in-row
 
 cast-low : tie.Need-cast-low
 cast-low c = rw (narrow c) (wide c)
@@ -47,7 +51,7 @@ cast-if1 : tie.Need-cast-if1
 cast-if1 c = search needs
 
 add-if1 : tie.Need-add-if1
-add-if1 c = rw (origin c, size c) (end-fits (c .args .origin) (c .args .at) (c .args .size) (c .fits .origin) (omega arith))
+add-if1 c = rw (origin c, size c) (end-fits (c .args .origin) (c .args .at) (c .args .size) (c .fits .origin) (few c))
 
 sub-result : tie.Need-sub-result
 sub-result c = rw (at (c .before), origin (c .before)) (distance c)
@@ -55,17 +59,17 @@ sub-result c = rw (at (c .before), origin (c .before)) (distance c)
 cast-result : tie.Need-cast-result
 cast-result c = let s = c .before in
     rw (at s, origin s, toZ-ofZ (distance c)) (
-      far-natural (s .args .origin) (s .args .at) (s .args .size) (s .fits .origin) (omega arith) (in-row c),
-      far-small (s .args .origin) (s .args .at) (s .args .size) (s .fits .origin) (omega arith) (in-row c),
+      far-natural (s .args .origin) (s .args .at) (s .args .size) (s .fits .origin) (few s) (in-row c),
+      far-small (s .args .origin) (s .args .at) (s .args .size) (s .fits .origin) (few s) (in-row c),
     )
 
 returns : tie.Need-returns
 returns c = let s = c .before in
-    rw (at s, origin s, toZ-ofZ (distance c)) (far-then (s .args .origin) (s .args .at) (s .args .size) (s .fits .origin) (omega arith) (in-row c))
+    rw (at s, origin s, toZ-ofZ (distance c)) (far-then (s .args .origin) (s .args .at) (s .args .size) (s .fits .origin) (few s) (in-row c))
 
 returns-2 : tie.Need-returns-2
 returns-2 c = let s = c .before in
-    far-else (s .args .origin) (s .args .at) (s .args .size) (s .fits .origin) (omega arith)
+    far-else (s .args .origin) (s .args .at) (s .args .size) (s .fits .origin) (few s)
     (rw (finish s, at s, origin s) at (c .if1 .left))
 
 pub along-spec : {M : Type 1} → statement M
