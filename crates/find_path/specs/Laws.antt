@@ -1,13 +1,22 @@
 -- What filling the permission table says of its length, and so of the answer.
 use Prim.Native.Nat.{ℕ}
 use native.Mathlib.Omega.{arith}
-use mathlib.Core.Path.{_≡_, refl}
+use mathlib.Core.Path.{_≡_, refl, ap}
 use mathlib.Core.Bool.{Bool, true, false, cond}
 use mathlib.Core.List.{List}
 use lib.Dec.{eqb}
 use lib.ListN.{length}
-use Rattle.policy.specs.Permission.{filled}
-use Rattle.find_path.specs.FindPath.{unlessBad}
+use Rattle.policy.specs.declared.policy.WalkPolicy.{WalkPolicy}
+use Rattle.policy.specs.Permission.{filled, permissionTable}
+use Rattle.world.specs.declared.Point.{Point}
+use Rattle.world.specs.declared.Body.{Body}
+use Rattle.world.specs.declared.Request.{Request}
+use Rattle.world.specs.declared.Window.{Window}
+use Rattle.mob_request.specs.Asked.{requestOf}
+use Rattle.search.specs.FindWalkPath.{found, nodesAfter, frontAfter, outAfter}
+use Rattle.outcomes.specs.declared.Answer.{Answer}
+use Rattle.outcomes.specs.declared.Path.the-variants.{Searched, BadTable}
+use Rattle.find_path.specs.FindPath.{unlessBad, path, nodesAfterPath, frontAfterPath, outAfterPath}
 
 -- it is filled where the tables agree in length
 pub agree : (flags perms : List ℕ) → 0 ≡ filled flags perms → eqb (length flags) (length perms) ≡ true
@@ -26,10 +35,33 @@ differ flags perms e = go (eqb (length flags) (length perms)) e
     go false h = refl
 
 module _ {A : Type 0} (flags perms : List ℕ) where
-  pub searched : {z x : A} (y : A) → eqb (length flags) (length perms) ≡ true → z ≡ x → z ≡ unlessBad flags perms x y
+  alike : {z x : A} (y : A) → eqb (length flags) (length perms) ≡ true → z ≡ x → z ≡ unlessBad flags perms x y
   unfolding unlessBad
-  searched y e h = rw e h
+  alike y e h = rw e h
 
-  pub unsearched : {z : A} (x : A) → eqb (length flags) (length perms) ≡ false → z ≡ unlessBad flags perms x z
+  unlike : {z : A} (x : A) → eqb (length flags) (length perms) ≡ false → z ≡ unlessBad flags perms x z
   unfolding unlessBad
-  unsearched x e = rw e
+  unlike x e = rw e
+
+module _ (p : WalkPolicy) (inWater : Bool) (flags : List ℕ) (w : Window) (cells perms shapes boxes : List ℕ) (start goal : Point) (body : Body) (nodes front out : List ℕ) where
+  -- the search with the table as it was filled and the request as it was made
+  pub searched : {table : List ℕ} {r : Request} {a : Answer} {b g x : List ℕ} → eqb (length flags) (length perms) ≡ true
+      → table ≡ permissionTable p inWater flags perms → r ≡ requestOf p start goal body
+      → (a ≡ found w cells table shapes boxes r body (length nodes) (length front) (length out)) × ((b ≡ nodesAfter w cells table shapes boxes r body nodes front out)
+      × ((g ≡ frontAfter w cells table shapes boxes r body nodes front out) × (x ≡ outAfter w cells table shapes boxes r body nodes front out)))
+      → (Searched a ≡ path p inWater flags w cells perms shapes boxes start goal body (length nodes) (length front) (length out))
+      × ((table ≡ permissionTable p inWater flags perms) × ((b ≡ nodesAfterPath p inWater flags w cells perms shapes boxes start goal body nodes front out)
+      × ((g ≡ frontAfterPath p inWater flags w cells perms shapes boxes start goal body nodes front out)
+      × (x ≡ outAfterPath p inWater flags w cells perms shapes boxes start goal body nodes front out))))
+  unfolding path nodesAfterPath frontAfterPath outAfterPath
+  searched e i j s = let h = rw (i, j) at s in
+      (alike flags perms _ e (ap Searched (h .0)), (i, (alike flags perms _ e (h .1 .0), (alike flags perms _ e (h .1 .1 .0), alike flags perms _ e (h .1 .1 .1)))))
+
+  -- nothing but the table is written, and that as its own definition says
+  pub unsearched : {table : List ℕ} → eqb (length flags) (length perms) ≡ false → table ≡ permissionTable p inWater flags perms
+      → (BadTable ≡ path p inWater flags w cells perms shapes boxes start goal body (length nodes) (length front) (length out))
+      × ((table ≡ permissionTable p inWater flags perms) × ((nodes ≡ nodesAfterPath p inWater flags w cells perms shapes boxes start goal body nodes front out)
+      × ((front ≡ frontAfterPath p inWater flags w cells perms shapes boxes start goal body nodes front out)
+      × (out ≡ outAfterPath p inWater flags w cells perms shapes boxes start goal body nodes front out))))
+  unfolding path nodesAfterPath frontAfterPath outAfterPath
+  unsearched e i = (unlike flags perms _ e, (i, (unlike flags perms _ e, (unlike flags perms _ e, unlike flags perms _ e))))

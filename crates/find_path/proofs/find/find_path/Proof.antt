@@ -1,8 +1,5 @@
 -- `find_path::find::find_path` meets its contract. Assumes nothing.
-use mathlib.Core.Path.{ap}
 use denote.Ref.{now}
-use Rattle.outcomes.specs.declared.Path.the-variants.{Searched}
-use Rattle.find_path.specs.FindPath.{path, nodesAfterPath, frontAfterPath, outAfterPath}
 use Rattle.find_path.specs.Laws.{agree, differ, searched, unsearched}
 use borrow.Author.Needs.{needs}
 use Rattle.find_path.proofs.find.find_path.Statement.{statement}
@@ -27,13 +24,11 @@ same-length : tie.Need-same-length
 same-length c = c .before .before .before .before .fill-permissions .kept .1 .1 .1 .0
 
 returns : tie.Need-returns
-unfolding path nodesAfterPath frontAfterPath outAfterPath
 returns c =
+    let a = c .before .before .before .before .before .before .before .before .before .before .before .before .before .before .args in
     let fill = c .before .before .before .before .fill-permissions .ensures in
-    let flags = now (c .before .before .before .before .before .before .before .before .before .before .before .before .before .before .args .flags) in
-    let perms = now (c .before .before .before .before .before .before .before .before .before .before .before .before .before .before .args .perms) in
-    let e = differ flags perms (rw (c .enum-told .given .1) at (fill .0)) in
-    (unsearched flags perms _ e, (fill .1, (unsearched flags perms _ e, (unsearched flags perms _ e, unsearched flags perms _ e))))
+    unsearched (a .policy) (a .in-water) (now (a .flags)) (a .w) (now (a .cells)) (now (a .perms)) (now (a .shapes)) (now (a .boxes)) (a .start) (a .goal) (a .body) (now (a .nodes)) (now (a .front)) (now (a .out))
+        (differ (now (a .flags)) (now (a .perms)) (rw (c .enum-told .given .1) at (fill .0))) (fill .1)
 
 same-length-2 : tie.Need-same-length-2
 same-length-2 c = c .before .before .before .before .before .before .before .before .before .before .before .before .before .before .before .before .fill-permissions .kept .1 .1 .1 .0
@@ -48,14 +43,11 @@ same-length-5 : tie.Need-same-length-5
 same-length-5 c = c .before .before .before .before .before .before .find-walk-path .kept .1 .1 .1 .1 .1 .1 .1 .1 .1 .0
 
 returns-2 : tie.Need-returns-2
-unfolding path nodesAfterPath frontAfterPath outAfterPath
 returns-2 c =
+    let a = c .before .before .before .before .before .before .before .before .before .before .before .before .before .before .before .before .before .before .before .before .before .before .before .before .before .before .args in
     let fill = c .before .before .before .before .before .before .before .before .before .before .before .before .before .before .before .before .fill-permissions .ensures in
-    let flags = now (c .before .before .before .before .before .before .before .before .before .before .before .before .before .before .before .before .before .before .before .before .before .before .before .before .before .before .args .flags) in
-    let perms = now (c .before .before .before .before .before .before .before .before .before .before .before .before .before .before .before .before .before .before .before .before .before .before .before .before .before .before .args .perms) in
-    let e = agree flags perms (rw (c .before .before .before .before .before .before .before .before .before .before .before .before .enum-told2 .given .1) at (fill .0)) in
-    let s = rw (fill .1, c .before .before .before .before .before .before .before .before .before .before .before .request-of .ensures) at (c .before .before .before .before .before .before .find-walk-path .ensures) in
-    (searched flags perms _ e (ap Searched (s .0)), (fill .1, (searched flags perms _ e (s .1 .0), (searched flags perms _ e (s .1 .1 .0), searched flags perms _ e (s .1 .1 .1)))))
+    searched (a .policy) (a .in-water) (now (a .flags)) (a .w) (now (a .cells)) (now (a .perms)) (now (a .shapes)) (now (a .boxes)) (a .start) (a .goal) (a .body) (now (a .nodes)) (now (a .front)) (now (a .out))
+        (agree (now (a .flags)) (now (a .perms)) (rw (c .before .before .before .before .before .before .before .before .before .before .before .before .enum-told2 .given .1) at (fill .0))) (fill .1) (c .before .before .before .before .before .before .before .before .before .before .before .request-of .ensures) (c .before .before .before .before .before .before .find-walk-path .ensures)
 
 pub find-path-spec : {M : Type 1} → statement M
 find-path-spec =
