@@ -53,30 +53,10 @@ shape-is c s {n} e g = rw (room-is (eqb (n + 1) (c .shapes)) (ltb (c .last) 16),
 
 -- ---- by a kind's number
 
-module _ {A : Type 0} (k : ℕ) (a b c d e f : A) where
-  pub kind-1 : k ≡ 1 → byKind k a b c d e f ≡ a
-  unfolding byKind
-  kind-1 h = rw h
-
-  pub kind-2 : k ≡ 2 → byKind k a b c d e f ≡ b
-  unfolding byKind
-  kind-2 h = rw h
-
-  pub kind-3 : k ≡ 3 → byKind k a b c d e f ≡ c
-  unfolding byKind
-  kind-3 h = rw h
-
-  pub kind-4 : k ≡ 4 → byKind k a b c d e f ≡ d
-  unfolding byKind
-  kind-4 h = rw h
-
-  pub kind-5 : k ≡ 5 → byKind k a b c d e f ≡ e
-  unfolding byKind
-  kind-5 h = rw h
-
-  pub kind-6 : (k ≡ 1 → ⊥) → (k ≡ 2 → ⊥) → (k ≡ 3 → ⊥) → (k ≡ 4 → ⊥) → (k ≡ 5 → ⊥) → byKind k a b c d e f ≡ f
-  unfolding byKind
-  kind-6 h₁ h₂ h₃ h₄ h₅ = rw (ne-eqb k 1 h₁, ne-eqb k 2 h₂, ne-eqb k 3 h₃, ne-eqb k 4 h₄, ne-eqb k 5 h₅)
+-- none of the first five
+pub kind-6 : {A : Type 0} (k : ℕ) (a b c d e f : A) → (k ≡ 1 → ⊥) → (k ≡ 2 → ⊥) → (k ≡ 3 → ⊥) → (k ≡ 4 → ⊥) → (k ≡ 5 → ⊥) → byKind k a b c d e f ≡ f
+unfolding byKind
+kind-6 k a b c d e f h₁ h₂ h₃ h₄ h₅ = rw (ne-eqb k 1 h₁, ne-eqb k 2 h₂, ne-eqb k 3 h₃, ne-eqb k 4 h₄, ne-eqb k 5 h₅)
 
 -- the kinds that have no rule but n, and those behind 6
 pub kind-rest : {A : Type 0} (k : ℕ) (a b c d e : A) → (k ≡ 1 → ⊥) → (k ≡ 3 → ⊥) → (k ≡ 4 → ⊥) → (k ≡ 5 → ⊥) → byKind k a b c d e b ≡ b

@@ -1,7 +1,7 @@
 -- What a good record says, taken apart: what it allows to be counted, so that no sum of the reader wraps, and what it keeps of the tables' rules.
 use Prim.Native.Nat.{ℕ, _+_, _≤_}
 use native.Mathlib.Omega.{arith}
-use mathlib.Core.Path.{_≡_, refl, sym, _∙_}
+use mathlib.Core.Path.{_≡_, refl}
 use mathlib.Core.Bool.{Bool, true, false, not, _&&_, cond}
 use mathlib.Core.List.{List}
 use borrow.Author.Tests.{leb-true, ltb-true, ltb-false, eqb-true, not-true}
@@ -12,9 +12,8 @@ use Rattle.world.specs.declared.Request.{Request}
 use Rattle.world.specs.declared.Body.{Body}
 use Rattle.world.specs.declared.Window.{Window}
 use Rattle.scene_rules.specs.declared.Counts.{Counts}
-use Rattle.scene_records.specs.Layout.{kindOf, numberOf, threeZeros, zeros, unusedFrom, windowOf, cellCount, boxOf, permissionOf}
+use Rattle.scene_records.specs.Layout.{byKind, kindOf, numberOf, threeZeros, zeros, unusedFrom, windowOf, cellCount, boxOf, permissionOf}
 use Rattle.scene_rules.specs.Rules.{inOrder, roomInShape, shapeRule, stateRule, windowRule, rule, good}
-use Rattle.scene_rules.specs.Laws.{kind-3, kind-4, kind-5}
 use Rattle.scene_state.specs.declared.state.Reading.{Reading}
 use Rattle.scene_state.specs.Answers.{given, refused}
 use Rattle.scene_step.specs.Next.{requestAfter, bodyAfter, windowAfter, countAfter, withBoxCounted, countsAfter, nextNumber, next, goodIn, step, ShapeFits, Allowed}
@@ -36,8 +35,8 @@ module _ (last : ℕ) (c : Counts) (s : List ℕ) (g : good last c s ≡ true) w
   -- what kind 4 says
   module _ (k : kindOf s ≡ 4) where
     by-shape : shapeRule c s ≡ true
-    unfolding rule
-    by-shape = sym (kind-4 (kindOf s) _ _ _ _ _ _ k) ∙ ruled
+    unfolding rule byKind
+    by-shape = rw k at ruled
 
     all-but-box : leb (numberOf s) 255 && leb (c .shapes) (numberOf s + 1) && roomInShape c (numberOf s) && ltb (c .boxes) 256 ≡ true
     unfolding shapeRule
@@ -66,8 +65,8 @@ module _ (last : ℕ) (c : Counts) (s : List ℕ) (g : good last c s ≡ true) w
   -- what kind 3 says
   module _ (k : kindOf s ≡ 3) where
     by-window : windowRule s ≡ true
-    unfolding rule
-    by-window = sym (kind-3 (kindOf s) _ _ _ _ _ _ k) ∙ ruled
+    unfolding rule byKind
+    by-window = rw k at ruled
 
     pub no-size-above : sizeAbove (windowOf s) ≡ false
     unfolding windowRule
@@ -94,9 +93,9 @@ module _ (last : ℕ) (c : Counts) (s : List ℕ) (g : good last c s ≡ true) w
       go false p e = ltb-false last 3 p
 
   stated : kindOf s ≡ 5 → numberOf s ≤ 255
-  unfolding rule stateRule
+  unfolding rule byKind stateRule
   stated k =
-      let all : stateRule c s ≡ true = sym (kind-5 (kindOf s) _ _ _ _ _ _ k) ∙ ruled in
+      let all : stateRule c s ≡ true = rw k at ruled in
       let second = left-true (eqb (numberOf s) (c .states) && leb (numberOf s) 255) (leb (permissionOf s) 7) all in
       leb-true (numberOf s) 255 (right-true (eqb (numberOf s) (c .states)) (leb (numberOf s) 255) second)
 

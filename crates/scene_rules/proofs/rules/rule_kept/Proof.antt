@@ -3,8 +3,8 @@ use lib.Dec.{eqb, leb}
 use mathlib.Core.Bool.{not, _&&_}
 use mathlib.Core.Path.{ap, sym, _∙_}
 use Rattle.tables.specs.BadWorld.{sizeAbove}
-use Rattle.scene_records.specs.Layout.{cellCount}
-use Rattle.scene_rules.specs.Laws.{kind-1, kind-3, kind-4, kind-5, kind-rest}
+use Rattle.scene_records.specs.Layout.{byKind, cellCount}
+use Rattle.scene_rules.specs.Laws.{kind-rest}
 use Rattle.scene_rules.specs.Rules.{windowRule, stateRule, rule}
 use Rattle.scene_rules.proofs.rules.rule_kept.Statement.{statement}
 use Rattle.scene_rules.proofs.rules.rule_kept.Tie as tie
@@ -28,25 +28,25 @@ byte-at-requires : tie.Need-byte-at-requires
 byte-at-requires c κs = tt
 
 returns : tie.Need-returns
-unfolding rule
-returns c = rw (c .before .number-of .ensures) (sym (kind-1 _ _ _ _ _ _ _ (c .match .keys1)))
+unfolding rule byKind
+returns c = rw (c .before .number-of .ensures, c .match .keys1)
 
 returns-2 : tie.Need-returns-2
-unfolding rule windowRule
+unfolding rule windowRule byKind
 returns-2 c =
     let above = c .before .size-above .ensures ∙ ap sizeAbove (c .before .before .window-at .ensures) in
     let cells = c .cell-count .ensures ∙ ap cellCount (c .before .before .window-at .ensures) in
-    (λ i. eqb (c .before .before .before .before .number-of .ensures i) 0 && not (above i) && leb (cells i) 4096) ∙ sym (kind-3 _ _ _ _ _ _ _ (c .before .before .before .match .keys2))
+    rw (c .before .before .before .match .keys2) (λ i. eqb (c .before .before .before .before .number-of .ensures i) 0 && not (above i) && leb (cells i) 4096)
 
 returns-3 : tie.Need-returns-3
-unfolding rule
-returns-3 c = c .shape-good .ensures ∙ sym (kind-4 _ _ _ _ _ _ _ (c .before .match .keys3))
+unfolding rule byKind
+returns-3 c = rw (c .before .match .keys3) (c .shape-good .ensures)
 
 returns-4 : tie.Need-returns-4
-unfolding rule stateRule
+unfolding rule stateRule byKind
 returns-4 c =
     let n = c .before .before .before .number-of .ensures in
-    (λ i. eqb (n i) (c .before .before .before .before .before .args .counts .states) && leb (n i) 255 && leb (c .before .byte-at .ensures i) 7) ∙ sym (kind-5 _ _ _ _ _ _ _ (c .before .before .match .keys4))
+    rw (c .before .before .match .keys4) (λ i. eqb (n i) (c .before .before .before .before .before .args .counts .states) && leb (n i) 255 && leb (c .before .byte-at .ensures i) 7)
 
 returns-5 : tie.Need-returns-5
 unfolding rule

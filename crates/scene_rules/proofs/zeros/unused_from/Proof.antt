@@ -1,29 +1,29 @@
 -- `scene_rules::zeros::unused_from` meets its contract. Assumes nothing.
-use Rattle.scene_rules.specs.Laws.{kind-1, kind-2, kind-3, kind-4, kind-5, kind-6}
-use Rattle.scene_records.specs.Layout.{unusedFrom}
+use Rattle.scene_rules.specs.Laws.{kind-6}
+use Rattle.scene_records.specs.Layout.{byKind, unusedFrom}
 use mathlib.Core.Path.{sym}
 use Rattle.scene_rules.proofs.zeros.unused_from.Statement.{statement}
 use Rattle.scene_rules.proofs.zeros.unused_from.Tie as tie
 
 returns : tie.Need-returns
-unfolding unusedFrom
-returns c = sym (kind-1 _ _ _ _ _ _ _ (c .match .keys1))
+unfolding unusedFrom byKind
+returns c = rw (c .match .keys1)
 
 returns-2 : tie.Need-returns-2
-unfolding unusedFrom
-returns-2 c = sym (kind-2 _ _ _ _ _ _ _ (c .match .keys2))
+unfolding unusedFrom byKind
+returns-2 c = rw (c .match .keys2)
 
 returns-3 : tie.Need-returns-3
-unfolding unusedFrom
-returns-3 c = sym (kind-3 _ _ _ _ _ _ _ (c .match .keys3))
+unfolding unusedFrom byKind
+returns-3 c = rw (c .match .keys3)
 
 returns-4 : tie.Need-returns-4
-unfolding unusedFrom
-returns-4 c = sym (kind-4 _ _ _ _ _ _ _ (c .match .keys4))
+unfolding unusedFrom byKind
+returns-4 c = rw (c .match .keys4)
 
 returns-5 : tie.Need-returns-5
-unfolding unusedFrom
-returns-5 c = sym (kind-5 _ _ _ _ _ _ _ (c .match .keys5))
+unfolding unusedFrom byKind
+returns-5 c = rw (c .match .keys5)
 
 returns-6 : tie.Need-returns-6
 unfolding unusedFrom
