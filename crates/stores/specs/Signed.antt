@@ -1,5 +1,5 @@
 -- The 32 bits of an i32, as the code works them out: what is left of the number and 2^32, divided by 2^32.
-use Prim.Native.Nat.{ℕ, suc, _%_, _<_}
+use Prim.Native.Nat.{suc, _%_, _<_}
 use native.Mathlib.Omega.{arith}
 use mathlib.Core.Path.{_≡_}
 use borrow.Author.Tests.{le-ltb}
