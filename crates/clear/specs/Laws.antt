@@ -2,9 +2,10 @@
 use Prim.Native.Nat.{ℕ, _+_, _-_, _*_, _<_}
 use native.Mathlib.Omega.{arith}
 use mathlib.Core.Path.{_≡_, refl, sym}
-use mathlib.Core.Bool.{Bool, true, false, not, _&&_, _||_}
+use mathlib.Core.Bool.{Bool, true, false, not, _&&_, _||_, true≢false}
 use mathlib.Core.List.{List, _∷_, map}
-use lib.Dec.{ltb}
+use borrow.Author.Tests.{eqb-true}
+use lib.Dec.{ltb, eqb}
 use lib.ListN.{drop}
 use Rattle.regions.specs.declared.Region.{Region}
 use Rattle.regions.specs.declared.Spot.{Spot}
@@ -63,6 +64,16 @@ passed : (may met rest : Bool) → (met && not may) ≡ false → ((may || not m
 passed true met rest e = refl
 passed false false rest e = refl
 passed false true rest e = cc
+
+module _ (area : Aabb) (p : Point) (boxes : List ℕ) (may support : Bool) (first many : ℕ) where
+  -- where a body may be in the cell and it has no box
+  pub air : (may && eqb many 0) ≡ true → free area p (blockOf boxes (Known may support first many) p) ≡ true
+  unfolding free blockOf hits
+  air t = go may t
+    where
+      go : (may : Bool) → (may && eqb many 0) ≡ true → free area p (blockOf boxes (Known may support first many) p) ≡ true
+      go true t = let z : many ≡ 0 = eqb-true many 0 t in rw (z, boxes-none (drop (48 * first) boxes) 0)
+      go false t = absurd (true≢false (sym t))
 
 module _ (area : Aabb) (p : Point) (boxes : List ℕ) {met : Bool} (e : meets (voxel p) area ≡ met) where
   pub unknown : {hit : Bool} → meets (moved cube p) area ≡ hit → not (met || hit) ≡ free area p (blockOf boxes Unknown p)

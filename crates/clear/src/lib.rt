@@ -31,7 +31,7 @@ fn run_hits(part: &[u8], boxes: u32, by: Point, area: Aabb) -> bool
     hit
 }
 
-// Whether a cell is free for an area.
+// Whether a cell is free for an area. Of air, as most cells are, nothing is worked out.
 fn cell_free(
     w: Window,
     cells: &[u8],
@@ -45,17 +45,23 @@ fn cell_free(
 ) -> bool
     ensures { λ r. ⌜ r ≡ free area (corner x y z) (space w (now (cells .entry)) (now (perms .entry)) (now (shapes .entry)) (now (boxes .entry)) x y z) ⌝ }
 {
-    let p = points::corner_of(x, y, z);
-    let meets = boxes::intersects(boxes::voxel_at(p), area);
     match world::cell_at(w, cells, perms, shapes, x, y, z) {
-        Cell::Unknown => !(meets | boxes::intersects(boxes::offset(boxes::unit(), p), area)),
+        Cell::Unknown => {
+            let p = points::corner_of(x, y, z);
+            let meets = boxes::intersects(boxes::voxel_at(p), area);
+            !(meets | boxes::intersects(boxes::offset(boxes::unit(), p), area))
+        }
         Cell::Known {
             occupied,
             support: _,
             first,
             count,
         } => {
-            if meets & !occupied {
+            if occupied & (count == 0) {
+                return true;
+            }
+            let p = points::corner_of(x, y, z);
+            if boxes::intersects(boxes::voxel_at(p), area) & !occupied {
                 return false;
             }
             !run_hits(world::boxes_from(boxes, first), count, p, area)

@@ -1,9 +1,11 @@
 -- Laws that the code's loops and branches go by.
 use Prim.Native.Nat.{ℕ, _+_, _-_, _*_, _≤_, _<_}
 use native.Mathlib.Omega.{arith}
-use mathlib.Core.Path.{_≡_, refl}
-use mathlib.Core.Bool.{Bool, true, false, not, _&&_, cond}
+use mathlib.Core.Path.{_≡_, refl, sym}
+use mathlib.Core.Bool.{Bool, true, false, not, _&&_, cond, true≢false}
 use mathlib.Core.List.{List, [], _∷_, map}
+use borrow.Author.Tests.{ltb-false}
+use lib.Dec.{ltb}
 use lib.ListN.{drop}
 use lib.Ieee.{Float, binary64, le, add, sub, isNan}
 use Rattle.floats.specs.Floats.{E}
@@ -82,14 +84,17 @@ module _ (band : Band) (x z : Float) (after : Height) where
     unfolding topsIn blockOf
     unknown-none = refl
 
-    pub no-support : (o s : Bool) (first many : ℕ) → s ≡ false → pass after best (topsIn band x z (blockOf boxes (Known o s first many) p)) ≡ best
-    unfolding topsIn blockOf
-    no-support o s first many e = rw e
+    -- no support, or no box
+    pub no-support : (o s : Bool) (first many : ℕ) → (s && ltb 0 many) ≡ false → pass after best (topsIn band x z (blockOf boxes (Known o s first many) p)) ≡ best
+    unfolding topsIn blockOf topsOf
+    no-support o false first many e = refl
+    no-support o true first many e = let z : many ≡ 0 = omega (arith, ltb-false 0 many e) in rw (z, boxes-none (drop (48 * first) boxes) 0)
 
-    pub supports : (o s : Bool) (first many : ℕ) → s ≡ true →
+    pub supports : (o s : Bool) (first many : ℕ) → (s && ltb 0 many) ≡ true →
         pass after best (topsIn band x z (blockOf boxes (Known o s first many) p)) ≡ runPass p best (drop (48 * first) boxes) many 0
     unfolding topsIn blockOf
-    supports o s first many e = rw e
+    supports o true first many e = refl
+    supports o false first many e = absurd (true≢false (sym e))
 
 -- ---- a top that is in the band is no NaN
 

@@ -92,7 +92,7 @@ fn run_next(
     least
 }
 
-// The best of a cell of the column.
+// The best of a cell of the column. Of air, as most cells are, nothing is worked out.
 fn cell_next(
     w: Window,
     cells: &[u8],
@@ -118,7 +118,7 @@ fn cell_next(
             first,
             count,
         } => {
-            if support {
+            if support & (0 < count) {
                 let by = points::corner_of(cx, y, cz);
                 let part = world::boxes_from(boxes, first);
                 run_next(part, count, by, band, x, z, after, best)

@@ -13,7 +13,7 @@ use lib.ListN.{length, replicate}
 use types.Run.{OneOf}
 use Rattle.world.specs.Space.{space}
 use Rattle.fields.specs.Pieces.{Bytes}
-use Rattle.bounds.specs.Bounds.{steps-bounded}
+use Rattle.steps.specs.Bounds.{steps-bounded}
 use Rattle.refusals.specs.Refusals.{told}
 use Rattle.refusals.specs.Laws.{Begun, begins}
 use Rattle.outcomes.proofs.Turn.{the-type}

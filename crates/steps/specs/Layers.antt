@@ -23,13 +23,12 @@ use Rattle.world.specs.declared.Cell.the-variants.{Unknown, Known}
 use Rattle.world.specs.declared.Found.{Found}
 use Rattle.world.specs.declared.Found.the-variants.{Here, End}
 use Rattle.world.specs.Boxes.{moved, corner}
-use Rattle.world.specs.Space.{Space, Place, At, Out, place, onward, recordOf, entryAt, collides, ofParts, knownBy, known, cellIn, cellAt}
-use Rattle.world.specs.Space.{ahead, boxHere, run, blockOf, space}
+use Rattle.world.specs.Space.{Space, Place, At, Out, place, onward, recordOf, entryAt, collides, ofParts, knownBy, known, cellIn, cellAt, ahead, boxHere, run, blockOf, space}
 use Rattle.world.specs.Laws.{entry-is}
 use Rattle.tables.specs.Good.{GoodWorld}
 use Rattle.heights.specs.declared.Band.{Band}
 use Rattle.heights.specs.Heights.{reaches, topsOf, topsIn, tops}
-use Rattle.bounds.specs.Gathers.{gather-within}
+use Rattle.steps.specs.Gathers.{gather-within}
 
 -- ---- the tops of a cell: at most as many as it has boxes
 

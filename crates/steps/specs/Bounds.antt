@@ -19,11 +19,11 @@ use Rattle.heights.specs.Heights.{tops, insert, sorted, within, thinnedAfter, t
 use Rattle.moves.specs.declared.answer.EdgeAnswer.{EdgeAnswer}
 use Rattle.moves.specs.declared.answer.EdgeAnswer.the-variants.{To, Nowhere}
 use Rattle.edges.specs.Edges.{edge}
 use Rattle.steps.specs.declared.columns.Centre.{Centre}
 use Rattle.sides.specs.Sides.{lookedBy}
 use Rattle.steps.specs.Columns.{centreOf, bandOf, target, ahead, edgesAt, columnSteps, sides, columnIf, stepsFrom}
-use Rattle.bounds.specs.Gathers.{gather-each}
-use Rattle.bounds.specs.Layers.{column-tops}
+use Rattle.steps.specs.Gathers.{gather-each}
+use Rattle.steps.specs.Layers.{column-tops}
 
 -- ---- the heights are no more than the tops
 

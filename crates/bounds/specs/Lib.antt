@@ -1,3 +1,0 @@
-pub mod Gathers
-pub mod Layers
-pub mod Bounds
