@@ -5,6 +5,7 @@
 mod call;
 mod counts;
 mod differ;
+mod edges;
 mod edits;
 mod expected;
 mod large;
@@ -14,6 +15,7 @@ mod reader;
 mod room;
 mod runner;
 mod scenes;
+mod short;
 mod sweeps;
 mod tables;
 mod walkback;
@@ -33,6 +35,8 @@ driver sweeps FROM COUNT [THREADS]
 driver read FROM COUNT [THREADS]
 driver policy FROM COUNT [THREADS]
 driver numbers FROM COUNT [THREADS]
+driver edges FROM COUNT [THREADS]
+driver short FROM COUNT [THREADS]
 ";
 
 fn main() -> ExitCode {
@@ -66,6 +70,8 @@ fn command(arguments: &[String]) -> Result<bool, String> {
         "read" => reader::one_scene,
         "policy" => policy::one_scene,
         "numbers" => numbers::one_of_each,
+        "edges" => edges::one_scene,
+        "short" => short::one_scene,
         _ => return Err(USAGE.to_string()),
     };
     let numbers = Numbers {
