@@ -22,7 +22,11 @@ pub fn one_scene(makers: &Makers, number: u64, counts: &mut Counts) -> Result<()
     let cut = chance.below(4);
     let left: Left = std::array::from_fn(|record| {
         let at = chance.below(whole[record] + 1);
-        if cut == record || cut == 3 { at } else { whole[record] }
+        if cut == record || cut == 3 {
+            at
+        } else {
+            whole[record]
+        }
     });
     match parts(&records, left, number) {
         None => counts.add("no scenes", 1),
@@ -55,7 +59,10 @@ fn parts(records: &[Record], left: Left, seed: u64) -> Option<Result<Expected, S
         body: &body[..left[2]],
     };
     let same = compare(&must, sizes, seed, |lent| raw::find_walk_path(&asked, lent));
-    Some(same.map(|()| must).map_err(|parts| format!("records of {left:?} bytes: {parts}")))
+    Some(
+        same.map(|()| must)
+            .map_err(|parts| format!("records of {left:?} bytes: {parts}")),
+    )
 }
 
 /// The fields of so many bytes each that fit whole, then zeros.
