@@ -11,7 +11,7 @@ use lib.Ieee.{Float, nan, inf, fin, up, down, lt, le, eq, isNan, below, level}
 use lib.Ieee.Fits.{down-pos}
 use lib.Ieee.Positive.{through}
 
-false-true : {X : Type 0} → false ≡ true → X
+pub false-true : {X : Type 0} → false ≡ true → X
 false-true e = absurd (subst T (sym e) tt)
 
 -- ---- comparing sizes

@@ -2,7 +2,7 @@
 use Prim.Native.Nat.{ℕ, _+_, _-_, _*_, _≤_}
 use native.Mathlib.Nat.{add-mul, zero-mul, mul-assoc, mul-left-comm, mul-le-mul-right, mul-pos}
 use native.Mathlib.Omega.{arith}
-use mathlib.Core.Path.{_≡_, refl, sym, _∙_, subst}
+use mathlib.Core.Path.{_≡_, refl, sym, _∙_}
 use mathlib.Core.Bool.{Bool, true, false, cond}
 use borrow.Author.Tests.{leb-true, ltb-false}
 use lib.Dec.{T, ltb}
@@ -11,10 +11,7 @@ use lib.Ieee.{Float, nan, inf, fin, binary64, isNan, lt, le, eq, up, down, add, 
 use lib.Ieee.Fits.{down-pos}
 use lib.Ieee.Order.{round-mono}
 use Rattle.floats.specs.Floats.{E, nought}
-use Rattle.floats.specs.Order.{le-fin, le-left, le-trans, top-end}
-
-no : {X : Type 0} → false ≡ true → X
-no e = absurd (subst T (sym e) tt)
+use Rattle.floats.specs.Order.{false-true, le-fin, le-left, le-trans, top-end}
 
 yes : (b : Bool) → T b → b ≡ true
 yes true t = refl
@@ -69,14 +66,14 @@ module _ (n : ℕ) (d : ℤ) where
 
   pub sum-grows : (x y : Float) → le nought x ≡ true → le x y ≡ true → le (with x) (with y) ≡ true
   unfolding le lt eq ofBits add
-  sum-grows nan y h k = no h
-  sum-grows (inf true) y h k = no h
-  sum-grows (inf false) nan h k = no k
-  sum-grows (inf false) (inf true) h k = no k
+  sum-grows nan y h k = false-true h
+  sum-grows (inf true) y h k = false-true h
+  sum-grows (inf false) nan h k = false-true k
+  sum-grows (inf false) (inf true) h k = false-true k
   sum-grows (inf false) (inf false) h k = refl
-  sum-grows (inf false) (fin t l f) h k = no k
-  sum-grows (fin s m e) nan h k = no k
-  sum-grows (fin s m e) (inf true) h k = no k
+  sum-grows (inf false) (fin t l f) h k = false-true k
+  sum-grows (fin s m e) nan h k = false-true k
+  sum-grows (fin s m e) (inf true) h k = false-true k
   sum-grows (fin s m e) (inf false) h k = top-end (with (fin s m e)) (number s m e h)
   sum-grows (fin s m e) (fin t l f) h k =
       rw (sum-is s m e h, sum-is t l f (le-trans nought (fin s m e) (fin t l f) h k)) (rounds-in-order m l e f (sized s t m l e f h k))

@@ -1,7 +1,6 @@
 // The fields of a scene record (01, "Scenes and walkprint").
 ghost use mathlib.Core.Path.{_≡_};
 ghost use lib.ListN.{getD};
-ghost use Rattle.tables.specs.BadWorld.{sizeAbove};
 ghost use Rattle.scene_records.specs.Layout.{numberOf, bodyAt, windowAt, cellCount};
 use world::Body;
 use world::Window;
@@ -47,18 +46,11 @@ pub fn window_at(bytes: &[u8], at: u32) -> Window
     }
 }
 
-// Whether a size is above 256.
-pub fn size_above(w: Window) -> bool
-    ensures { λ r. ⌜ r ≡ sizeAbove w ⌝ }
-{
-    (256 < w.sx) | (256 < w.sy) | (256 < w.sz)
-}
-
 // How many cells a window has; one with a size above 256 has none.
 pub fn cell_count(w: Window) -> u32
     ensures { λ r. ⌜ r ≡ cellCount w ⌝ }
 {
-    if size_above(w) {
+    if tables::size_above(w) {
         0
     } else {
         w.sx * w.sy * w.sz

@@ -5,5 +5,4 @@ pub use layout::body_at;
 pub use layout::byte_at;
 pub use layout::cell_count;
 pub use layout::number_of;
-pub use layout::size_above;
 pub use layout::window_at;

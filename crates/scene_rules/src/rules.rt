@@ -7,8 +7,8 @@ use crate::zeros;
 use scene_records::byte_at;
 use scene_records::cell_count;
 use scene_records::number_of;
-use scene_records::size_above;
 use scene_records::window_at;
+use tables::size_above;
 use world::Aabb;
 use world::point_at;
 

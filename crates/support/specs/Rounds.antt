@@ -2,23 +2,19 @@
 -- more rounds grow than there are intervals.
 use Prim.Native.Nat.{ℕ, zero, suc, _≤_, _<_}
 use native.Mathlib.Omega.{arith}
-use mathlib.Core.Path.{_≡_, refl, sym, ap, _∙_, subst}
+use mathlib.Core.Path.{_≡_, refl, sym, ap, _∙_}
 use mathlib.Core.Bool.{Bool, true, false, cond}
 use mathlib.Core.Logic.{_⊎_, inl, inr}
 use mathlib.Core.List.{List, [], _∷_, List·Memᴰ, List·Memᴰ·head, List·Memᴰ·tail}
-use lib.Dec.{T}
 use lib.ListN.{length}
 use lib.Ieee.{Float, lt}
 use Rattle.floats.specs.Floats.{nought, larger}
-use Rattle.floats.specs.Order.{lt-trans, lt-irrefl, le-trans, lt-le}
+use Rattle.floats.specs.Order.{false-true, lt-trans, lt-irrefl, le-trans, lt-le}
 use Rattle.support.specs.declared.Interval.{Interval}
 use Rattle.support.specs.Cover.{joins, enough, reachOne, round, rounds, covers}
 
-no : {X : Type 0} → false ≡ true → X
-no e = absurd (subst T (sym e) tt)
-
 pub never : {X : Type 0} (c : Float) → lt c c ≡ true → X
-never c h = no (sym (lt-irrefl c) ∙ h)
+never c h = false-true (sym (lt-irrefl c) ∙ h)
 
 -- ---- one interval
 
@@ -60,7 +56,7 @@ module _ (c d : Float) (h : lt c d ≡ true) where
       go : beyond d is ≤ beyond c is → (s : Bool) → lt d (i .end) ≡ s → (t : Bool) → lt c (i .end) ≡ t →
           cond s (suc (beyond d is)) (beyond d is) ≤ cond t (suc (beyond c is)) (beyond c is)
       go k true p true q = omega arith
-      go k true p false q = no (sym q ∙ lt-trans c d (i .end) h p)
+      go k true p false q = false-true (sym q ∙ lt-trans c d (i .end) h p)
       go k false p true q = omega arith
       go k false p false q = k
 
@@ -74,7 +70,7 @@ module _ (c d : Float) (h : lt c d ≡ true) where
       go : beyond d is < beyond c is → (s : Bool) → lt d (j .end) ≡ s → (t : Bool) → lt c (j .end) ≡ t →
           cond s (suc (beyond d is)) (beyond d is) < cond t (suc (beyond c is)) (beyond c is)
       go k true p true r = omega arith
-      go k true p false r = no (sym r ∙ lt-trans c d (j .end) h p)
+      go k true p false r = false-true (sym r ∙ lt-trans c d (j .end) h p)
       go k false p true r = omega arith
       go k false p false r = k
 
@@ -183,7 +179,7 @@ module _ (is : List Interval) where
     where
       go : Turned c is (round c is) → enough (limit c) ≡ false
       go (inl e) = rw (settled c e (beyond c is)) (rw e at h)
-      go (inr g) = no (sym k ∙ g .0)
+      go (inr g) = false-true (sym k ∙ g .0)
 
   pub ends-enough : (c : Float) → enough (round c is) ≡ true → enough (limit c) ≡ true
   ends-enough c h = go (turned c is)

@@ -35,7 +35,7 @@ pub fn box_good(b: Aabb) -> bool
 }
 
 // Whether a size of the window is above 256.
-fn size_above(w: Window) -> bool
+pub fn size_above(w: Window) -> bool
     ensures { λ r. ⌜ r ≡ sizeAbove w ⌝ }
 {
     (256 < w.sx) | (256 < w.sy) | (256 < w.sz)
