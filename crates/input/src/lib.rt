@@ -1,4 +1,4 @@
-// Standard input, piece by piece. What comes in no contract can say; how much, `take` says.
+// Standard input, piece by piece (01, "walkprint reads a scene on standard input"), for `print` and the programs of the gate. What comes in no contract can say; how much, `take` says.
 ghost use Prim.Native.Nat.{_≤_};
 ghost use Rattle.io.specs.Counts.{Counts};
 use libc::STDIN_FILENO;

@@ -1,4 +1,4 @@
-// Roots, distances, floors, ceilings, policies and jumps against stored answers: a line a record of standard input, with a digest of all that the record asks
+// Roots, distances, floors, ceilings, policies and jumps (01, Numbers, Policy) against stored answers: a line a record of standard input, with a digest of all that the record asks
 // for. Rust's own arithmetic and the original say what it must print (oracle/README.md, `store`).
 mod digest;
 mod jumps;

@@ -43,7 +43,7 @@ listIn explore.Unreachable = []
 listIn explore.BudgetExceeded = []
 listIn explore.Searching = []
 
--- the answer where no search began: "retained and closed nodes (0 if no search began)", "On 1 to 5 .. its count is 0"
+-- the answer where no search began: "retained nodes, closed nodes (0 if no search began)", "On 1 to 5 .. its count is 0"
 abbrev pub unsearched : Outcome → Answer
 unsearched o = record { outcome = o; count = 0; retained = 0; closed = 0 }
 

@@ -33,6 +33,6 @@ permission p inWater f = cond (occupied p inWater f) 1 0 + cond (support p inWat
 abbrev pub filled : List ℕ → List ℕ → ℕ
 filled flags old = cond (eqb (length flags) (length old)) 0 8
 
--- the permission table after the call: a byte for each flag byte; "8 writes nothing"
+-- the permission table after the call: a byte for each flag byte; "6, 8 and 9 write nothing"
 abbrev pub permissionTable : WalkPolicy → Bool → List ℕ → List ℕ → List ℕ
 permissionTable p inWater flags old = cond (eqb (length flags) (length old)) (map (permission p inWater) flags) old

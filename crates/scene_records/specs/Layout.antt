@@ -85,10 +85,10 @@ volume w = w .sx * w .sy * w .sz
 unfoldable pub cellCount : Window → ℕ
 cellCount w = cond (sizeAbove w) 0 (volume w)
 
--- kind 4: "n the shape; six box numbers"
+-- kind 4: "n the shape .. six box numbers"
 unfoldable pub boxOf : List ℕ → Aabb
 boxOf s = boxAt s 8
 
--- kind 5: "n the state; permission byte"
+-- kind 5: "n the state .. permission byte"
 abbrev pub permissionOf : List ℕ → ℕ
 permissionOf s = getD s 8 0

@@ -8,7 +8,7 @@ use Rattle.tables.specs.BadWorld.{sizeAbove, boxRule}
 use Rattle.scene_rules.specs.declared.Counts.{Counts}
 use Rattle.scene_records.specs.Layout.{kindOf, threeZeros, numberOf, byKind, unusedFrom, zeros, windowOf, cellCount, boxOf, permissionOf}
 
--- "In order: one kind 1, one 2, one 3, then 4, 5, 6": after a record of the last kind, of which 0 is none
+-- "In order: one kind 1 .., one 2 .., one 3 .., then 4 .., 5 .., 6": after a record of the last kind, of which 0 is none
 unfoldable pub inOrder : ℕ → ℕ → Bool
 inOrder last k = cond (ltb last 3) (eqb k (last + 1)) (leb 4 k && leb last k && leb k 6)
 

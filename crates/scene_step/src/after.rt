@@ -1,4 +1,4 @@
-// What a good record of a kind makes of the state.
+// What a good record of a kind makes of the state (01, "Scenes and walkprint").
 ghost use mathlib.Core.Path.{_≡_};
 ghost use Rattle.scene_step.specs.Next.{Allowed, ShapeFits, withBoxCounted, next};
 use scene_records::body_at;
