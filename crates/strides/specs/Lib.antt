@@ -1,3 +1,4 @@
--- One edge of an expansion. What a reader must believe: Strides. What is proved of it: Laws.
+-- One edge of an expansion. What a reader must believe: Strides. What is proved of it: Laws, Unique.
 pub mod Strides
 pub mod Laws
+pub mod Unique
