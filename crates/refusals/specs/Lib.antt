@@ -1,3 +1,4 @@
--- Whether a search begins. What a reader must believe: Refusals. What is proved of it: Laws.
+-- Whether a search begins. What a reader must believe: Refusals. What is proved of it: Laws, Unique.
 pub mod Refusals
 pub mod Laws
+pub mod Unique
