@@ -45,10 +45,10 @@ fn reaches_to(band: Band, x: f64, z: f64, b: Aabb) -> bool
 fn is_beyond(after: Height, top: f64) -> bool
     ensures { λ r. ⌜ r ≡ beyond after top ⌝ }
 {
-    match after {
-        Height::At(kept) => !((top <= kept) | (top - kept <= floats::E)),
-        Height::None => true,
-    }
+    let Height::At(kept) = after else {
+        return true;
+    };
+    !((top <= kept) | (top - kept <= floats::E))
 }
 
 // What one box makes of the best so far: its top, where a step may go there, it is not within E of the last kept, and the best is not as low.
@@ -62,7 +62,10 @@ fn take_box(band: Band, x: f64, z: f64, after: Height, best: Height, b: Aabb) ->
     let Height::At(least) = best else {
         return Height::At(top);
     };
-    if top < least { Height::At(top) } else { best }
+    if top < least {
+        return Height::At(top);
+    }
+    best
 }
 
 // The best of so many box records of a part of the table, moved by a point.

@@ -50,14 +50,13 @@ fn scaled(b: u64) -> Parts
     let digits = b % LEAD;
     if field == 0 {
         let z = u64::leading_zeros(digits) as u64 - 11;
-        Parts {
+        return Parts {
             m: digits << z,
             e: 1074 - z,
-        }
-    } else {
-        Parts {
-            m: digits + LEAD,
-            e: field + 1073,
-        }
+        };
+    }
+    Parts {
+        m: digits + LEAD,
+        e: field + 1073,
     }
 }

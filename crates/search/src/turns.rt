@@ -32,15 +32,11 @@ pub(crate) fn expand(
         return Turn::At(shut, k);
     }
     let point = words::point_of(node.feet);
-    match edges::connector(task.w, cells, perms, shapes, boxes, task.r, task.body, point) {
-        EdgeAnswer::To(way) => {
-            let label = words::label_of(way);
-            Turn::By(shut, k, label)
-        }
-        EdgeAnswer::Nowhere => {
-            let at = Place { number: k, node, point };
-            let counts = columns(task, cells, perms, shapes, boxes, nodes, front, at, shut);
-            Turn::Going(counts)
-        }
+    if let EdgeAnswer::To(way) = edges::connector(task.w, cells, perms, shapes, boxes, task.r, task.body, point) {
+        let label = words::label_of(way);
+        return Turn::By(shut, k, label);
     }
+    let at = Place { number: k, node, point };
+    let counts = columns(task, cells, perms, shapes, boxes, nodes, front, at, shut);
+    Turn::Going(counts)
 }

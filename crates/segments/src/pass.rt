@@ -50,27 +50,23 @@ fn reach_cell(
 ) -> Reach
     ensures { λ r. ⌜ r ≡ pass way (reached covered) (shapesOf (space w (now (cells .entry)) (now (perms .entry)) (now (shapes .entry)) (now (boxes .entry)) x y z)) ⌝ }
 {
-    match world::cell_at(w, cells, perms, shapes, x, y, z) {
-        Cell::Unknown => {
-            let cube = boxes::offset(boxes::unit(), points::corner_of(x, y, z));
-            support::reach_shape(way, false, cube, covered)
-        }
-        Cell::Known {
-            occupied: _,
-            support,
-            first,
-            count,
-        } => {
-            if count == 0 {
-                return Reach {
-                    to: covered,
-                    refused: false,
-                };
-            }
-            let by = points::corner_of(x, y, z);
-            reach_run(world::boxes_from(boxes, first), count, by, support, way, covered)
-        }
+    let Cell::Known {
+        occupied: _,
+        support,
+        first,
+        count,
+    } = world::cell_at(w, cells, perms, shapes, x, y, z) else {
+        let cube = boxes::offset(boxes::unit(), points::corner_of(x, y, z));
+        return support::reach_shape(way, false, cube, covered);
+    };
+    if count == 0 {
+        return Reach {
+            to: covered,
+            refused: false,
+        };
     }
+    let by = points::corner_of(x, y, z);
+    reach_run(world::boxes_from(boxes, first), count, by, support, way, covered)
 }
 
 // The shapes of the cells of a region.

@@ -140,8 +140,8 @@ module _ (s : List ℕ) (at : ℕ) where
 pub part-is : (n : ℕ) (s : List ℕ) → take (length s - n) (drop n s) ≡ drop n s
 part-is n s = take-all (length s - n) (drop n s) (omega (arith, length-drop n s))
 
-pub part-past : (n : ℕ) (s : List ℕ) → length s < n → take (length s - length s) (drop (length s) s) ≡ drop n s
-part-past n s h = part-is (length s) s ∙ drop-of-length-le s {i = length s} (omega arith) ∙ sym (drop-of-length-le s {i = n} (omega arith))
+pub part-past : (n : ℕ) (s : List ℕ) → length s ≤ n → drop (length s) s ≡ drop n s
+part-past n s h = drop-of-length-le s {i = length s} (omega arith) ∙ sym (drop-of-length-le s {i = n} (omega arith))
 
 -- ---- a loop that goes on as long as there are more and nothing has stopped it: a turn of it, and its end
 

@@ -48,10 +48,9 @@ fn entry_of(w: Window, cells: &[u8], x: i64, y: i64, z: i64) -> Entry
     let j = along(w.y, w.sy, y);
     let k = along(w.z, w.sz, z);
     if (i < 256) & (j < 256) & (k < 256) {
-        entry_at(cells, i + (w.sx as usize) * (k + (w.sz as usize) * j))
-    } else {
-        Entry::Missing
+        return entry_at(cells, i + (w.sx as usize) * (k + (w.sz as usize) * j));
     }
+    Entry::Missing
 }
 
 // A known cell of a permission byte, and of a shape's first box and count.
@@ -66,10 +65,13 @@ fn of_parts(p: u8, first: u32, count: u32) -> Cell
     }
 }
 
-// What a state and a shape make of a cell.
-fn known_cell(perms: &[u8], shapes: &[u8], state: u32, shape: u32) -> Cell
-    ensures { λ r. ⌜ r ≡ known (now (perms .entry)) (now (shapes .entry)) state shape ⌝ }
+// What the tables say of a cell: its record names a state and a shape, and each of these has a record of its own.
+pub fn cell_at(w: Window, cells: &[u8], perms: &[u8], shapes: &[u8], x: i64, y: i64, z: i64) -> Cell
+    ensures { λ r. ⌜ r ≡ cellAt w (now (cells .entry)) (now (perms .entry)) (now (shapes .entry)) x y z ⌝ }
 {
+    let Entry::Of(state, shape) = entry_of(w, cells, x, y, z) else {
+        return Cell::Unknown;
+    };
     let s = state as usize;
     if perms.len() <= s {
         return Cell::Unknown;
@@ -80,27 +82,14 @@ fn known_cell(perms: &[u8], shapes: &[u8], state: u32, shape: u32) -> Cell
     of_parts(perms[s], first, count)
 }
 
-// What the tables say of a cell.
-pub fn cell_at(w: Window, cells: &[u8], perms: &[u8], shapes: &[u8], x: i64, y: i64, z: i64) -> Cell
-    ensures { λ r. ⌜ r ≡ cellAt w (now (cells .entry)) (now (perms .entry)) (now (shapes .entry)) x y z ⌝ }
-{
-    let Entry::Of(state, shape) = entry_of(w, cells, x, y, z) else {
-        return Cell::Unknown;
-    };
-    known_cell(perms, shapes, state, shape)
-}
-
 // The part of the box table that starts at a shape's first record; where the table ends before it, the part is empty.
 pub fn boxes_from(boxes: &[u8], first: u32) -> &[u8]
     ensures { λ r. ⌜ now r ≡ drop (48 * first) (now (boxes .entry)) ⌝ }
 {
     let from = 48 * (first as usize);
     let end = boxes.len();
-    if from <= end {
-        &boxes[from..]
-    } else {
-        &boxes[end..]
-    }
+    let start = if from < end { from } else { end };
+    &boxes[start..]
 }
 
 // The point whose three numbers stand from an offset on; an offset past the table is as good as its end.
@@ -120,12 +109,11 @@ pub fn point_at(s: &[u8], at: usize) -> Point
 pub fn box_at(s: &[u8], at: usize) -> Found
     ensures { λ r. ⌜ r ≡ boxHere (now (s .entry)) at ⌝ }
 {
-    if fields::fits(s.len(), at, 48) {
-        Found::Here(Aabb {
-            min: point_at(s, at),
-            max: point_at(s, at + 24),
-        })
-    } else {
-        Found::End
+    if !fields::fits(s.len(), at, 48) {
+        return Found::End;
     }
+    Found::Here(Aabb {
+        min: point_at(s, at),
+        max: point_at(s, at + 24),
+    })
 }

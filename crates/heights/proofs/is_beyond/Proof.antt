@@ -12,12 +12,12 @@ enum-told : tie.Need-enum-told
 enum-told c = search needs
 
 returns : tie.Need-returns
-unfolding beyond within
-returns c = rw (c .before .after .given .1)
+unfolding beyond
+returns c = rw (c .enum-told .given .1)
 
 returns-2 : tie.Need-returns-2
-unfolding beyond
-returns-2 c = rw (c .enum-told .given .1)
+unfolding beyond within
+returns-2 c = rw (c .before .after .given .1)
 
 pub is-beyond-spec : {M : Type 1} → statement M
 is-beyond-spec = tie.close (tie.spec enum-known-after enum-told returns returns-2)

@@ -24,17 +24,17 @@ stood-is c =
 
 lifted-is : (c : tie.Joined2) → let s = c .before .before .before .before .before .before .before .before .before in let a = s .args in c .if2 .if3 ≡ lifted (sp s) (a .r) (a .body) (a .from) (a .to) (a .lift)
 lifted-is c =
-    ⊎-elim (λ t. asked (stood-is (c .before)) (t .0 .taken) (t .3 ∙ rw (t .1 .ensures) at (t .2 .ensures)))
+    ⊎-elim (λ t. asked (stood-is (c .before)) (t .0 .taken) (t .2 ∙ t .1 .ensures))
     (λ e. spared (stood-is (c .before)) _ (e .0 .left) (e .1)) (c .if2 .came)
 
 crossed-is : (c : tie.Joined3) → let s = c .before .before .before .before .before .before .before .before .before .before in let a = s .args in c .if3 .if4 ≡ crossed (sp s) (a .r) (a .body) (a .from) (a .to) (a .lift)
 crossed-is c =
-    ⊎-elim (λ t. asked (lifted-is (c .before)) (t .0 .taken) (t .4 ∙ rw (t .2 .ensures, t .1 .ensures) at (t .3 .ensures)))
+    ⊎-elim (λ t. asked (lifted-is (c .before)) (t .0 .taken) (t .3 ∙ rw (t .1 .ensures) at (t .2 .ensures)))
     (λ e. spared (lifted-is (c .before)) _ (e .0 .left) (e .1)) (c .if3 .came)
 
 settled-is : (c : tie.Joined4) → let s = c .before .before .before .before .before .before .before .before .before .before .before in let a = s .args in c .if4 .if5 ≡ settled (sp s) (a .r) (a .body) (a .from) (a .to) (a .lift)
 settled-is c =
-    ⊎-elim (λ t. asked (crossed-is (c .before)) (t .0 .taken) (t .4 ∙ rw (t .2 .ensures, t .1 .ensures) at (t .3 .ensures)))
+    ⊎-elim (λ t. asked (crossed-is (c .before)) (t .0 .taken) (t .3 ∙ rw (t .1 .ensures) at (t .2 .ensures)))
     (λ e. spared (crossed-is (c .before)) _ (e .0 .left) (e .1)) (c .if4 .came)
 
 -- ---- the needs
@@ -48,29 +48,20 @@ in-range-requires-2 c κs = tt
 standable-requires : tie.Need-standable-requires
 standable-requires c κs = tt
 
-swept-requires : tie.Need-swept-requires
-swept-requires c κs = tt
-
-clear-area-requires : tie.Need-clear-area-requires
-clear-area-requires c κs = tt
+sweep-clear-requires : tie.Need-sweep-clear-requires
+sweep-clear-requires c κs = tt
 
 difference-requires : tie.Need-difference-requires
 difference-requires c κs = tt
 
-swept-requires-2 : tie.Need-swept-requires-2
-swept-requires-2 c κs = tt
-
-clear-area-requires-2 : tie.Need-clear-area-requires-2
-clear-area-requires-2 c κs = tt
+sweep-clear-requires-2 : tie.Need-sweep-clear-requires-2
+sweep-clear-requires-2 c κs = tt
 
 difference-requires-2 : tie.Need-difference-requires-2
 difference-requires-2 c κs = tt
 
-swept-requires-3 : tie.Need-swept-requires-3
-swept-requires-3 c κs = tt
-
-clear-area-requires-3 : tie.Need-clear-area-requires-3
-clear-area-requires-3 c κs = tt
+sweep-clear-requires-3 : tie.Need-sweep-clear-requires-3
+sweep-clear-requires-3 c κs = tt
 
 supported-segment-requires : tie.Need-supported-segment-requires
 supported-segment-requires c κs = tt
@@ -88,14 +79,11 @@ passable-spec =
     in-range-requires
     in-range-requires-2
     standable-requires
-    swept-requires
-    clear-area-requires
+    sweep-clear-requires
     difference-requires
-    swept-requires-2
-    clear-area-requires-2
+    sweep-clear-requires-2
     difference-requires-2
-    swept-requires-3
-    clear-area-requires-3
+    sweep-clear-requires-3
     supported-segment-requires
     returns
     returns-2)

@@ -36,6 +36,9 @@ known-point c =
 cell-at-requires : tie.Need-cell-at-requires
 cell-at-requires c κs = tt
 
+enum-known-support : tie.Need-enum-known-support
+enum-known-support c = search needs
+
 enum-told : tie.Need-enum-told
 enum-told c = search needs
 
@@ -51,12 +54,13 @@ offset-requires c κs = tt
 reach-shape-requires : tie.Need-reach-shape-requires
 reach-shape-requires c κs = tt
 
-enum-known-support : tie.Need-enum-known-support
-enum-known-support c = search needs
-
 returns : tie.Need-returns
 unfolding space
-returns c = rw (cell (c .before .before .before .before) ∙ c .before .before .support .given .1) (sym (pass-empty _ _ _ _ _ _ _ _ (c .if1 .taken)))
+returns c = rw (cell (c .before .before .before .before .before .before) ∙ c .before .before .before .before .enum-told .given .1) ((rw (c .before .offset .ensures, c .before .before .before .unit .ensures, point (c .before .before)) at (c .reach-shape .ensures)) ∙ sym (pass-unknown _ _ _ _))
+
+returns-2 : tie.Need-returns-2
+unfolding space
+returns-2 c = rw (cell (c .before .before .before .before) ∙ c .before .before .support .given .1) (sym (pass-empty _ _ _ _ _ _ _ _ (c .if1 .taken)))
 
 corner-of-requires-2 : tie.Need-corner-of-requires-2
 corner-of-requires-2 c κs = tt
@@ -67,10 +71,6 @@ boxes-from-requires c κs = tt
 reach-run-requires : tie.Need-reach-run-requires
 reach-run-requires c κs = tt
 
-returns-2 : tie.Need-returns-2
-unfolding space
-returns-2 c = rw (cell (c .before .before .before .before .before .before) ∙ c .before .before .before .before .enum-told .given .1) ((rw (c .before .offset .ensures, c .before .before .before .unit .ensures, point (c .before .before)) at (c .reach-shape .ensures)) ∙ sym (pass-unknown _ _ _ _))
-
 returns-3 : tie.Need-returns-3
 unfolding space
 returns-3 c = rw (cell (c .before .before .before .before .before .before .before) ∙ c .before .before .before .before .before .support .given .1) ((rw (c .before .boxes-from .ensures, known-point (c .before .before)) at (c .reach-run .ensures)) ∙ sym (pass-known _ _ _ _ _ _ _ _))
@@ -80,15 +80,15 @@ reach-cell-spec =
     tie.close
     (tie.spec
     cell-at-requires
+    enum-known-support
     enum-told
     unit-requires
     corner-of-requires
     offset-requires
     reach-shape-requires
-    enum-known-support
     returns
+    returns-2
     corner-of-requires-2
     boxes-from-requires
     reach-run-requires
-    returns-2
     returns-3)

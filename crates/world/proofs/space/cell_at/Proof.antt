@@ -5,7 +5,7 @@ use mir.Syntax.{w64}
 use mir.Val.{SFits}
 use mir.Facts.{toZ-ofZ}
 use Rattle.world.specs.Space.{recordOf, entryIn, cellAt}
-use Rattle.world.specs.Laws.{by-entry}
+use Rattle.world.specs.Laws.{by-entry, no-state, by-shape}
 use borrow.Author.Needs.{needs}
 use Rattle.world.proofs.space.cell_at.Statement.{statement}
 use Rattle.world.proofs.space.cell_at.Tie as tie
@@ -32,14 +32,59 @@ returns : tie.Need-returns
 unfolding cellAt
 returns c = rw (by-entry _ _ _ _, here (c .before .before) ∙ c .enum-told .given .1)
 
-known-cell-requires : tie.Need-known-cell-requires
-known-cell-requires c κs = tt
+cast-s : tie.Need-cast-s
+cast-s c = search needs
 
 returns-2 : tie.Need-returns-2
 unfolding cellAt
-returns-2 c = rw (by-entry _ _ _ _, here (c .before .before .before .before) ∙ c .before .before .state .given .1) (c .known-cell .ensures)
+returns-2 c = rw (by-entry _ _ _ _, here (c .before .before .before .before) ∙ c .before .before .state .given .1) (sym (no-state _ _ _ _ (c .if1 .taken)))
+
+cast-entry-at : tie.Need-cast-entry-at
+cast-entry-at c = search needs
+
+entry-at-requires : tie.Need-entry-at-requires
+entry-at-requires c κs = tt
+
+enum-known-first : tie.Need-enum-known-first
+enum-known-first c = search needs
+
+enum-told-2 : tie.Need-enum-told-2
+enum-told-2 c = search needs
+
+returns-3 : tie.Need-returns-3
+unfolding cellAt
+returns-3 c =
+    rw
+    (by-entry _ _ _ _, here (c .before .before .before .before .before .before .before) ∙ c .before .before .before .before .before .state .given .1, by-shape _ _ _ _ (c .before .before .before .if1 .left), sym (c .before .before .entry-at .ensures) ∙ c .enum-told2 .given .1)
+
+shared-slice-read-of-parts : tie.Need-shared-slice-read-of-parts
+shared-slice-read-of-parts c = search needs
+
+of-parts-requires : tie.Need-of-parts-requires
+of-parts-requires c κs = tt
+
+returns-4 : tie.Need-returns-4
+unfolding cellAt
+returns-4 c =
+    rw
+    (by-entry _ _ _ _, here (c .before .before .before .before .before .before .before .before .before .before) ∙ c .before .before .before .before .before .before .before .before .state .given .1, by-shape _ _ _ _ (c .before .before .before .before .before .before .if1 .left), sym (c .before .before .before .before .before .entry-at .ensures) ∙ c .before .before .before .first .given .1)
+    (c .of-parts .ensures)
 
 pub cell-at-spec : {M : Type 1} → statement M
 cell-at-spec =
     tie.close
-    (tie.spec entry-of-requires enum-known-state enum-told returns known-cell-requires returns-2)
+    (tie.spec
+    entry-of-requires
+    enum-known-state
+    enum-told
+    returns
+    cast-s
+    returns-2
+    cast-entry-at
+    entry-at-requires
+    enum-known-first
+    enum-told-2
+    returns-3
+    shared-slice-read-of-parts
+    of-parts-requires
+    returns-4)
