@@ -9,14 +9,14 @@ use Rattle.moves.specs.declared.answer.Waypoint.{Waypoint}
 use Rattle.moves.specs.declared.answer.EdgeAnswer.{EdgeAnswer}
 use Rattle.moves.specs.declared.answer.EdgeAnswer.the-variants.{To, Nowhere}
 use Rattle.rooms.specs.declared.Label.{Label}
+use Rattle.rooms.specs.declared.WaypointRecord.{WaypointRecord}
+use Rattle.rooms.specs.Records.{waypointAt}
 use Rattle.rooms.specs.Waypoints.{samePoint, alike, standing}
 use Rattle.words.specs.Words.{feetOf, labelOf}
-use Rattle.listed.specs.declared.Listed.{Listed}
-use Rattle.listed.specs.Listed.{listedAt, feet, label}
 
 -- an edge leads to a record: its point, its movement and its lift
-unfoldable pub leadsTo : Listed → Waypoint → Bool
-leadsTo v step = samePoint (feetOf (step .feet)) (feet v) && alike (labelOf step) (label v)
+unfoldable pub leadsTo : WaypointRecord → Waypoint → Bool
+leadsTo v step = samePoint (feetOf (step .feet)) (v .feet) && alike (labelOf step) (v .label)
 
 -- an answer is an edge with a label
 abbrev pub labelledBy : EdgeAnswer → Label → Bool
@@ -24,9 +24,9 @@ labelledBy Nowhere l = false
 labelledBy (To step) l = alike (labelOf step) l
 
 -- a record is the start's: its point, Walk, and lift 0
-abbrev pub starts : Point → Listed → Bool
-starts start v = samePoint (feetOf start) (feet v) && alike standing (label v)
+abbrev pub starts : Point → WaypointRecord → Bool
+starts start v = samePoint (feetOf start) (v .feet) && alike standing (v .label)
 
 -- whole records, and not none; the start's first
 abbrev pub begins : Point → List ℕ → Bool
-begins start s = eqb (length s % 40) 0 && ltb 0 (length s) && starts start (listedAt s 0)
+begins start s = eqb (length s % 40) 0 && ltb 0 (length s) && starts start (waypointAt s 0)

@@ -14,7 +14,7 @@ use Rattle.fields.specs.RecordLaws.{record-in, with-record-is}
 use Rattle.rooms.specs.declared.Feet.{Feet}
 use Rattle.rooms.specs.declared.Label.{Label}
 use Rattle.rooms.specs.Records.{waypointLayout, waypointWords, withWaypoint, nodeAt}
-use Rattle.rooms.specs.Lists.{waypointAt, walk, listOf, waypointBytes, listBytes, written, Listed}
+use Rattle.rooms.specs.Lists.{nodeWaypoint, walk, listOf, waypointBytes, listBytes, written, Listed}
 use Rattle.rooms.specs.Laws.Lists.{walk-on, walk-off, in-or-out}
 
 -- ---- in a loop that counts
@@ -60,17 +60,17 @@ module _ (a : List ℕ) (n k m : ℕ) (old : List ℕ) (room : 40 * m ≤ length
   backed-in {j} {at} h b = ⊎-elim (λ l. l) (λ l. absurd (omega (arith, b .left, ap length (walk-off (b .fuel) a n at l)))) (in-or-out at n)
 
   more : (f : ℕ) {j at : ℕ} {out new : List ℕ} (done : List (Feet × Label)) → j < m → at < n → reverseAux (walk n a n k) [] ≡ reverseAux (walk f a n at) done → length (walk f a n at) ≡ j + 1 →
-      out ≡ take (40 * (j + 1)) old ++ (listBytes done ++ drop (40 * m) old) → new ≡ take (40 * j) out ++ (waypointBytes (waypointAt a at) ++ drop (40 * j + 40) out) → Backed a n k m old j (nodeAt a at .parent) new
+      out ≡ take (40 * (j + 1)) old ++ (listBytes done ++ drop (40 * m) old) → new ≡ take (40 * j) out ++ (waypointBytes (nodeWaypoint a at) ++ drop (40 * j + 40) out) → Backed a n k m old j (nodeAt a at .parent) new
   more zero done h i s l b w = absurd (omega arith)
   more (suc f) {j} {at} {out} {new} done h i s l b w = record {
     fuel = f;
-    done = waypointAt a at ∷ done;
+    done = nodeWaypoint a at ∷ done;
     split = s ∙ ap (λ (x : List (Feet × Label)). reverseAux x done) step;
     left = omega (arith, l, ap length step);
-    bytes = w ∙ ap (λ (x : List ℕ). x ++ (waypointBytes (waypointAt a at) ++ drop (40 * j + 40) out)) front ∙ ap (λ (x : List ℕ). take (40 * j) old ++ (waypointBytes (waypointAt a at) ++ x)) past ∙ ap (λ (x : List ℕ). take (40 * j) old ++ x) (sym (append-assoc (waypointBytes (waypointAt a at)) (listBytes done) (drop (40 * m) old)));
+    bytes = w ∙ ap (λ (x : List ℕ). x ++ (waypointBytes (nodeWaypoint a at) ++ drop (40 * j + 40) out)) front ∙ ap (λ (x : List ℕ). take (40 * j) old ++ (waypointBytes (nodeWaypoint a at) ++ x)) past ∙ ap (λ (x : List ℕ). take (40 * j) old ++ x) (sym (append-assoc (waypointBytes (nodeWaypoint a at)) (listBytes done) (drop (40 * m) old)));
   }
     where
-      step : walk (suc f) a n at ≡ waypointAt a at ∷ walk f a n (nodeAt a at .parent)
+      step : walk (suc f) a n at ≡ nodeWaypoint a at ∷ walk f a n (nodeAt a at .parent)
       step = walk-on (suc f) f a n at refl i
 
       long : length (take (40 * (j + 1)) old) ≡ 40 * (j + 1)
@@ -82,7 +82,7 @@ module _ (a : List ℕ) (n k m : ℕ) (old : List ℕ) (room : 40 * m ≤ length
       past : drop (40 * j + 40) out ≡ listBytes done ++ drop (40 * m) old
       past = ap (drop (40 * j + 40)) b ∙ drop-at (take (40 * (j + 1)) old) (listBytes done ++ drop (40 * m) old) (40 * j + 40) (omega (arith, long))
 
-  pub backed-more : {j at : ℕ} {out new : List ℕ} → 0 < j → j ≤ m → Backed a n k m old j at out → new ≡ take (40 * (j - 1)) out ++ (waypointBytes (waypointAt a at) ++ drop (40 * (j - 1) + 40) out) → Backed a n k m old (j - 1) (nodeAt a at .parent) new
+  pub backed-more : {j at : ℕ} {out new : List ℕ} → 0 < j → j ≤ m → Backed a n k m old j at out → new ≡ take (40 * (j - 1)) out ++ (waypointBytes (nodeWaypoint a at) ++ drop (40 * (j - 1) + 40) out) → Backed a n k m old (j - 1) (nodeAt a at .parent) new
   backed-more {j} {at} {out} {new} h i b w = let e : j ≡ j - 1 + 1 = omega arith in more (b .fuel) {out = out} (b .done) (omega arith) (backed-in h b) (b .split) (b .left ∙ e) (b .bytes ∙ ap (λ (x : ℕ). take (40 * x) old ++ (listBytes (b .done) ++ drop (40 * m) old)) e) w
 
   pub backed-all : {j at : ℕ} {out : List ℕ} → j ≡ 0 → Backed a n k m old j at out → out ≡ listBytes (reverseAux (walk n a n k) []) ++ drop (40 * m) old

@@ -10,8 +10,9 @@ use Rattle.rooms.specs.declared.Feet.{Feet}
 use Rattle.rooms.specs.declared.Label.{Label}
 use Rattle.rooms.specs.Records.{waypointLayout, waypointWords, nodeAt}
 
-abbrev pub waypointAt : List ℕ → ℕ → Feet × Label
-waypointAt a k = (nodeAt a k .feet, nodeAt a k .label)
+-- the waypoint of node k
+abbrev pub nodeWaypoint : List ℕ → ℕ → Feet × Label
+nodeWaypoint a k = (nodeAt a k .feet, nodeAt a k .label)
 
 abbrev pub walkBy : Bool → Feet × Label → List (Feet × Label) → List (Feet × Label)
 walkBy true w ws = w ∷ ws
@@ -20,7 +21,7 @@ walkBy false w ws = []
 -- at most f points back from one of n nodes, over the parents
 abbrev pub walk : ℕ → List ℕ → ℕ → ℕ → List (Feet × Label)
 walk zero a n k = []
-walk (suc f) a n k = walkBy (ltb k n) (waypointAt a k) (walk f a n (nodeAt a k .parent))
+walk (suc f) a n k = walkBy (ltb k n) (nodeWaypoint a k) (walk f a n (nodeAt a k .parent))
 
 -- the list of n nodes that ends at node k, and then t; none where the room has fewer nodes
 unfoldable pub listOf : List ℕ → ℕ → ℕ → List (Feet × Label) → List (Feet × Label)

@@ -5,6 +5,7 @@ use lib.ListN.{getD}
 use Rattle.fields.specs.Records.{recordAt, withRecord}
 use Rattle.rooms.specs.declared.Feet.{Feet}
 use Rattle.rooms.specs.declared.Label.{Label}
+use Rattle.rooms.specs.declared.WaypointRecord.{WaypointRecord}
 use Rattle.rooms.specs.declared.NodeRecord.{NodeRecord}
 use Rattle.rooms.specs.declared.Entry.{Entry}
 
@@ -15,15 +16,21 @@ waypointLayout = 8 ∷ 8 ∷ 8 ∷ 8 ∷ 8 ∷ []
 abbrev pub waypointWords : Feet → Label → List ℕ
 waypointWords p l = p .x ∷ p .y ∷ p .z ∷ l .lift ∷ l .movement ∷ []
 
--- a list with waypoint k written
-unfoldable pub withWaypoint : List ℕ → ℕ → Feet → Label → List ℕ
-withWaypoint out k p l = withRecord waypointLayout out (40 * k) (waypointWords p l)
-
 abbrev pub feetFrom : List ℕ → Feet
 feetFrom vs = record { x = getD vs 0 0; y = getD vs 1 0; z = getD vs 2 0 }
 
 abbrev pub labelFrom : List ℕ → Label
 labelFrom vs = record { lift = getD vs 3 0; movement = getD vs 4 0 }
+
+abbrev pub waypointFrom : List ℕ → WaypointRecord
+waypointFrom vs = record { feet = feetFrom vs; label = labelFrom vs }
+
+-- waypoint k of a list, and the list with waypoint k written
+unfoldable pub waypointAt : List ℕ → ℕ → WaypointRecord
+waypointAt s k = waypointFrom (recordAt waypointLayout s (40 * k))
+
+unfoldable pub withWaypoint : List ℕ → ℕ → Feet → Label → List ℕ
+withWaypoint out k p l = withRecord waypointLayout out (40 * k) (waypointWords p l)
 
 -- "Node record 56 bytes: waypoint, cost, parent u32 (4294967295 for none), closed u32."
 abbrev pub nodeLayout : List ℕ

@@ -8,6 +8,7 @@ mod records;
 pub use records::get_entry;
 pub use records::get_feet;
 pub use records::get_node;
+pub use records::get_waypoint;
 
 // The feet of a waypoint: the patterns of three f64.
 pub struct Feet {
@@ -20,6 +21,12 @@ pub struct Feet {
 pub struct Label {
     pub lift: u64,
     pub movement: u64,
+}
+
+// A waypoint record, 40 bytes: a node record begins with one, and a list consists of them.
+pub struct WaypointRecord {
+    pub feet: Feet,
+    pub label: Label,
 }
 
 // A node record, 56 bytes: a waypoint, the pattern of its cost, its parent's number, whether it is closed.

@@ -3,11 +3,24 @@ use crate::Entry;
 use crate::Feet;
 use crate::Label;
 use crate::NodeRecord;
+use crate::WaypointRecord;
 ghost use mathlib.Core.Path.{_≡_};
-ghost use Prim.Native.Nat.{_≤_};
+ghost use Prim.Native.Nat.{_*_, _≤_, _<_};
 ghost use lib.ListN.{length};
 ghost use Rattle.fields.specs.Records.{recordAt};
-ghost use Rattle.rooms.specs.Records.{feetFrom, labelFrom, waypointLayout, nodeAt, entryAt};
+ghost use Rattle.rooms.specs.Records.{feetFrom, waypointFrom, waypointLayout, waypointAt, nodeAt, entryAt};
+ghost use Rattle.rooms.specs.Laws.Fields.{Offset};
+
+// Where record k of a room is read, at so many bytes a record. One past the end is read at the end, where every field is 0 too: so that no reader has a branch.
+fn offset_of(room: &[u8], size: usize, k: usize) -> usize
+    requires { ⌜ 0 < size ⌝ }
+    ensures { λ r. ⌜ Offset (now (room .entry)) (size * k) r ⌝ }
+{
+    if room.len() / size < k {
+        return room.len();
+    }
+    size * k
+}
 
 // The feet of the waypoint record at an offset.
 fn feet_at(room: &[u8], at: usize) -> Feet
@@ -20,37 +33,33 @@ fn feet_at(room: &[u8], at: usize) -> Feet
     Feet { x, y, z }
 }
 
-// Its lift and movement.
-fn label_at(room: &[u8], at: usize) -> Label
+// The whole record there.
+fn waypoint_at(room: &[u8], at: usize) -> WaypointRecord
     requires { ⌜ at ≤ length (now room) ⌝ }
-    ensures { λ r. ⌜ r ≡ labelFrom (recordAt waypointLayout (now (room .entry)) at) ⌝ }
+    ensures { λ r. ⌜ r ≡ waypointFrom (recordAt waypointLayout (now (room .entry)) at) ⌝ }
 {
+    let feet = feet_at(room, at);
     let lift = fields::u64_at(room, at + 24);
     let movement = fields::u64_at(room, at + 32);
-    Label { lift, movement }
+    let label = Label { lift, movement };
+    WaypointRecord { feet, label }
+}
+
+// Waypoint k of a list.
+pub fn get_waypoint(list: &[u8], k: usize) -> WaypointRecord
+    ensures { λ r. ⌜ r ≡ waypointAt (now (list .entry)) k ⌝ }
+{
+    waypoint_at(list, offset_of(list, 40, k))
 }
 
 // Node k.
 pub fn get_node(nodes: &[u8], k: usize) -> NodeRecord
     ensures { λ r. ⌜ r ≡ nodeAt (now (nodes .entry)) k ⌝ }
 {
-    if nodes.len() / 56 < k {
-        let feet = Feet { x: 0, y: 0, z: 0 };
-        let label = Label {
-            lift: 0,
-            movement: 0,
-        };
-        return NodeRecord {
-            feet,
-            label,
-            cost: 0,
-            parent: 0,
-            closed: 0,
-        };
-    }
-    let at = 56 * k;
-    let feet = feet_at(nodes, at);
-    let label = label_at(nodes, at);
+    let at = offset_of(nodes, 56, k);
+    let waypoint = waypoint_at(nodes, at);
+    let feet = waypoint.feet;
+    let label = waypoint.label;
     let cost = fields::u64_at(nodes, at + 40);
     let parent = fields::u32_at(nodes, at + 48);
     let closed = fields::u32_at(nodes, at + 52);
@@ -67,24 +76,14 @@ pub fn get_node(nodes: &[u8], k: usize) -> NodeRecord
 pub fn get_feet(nodes: &[u8], k: usize) -> Feet
     ensures { λ r. ⌜ r ≡ nodeAt (now (nodes .entry)) k .feet ⌝ }
 {
-    if nodes.len() / 56 < k {
-        return Feet { x: 0, y: 0, z: 0 };
-    }
-    feet_at(nodes, 56 * k)
+    feet_at(nodes, offset_of(nodes, 56, k))
 }
 
 // The frontier record of node k.
 pub fn get_entry(front: &[u8], k: usize) -> Entry
     ensures { λ r. ⌜ r ≡ entryAt (now (front .entry)) k ⌝ }
 {
-    if front.len() / 24 < k {
-        return Entry {
-            estimate: 0,
-            order: 0,
-            waiting: 0,
-        };
-    }
-    let at = 24 * k;
+    let at = offset_of(front, 24, k);
     let estimate = fields::u64_at(front, at);
     let order = fields::u64_at(front, at + 8);
     let waiting = fields::u64_at(front, at + 16);

@@ -27,18 +27,19 @@ use Rattle.steps.specs.Columns.{ahead, level, columnIf, stepsFrom}
 use Rattle.steps.specs.Expansion.{columnsFrom, columns-begin, columns-on, columns-end, sidesBefore, sides-begin, sides-on, skipped, stepsAfter, column-begins, noted-none, noted-on}
 use Rattle.rooms.specs.declared.Feet.{Feet}
 use Rattle.rooms.specs.declared.Label.{Label}
+use Rattle.rooms.specs.declared.WaypointRecord.{WaypointRecord}
+use Rattle.rooms.specs.Records.{waypointAt}
 use Rattle.rooms.specs.Waypoints.{canonicalWord, sameWord, samePoint, alike, standing}
 use Rattle.words.specs.Words.{pointOf, feetOf, stepOf, labelIf}
 use Rattle.steps.specs.Graph.{graph}
-use Rattle.listed.specs.declared.Listed.{Listed}
-use Rattle.listed.specs.Listed.{listedAt, feet, label, entry, entriesFrom, waypoints}
+use Rattle.listed.specs.Listed.{entry, entriesFrom, waypoints}
 use Rattle.listed.specs.Compared.{leadsTo, labelledBy, starts, begins}
 use Rattle.walk_back.specs.WalkBack.{isRouteList}
 
 -- ---- one edge, and the edges of a column
 
 -- What was noted of the edges of a column, where these of them are left: one leads to the record; or none did so far, and whether one was level.
-abbrev pub Noted : Listed → Point → List Waypoint → Bool → Bool → List Waypoint → Type 0
+abbrev pub Noted : WaypointRecord → Point → List Waypoint → Bool → Bool → List Waypoint → Type 0
 Noted v from ws true noted left = has (leadsTo v) ws ≡ true
 Noted v from ws false noted left = (has (leadsTo v) ws ≡ has (leadsTo v) left) × (level from ws ≡ (noted || level from left))
 
@@ -48,7 +49,7 @@ going true false e f = f refl refl
 going true true e f = absurd (let z : _≡_ {A = ℕ} 0 1 = cc in omega arith)
 going false met e f = absurd (let z : _≡_ {A = ℕ} 0 1 = cc in omega arith)
 
-module _ (v : Listed) (from : Point) (ws : List Waypoint) (looked met noted : Bool) (left : List Waypoint) (h : Noted v from ws met noted (cond looked left [])) where
+module _ (v : WaypointRecord) (from : Point) (ws : List Waypoint) (looked met noted : Bool) (left : List Waypoint) (h : Noted v from ws met noted (cond looked left [])) where
   pub noted-over : (looked && not met) ≡ false → Noted v from ws met noted []
   noted-over e = go looked met e h
     where
@@ -109,18 +110,18 @@ module _ (sp : Space) (r : Request) (body : Body) (from : Point) (n : ℕ) where
       go true e = column-begins sp r body from n e
       go false e = skipped sp r body from n e
 
-  pub begun : (v : Listed) (looked : Bool) → looked ≡ lookedBy (sidesBefore sp r body from n) n →
+  pub begun : (v : WaypointRecord) (looked : Bool) → looked ≡ lookedBy (sidesBefore sp r body from n) n →
       Noted v from (columnIf sp r body from n) false false (cond looked (stepsAfter sp r body from n None) [])
   begun v looked e = let z : cond looked (stepsAfter sp r body from n None) [] ≡ columnIf sp r body from n = rw e (sym column-is) in rw z (refl, refl)
 
 -- ---- column after column
 
 -- what the columns before column n have said: a step leads to the record; or none of theirs does, and their side answers
-abbrev pub Tried : Space → Request → Body → Point → Listed → Bool → Sides → ℕ → Type 0
+abbrev pub Tried : Space → Request → Body → Point → WaypointRecord → Bool → Sides → ℕ → Type 0
 Tried sp r body from v true s n = has (leadsTo v) (stepsFrom sp r body from) ≡ true
 Tried sp r body from v false s n = (s ≡ sidesBefore sp r body from n) × (has (leadsTo v) (stepsFrom sp r body from) ≡ has (leadsTo v) (columnsFrom sp r body from n))
 
-module _ (sp : Space) (r : Request) (body : Body) (from : Point) (v : Listed) where
+module _ (sp : Space) (r : Request) (body : Body) (from : Point) (v : WaypointRecord) where
   pub tried-none : (s : Sides) → s ≡ noSides → Tried sp r body from v false s 0
   tried-none s e = (e ∙ sym (sides-begin sp r body from), ap (has (leadsTo v)) (columns-begin sp r body from))
 
@@ -159,19 +160,19 @@ module _ (sp : Space) (r : Request) (body : Body) (from : Point) (v : Listed) wh
 -- ---- one pair
 
 -- the connector has a record's movement and lift
-abbrev pub connectorTo : Space → Request → Body → Point → Listed → Bool
-connectorTo sp r body from v = labelledBy (connector sp r body from) (label v)
+abbrev pub connectorTo : Space → Request → Body → Point → WaypointRecord → Bool
+connectorTo sp r body from v = labelledBy (connector sp r body from) (v .label)
 
 module _ (sp : Space) (r : Request) (body : Body) where
-  pub step-is : (p v : Listed) → has (leadsTo v) (stepsFrom sp r body (pointOf (feet p))) ≡ hasStep (graph sp r body) (feet p) (entry v)
+  pub step-is : (p v : WaypointRecord) → has (leadsTo v) (stepsFrom sp r body (pointOf (p .feet))) ≡ hasStep (graph sp r body) (p .feet) (entry v)
   unfolding graph stepOf leadsTo
-  step-is p v = has-of (λ (u : Feet × Label). samePoint (u .0) (feet v) && alike (u .1) (label v)) stepOf (stepsFrom sp r body (pointOf (feet p)))
+  step-is p v = has-of (λ (u : Feet × Label). samePoint (u .0) (v .feet) && alike (u .1) (v .label)) stepOf (stepsFrom sp r body (pointOf (p .feet)))
 
-  pub connector-is : (p v : Listed) → connectorTo sp r body (pointOf (feet p)) v ≡ connects (graph sp r body) (feet p) (entry v)
+  pub connector-is : (p v : WaypointRecord) → connectorTo sp r body (pointOf (p .feet)) v ≡ connects (graph sp r body) (p .feet) (entry v)
   unfolding graph
-  connector-is p v = go (connector sp r body (pointOf (feet p)))
+  connector-is p v = go (connector sp r body (pointOf (p .feet)))
     where
-      go : (e : EdgeAnswer) → labelledBy e (label v) ≡ labelled (graph sp r body) (labelIf e) (label v)
+      go : (e : EdgeAnswer) → labelledBy e (v .label) ≡ labelled (graph sp r body) (labelIf e) (v .label)
       go Nowhere = refl
       go (To step) = refl
 
@@ -217,7 +218,7 @@ turned p q = λ i. eqb-turned (canonicalWord (p .x)) (canonicalWord (q .x)) i &&
 abbrev pub rest : List ℕ → ℕ → List (Feet × Label)
 rest s k = entriesFrom s k (length s / 40 - k)
 
-pub rest-on : (s : List ℕ) (k : ℕ) → k < length s / 40 → rest s k ≡ entry (listedAt s k) ∷ rest s (k + 1)
+pub rest-on : (s : List ℕ) (k : ℕ) → k < length s / 40 → rest s k ≡ entry (waypointAt s k) ∷ rest s (k + 1)
 unfolding entriesFrom
 rest-on s k h = let e : length s / 40 - k ≡ suc (length s / 40 - (k + 1)) = omega arith in rw (e, add-one)
 
@@ -225,53 +226,53 @@ pub rest-end : (s : List ℕ) (k : ℕ) → length s / 40 ≤ k → rest s k ≡
 unfolding entriesFrom
 rest-end s k h = let e : length s / 40 - k ≡ 0 = omega arith in rw e
 
-module _ (sp : Space) (r : Request) (body : Body) (s : List ℕ) (p : Listed) where
+module _ (sp : Space) (r : Request) (body : Body) (s : List ℕ) (p : WaypointRecord) where
   -- from the point of a record by the records from k on
   abbrev pub wayFrom : ℕ → Bool
-  wayFrom k = isWay (graph sp r body) (feet p) (rest s k)
+  wayFrom k = isWay (graph sp r body) (p .feet) (rest s k)
 
-  pub at-end : (k : ℕ) → length s / 40 ≤ k → wayFrom k ≡ samePoint (feetOf (r .goal)) (feet p)
+  pub at-end : (k : ℕ) → length s / 40 ≤ k → wayFrom k ≡ samePoint (feetOf (r .goal)) (p .feet)
   unfolding isWay graph
-  at-end k h = rw (rest-end s k h) (turned (feet p) (feetOf (r .goal)))
+  at-end k h = rw (rest-end s k h) (turned (p .feet) (feetOf (r .goal)))
 
   module _ (k : ℕ) (h : k < length s / 40) where
-    pub goes-on : has (leadsTo (listedAt s k)) (stepsFrom sp r body (pointOf (feet p))) ≡ true → wayFrom k ≡ isWay (graph sp r body) (feet (listedAt s k)) (rest s (k + 1))
-    goes-on e = rw (rest-on s k h) (way-stepped (graph sp r body) (feet p) (entry (listedAt s k)) (rest s (k + 1)) (sym (step-is sp r body p (listedAt s k)) ∙ e))
+    pub goes-on : has (leadsTo (waypointAt s k)) (stepsFrom sp r body (pointOf (p .feet))) ≡ true → wayFrom k ≡ isWay (graph sp r body) (waypointAt s k .feet) (rest s (k + 1))
+    goes-on e = rw (rest-on s k h) (way-stepped (graph sp r body) (p .feet) (entry (waypointAt s k)) (rest s (k + 1)) (sym (step-is sp r body p (waypointAt s k)) ∙ e))
 
-    module _ (e : has (leadsTo (listedAt s k)) (stepsFrom sp r body (pointOf (feet p))) ≡ false) where
-      missed : hasStep (graph sp r body) (feet p) (entry (listedAt s k)) ≡ false
-      missed = sym (step-is sp r body p (listedAt s k)) ∙ e
+    module _ (e : has (leadsTo (waypointAt s k)) (stepsFrom sp r body (pointOf (p .feet))) ≡ false) where
+      missed : hasStep (graph sp r body) (p .feet) (entry (waypointAt s k)) ≡ false
+      missed = sym (step-is sp r body p (waypointAt s k)) ∙ e
 
       pub broken : k + 1 < length s / 40 → wayFrom k ≡ false
-      broken l = rw (rest-on s k h, rest-on s (k + 1) l) (way-broken (graph sp r body) (feet p) (entry (listedAt s k)) (entry (listedAt s (k + 1))) (rest s (k + 1 + 1)) missed)
+      broken l = rw (rest-on s k h, rest-on s (k + 1) l) (way-broken (graph sp r body) (p .feet) (entry (waypointAt s k)) (entry (waypointAt s (k + 1))) (rest s (k + 1 + 1)) missed)
 
-      pub by-connector : length s / 40 ≤ k + 1 → wayFrom k ≡ (connectorTo sp r body (pointOf (feet p)) (listedAt s k) && samePoint (feet (listedAt s k)) (feetOf (r .goal)))
+      pub by-connector : length s / 40 ≤ k + 1 → wayFrom k ≡ (connectorTo sp r body (pointOf (p .feet)) (waypointAt s k) && samePoint (waypointAt s k .feet) (feetOf (r .goal)))
       unfolding graph
       by-connector l =
           rw (rest-on s k h, rest-end s (k + 1) l)
-          (way-last (graph sp r body) (feet p) (entry (listedAt s k)) missed ∙ ap (λ (b : Bool). b && samePoint (feet (listedAt s k)) (feetOf (r .goal))) (sym (connector-is sp r body p (listedAt s k))))
+          (way-last (graph sp r body) (p .feet) (entry (waypointAt s k)) missed ∙ ap (λ (b : Bool). b && samePoint (waypointAt s k .feet) (feetOf (r .goal))) (sym (connector-is sp r body p (waypointAt s k))))
 
 -- one turn of the loop: the record that was read, and the point that was made of the one before it
-module _ (sp : Space) (r : Request) (body : Body) (s : List ℕ) (p : Listed) (k : ℕ) (h : k < length s / 40) (v : Listed) (from : Point) (here : v ≡ listedAt s k) (there : from ≡ pointOf (feet p)) where
+module _ (sp : Space) (r : Request) (body : Body) (s : List ℕ) (p : WaypointRecord) (k : ℕ) (h : k < length s / 40) (v : WaypointRecord) (from : Point) (here : v ≡ waypointAt s k) (there : from ≡ pointOf (p .feet)) where
   pub pair-on : has (leadsTo v) (stepsFrom sp r body from) ≡ true → wayFrom sp r body s p k ≡ wayFrom sp r body s v (k + 1)
   pair-on e = rw here (goes-on sp r body s p k h (rw (here, there) at e))
 
   -- the last pair may be the connector
   pub pair-last : has (leadsTo v) (stepsFrom sp r body from) ≡ false →
-      wayFrom sp r body s p k ≡ ((eqb (k + 1) (length s / 40) && samePoint (feetOf (r .goal)) (feet v)) && connectorTo sp r body from v)
+      wayFrom sp r body s p k ≡ ((eqb (k + 1) (length s / 40) && samePoint (feetOf (r .goal)) (v .feet)) && connectorTo sp r body from v)
   pair-last e = go (eqb (k + 1) (length s / 40)) refl
     where
-      f : has (leadsTo (listedAt s k)) (stepsFrom sp r body (pointOf (feet p))) ≡ false
+      f : has (leadsTo (waypointAt s k)) (stepsFrom sp r body (pointOf (p .feet))) ≡ false
       f = rw (here, there) at e
 
       swap : (a b c : Bool) → b ≡ c → (a && b) ≡ (c && a)
       swap true b c t = t ∙ sym (and-true c)
       swap false b c t = sym (and-false c)
 
-      go : (b : Bool) → eqb (k + 1) (length s / 40) ≡ b → wayFrom sp r body s p k ≡ ((b && samePoint (feetOf (r .goal)) (feet v)) && connectorTo sp r body from v)
+      go : (b : Bool) → eqb (k + 1) (length s / 40) ≡ b → wayFrom sp r body s p k ≡ ((b && samePoint (feetOf (r .goal)) (v .feet)) && connectorTo sp r body from v)
       go true q =
           let l = eqb-true (k + 1) (length s / 40) q in
-          rw (here, there) (by-connector sp r body s p k h f (omega (arith, l)) ∙ swap (connectorTo sp r body (pointOf (feet p)) (listedAt s k)) _ _ (turned (feet (listedAt s k)) (feetOf (r .goal))))
+          rw (here, there) (by-connector sp r body s p k h f (omega (arith, l)) ∙ swap (connectorTo sp r body (pointOf (p .feet)) (waypointAt s k)) _ _ (turned (waypointAt s k .feet) (feetOf (r .goal))))
       go false q = broken sp r body s p k h f (omega (arith, eqb-false (k + 1) (length s / 40) q))
 
 -- ---- the tests of a list, in the code's order
@@ -280,7 +281,7 @@ no-waypoints : (s : List ℕ) → length s ≡ 0 → waypoints s ≡ []
 unfolding waypoints entriesFrom
 no-waypoints s e = let d : length s / 40 ≡ 0 = omega arith in rw d
 
-waypoints-are : (s : List ℕ) → 0 < length s / 40 → waypoints s ≡ entry (listedAt s 0) ∷ rest s 1
+waypoints-are : (s : List ℕ) → 0 < length s / 40 → waypoints s ≡ entry (waypointAt s 0) ∷ rest s 1
 unfolding waypoints
 waypoints-are s h = let e : length s / 40 ≡ length s / 40 - 0 = omega arith in ap (entriesFrom s 0) e ∙ rest-on s 0 h
 
@@ -295,20 +296,20 @@ module _ (sp : Space) (r : Request) (body : Body) (s : List ℕ) where
       ap (λ (b : Bool). eqb (length s % 40) 0 && endsGood sp r body && b) (ap (isRoute (graph sp r body)) (no-waypoints s e))
       ∙ and-false (eqb (length s % 40) 0 && endsGood sp r body)
 
-  first-is : (v : Listed) (ws : List (Feet × Label)) → isRoute (graph sp r body) (entry v ∷ ws) ≡ (starts (r .start) v && isWay (graph sp r body) (feet v) ws)
+  first-is : (v : WaypointRecord) (ws : List (Feet × Label)) → isRoute (graph sp r body) (entry v ∷ ws) ≡ (starts (r .start) v && isWay (graph sp r body) (v .feet) ws)
   unfolding isRoute graph
-  first-is v ws = sym (and-assoc (samePoint (feetOf (r .start)) (feet v)) (alike standing (label v)) _)
+  first-is v ws = sym (and-assoc (samePoint (feetOf (r .start)) (v .feet)) (alike standing (v .label)) _)
 
   -- the first record, and those behind it
-  in-order : eqb (length s % 40) 0 ≡ true → 0 < length s → isRouteList sp r body s ≡ (endsGood sp r body && (starts (r .start) (listedAt s 0) && isWay (graph sp r body) (feet (listedAt s 0)) (rest s 1)))
+  in-order : eqb (length s % 40) 0 ≡ true → 0 < length s → isRouteList sp r body s ≡ (endsGood sp r body && (starts (r .start) (waypointAt s 0) && isWay (graph sp r body) (waypointAt s 0 .feet) (rest s 1)))
   unfolding isRouteList
   in-order e l =
       let whole = eqb-true (length s % 40) 0 e in
       let h : 0 < length s / 40 = omega (arith, whole) in
-      rw e (ap (λ (b : Bool). endsGood sp r body && b) (ap (isRoute (graph sp r body)) (waypoints-are s h) ∙ first-is (listedAt s 0) (rest s 1)))
+      rw e (ap (λ (b : Bool). endsGood sp r body && b) (ap (isRoute (graph sp r body)) (waypoints-are s h) ∙ first-is (waypointAt s 0) (rest s 1)))
 
   -- whole records, and not none; the start first; good ends; and a way
-  pub route-is : (begins (r .start) s && endsGood sp r body && isWay (graph sp r body) (feet (listedAt s 0)) (rest s 1)) ≡ isRouteList sp r body s
+  pub route-is : (begins (r .start) s && endsGood sp r body && isWay (graph sp r body) (waypointAt s 0 .feet) (rest s 1)) ≡ isRouteList sp r body s
   route-is = go (eqb (length s % 40) 0) refl (ltb 0 (length s)) refl
     where
       turn : (a b c : Bool) → (a && b && c) ≡ (b && (a && c))
@@ -316,7 +317,7 @@ module _ (sp : Space) (r : Request) (body : Body) (s : List ℕ) where
       turn false b c = sym (and-false b)
 
       go : (a : Bool) → eqb (length s % 40) 0 ≡ a → (b : Bool) → ltb 0 (length s) ≡ b →
-          (a && b && starts (r .start) (listedAt s 0) && endsGood sp r body && isWay (graph sp r body) (feet (listedAt s 0)) (rest s 1)) ≡ isRouteList sp r body s
-      go true e true f = turn (starts (r .start) (listedAt s 0)) (endsGood sp r body) _ ∙ sym (in-order e (ltb-true 0 (length s) f))
+          (a && b && starts (r .start) (waypointAt s 0) && endsGood sp r body && isWay (graph sp r body) (waypointAt s 0 .feet) (rest s 1)) ≡ isRouteList sp r body s
+      go true e true f = turn (starts (r .start) (waypointAt s 0)) (endsGood sp r body) _ ∙ sym (in-order e (ltb-true 0 (length s) f))
       go true e false f = sym (empty-list (omega (arith, ltb-false 0 (length s) f)))
       go false e b f = sym (partial-record e)

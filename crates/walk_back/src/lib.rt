@@ -1,6 +1,6 @@
 // The walk-back (01, Modules 5): whether a list of waypoint records is a route. It searches nothing and reads no rooms.
 //
-// The crate `listed` has the records of the list and how they compare, `pairs` whether one pair is a graph step, and here the list is gone through once.
+// `rooms` reads a record of the list, `listed` compares it, `pairs` has whether one pair is a graph step, and here the list is gone through once.
 mod pairs;
 
 ghost use mathlib.Core.Path.{_≡_};
@@ -9,9 +9,9 @@ ghost use lib.ListN.{length};
 ghost use Rattle.world.specs.Space.{space};
 ghost use Rattle.exploration.specs.WalkBack.{isWay};
 ghost use Rattle.steps.specs.Graph.{graph};
-ghost use Rattle.listed.specs.Listed.{listedAt, feet, entriesFrom};
+ghost use Rattle.rooms.specs.Records.{waypointAt};
+ghost use Rattle.listed.specs.Listed.{entriesFrom};
 ghost use Rattle.walk_back.specs.WalkBack.{walked};
-use rooms::Feet;
 use world::Body;
 use world::Request;
 use world::Window;
@@ -29,14 +29,14 @@ fn leads(
     w: Window, cells: &[u8], perms: &[u8], shapes: &[u8], boxes: &[u8],
     r: Request, body: Body, list: &[u8],
 ) -> bool
-    ensures { λ a. ⌜ a ≡ isWay (graph (space w (now (cells .entry)) (now (perms .entry)) (now (shapes .entry)) (now (boxes .entry))) r body) (feet (listedAt (now (list .entry)) 0)) (entriesFrom (now (list .entry)) 1 (length (now (list .entry)) / 40 - 1)) ⌝ }
+    ensures { λ a. ⌜ a ≡ isWay (graph (space w (now (cells .entry)) (now (perms .entry)) (now (shapes .entry)) (now (boxes .entry))) r body) (waypointAt (now (list .entry)) 0 .feet) (entriesFrom (now (list .entry)) 1 (length (now (list .entry)) / 40 - 1)) ⌝ }
 {
     let n = list.len() / 40;
-    let mut last = listed::listed_at(list, 0);
+    let mut last = rooms::get_waypoint(list, 0);
     let mut k: usize = 1;
     while k < n {
-        let from = words::point_of(Feet { x: last.x, y: last.y, z: last.z });
-        let v = listed::listed_at(list, k);
+        let from = words::point_of(last.feet);
+        let v = rooms::get_waypoint(list, k);
         if !pairs::has_step(w, cells, perms, shapes, boxes, r, body, from, v) {
             return ((k + 1 == n) & listed::same_feet(r.goal, v))
                 && listed::labelled_by(edges::connector(w, cells, perms, shapes, boxes, r, body, from), v);

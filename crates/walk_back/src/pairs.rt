@@ -13,8 +13,8 @@ ghost use Rattle.listed.specs.Compared.{leadsTo};
 ghost use Rattle.walk_back.specs.Laws.{Noted};
 use heights::Band;
 use heights::Height;
-use listed::Listed;
 use moves::EdgeAnswer;
+use rooms::WaypointRecord;
 use sides::Sides;
 use world::Body;
 use world::Point;
@@ -30,7 +30,7 @@ pub(crate) struct Looked {
 // What column n says; one that is not looked at has no edges.
 fn look_column(
     w: Window, cells: &[u8], perms: &[u8], shapes: &[u8], boxes: &[u8],
-    r: Request, body: Body, from: Point, band: Band, looked: bool, n: usize, v: Listed,
+    r: Request, body: Body, from: Point, band: Band, looked: bool, n: usize, v: WaypointRecord,
 ) -> Looked
     requires { ⌜ band ≡ bandOf r body from ⌝ }
     requires { ⌜ looked ≡ lookedBy (sidesBefore (space w (now cells) (now perms) (now shapes) (now boxes)) r body from n) n ⌝ }
@@ -57,7 +57,7 @@ fn look_column(
 // Whether a graph step leads from a point to a record.
 pub(crate) fn has_step(
     w: Window, cells: &[u8], perms: &[u8], shapes: &[u8], boxes: &[u8],
-    r: Request, body: Body, from: Point, v: Listed,
+    r: Request, body: Body, from: Point, v: WaypointRecord,
 ) -> bool
     ensures { λ a. ⌜ a ≡ has (leadsTo v) (stepsFrom (space w (now (cells .entry)) (now (perms .entry)) (now (shapes .entry)) (now (boxes .entry))) r body from) ⌝ }
 {

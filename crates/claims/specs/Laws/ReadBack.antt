@@ -1,7 +1,6 @@
 -- A list in bytes is read back as the list, where its words fit their fields.
 use Prim.Native.Nat.{ℕ, suc, _+_, _*_, _/_, _%_}
 use native.Mathlib.Omega.{arith}
-use native.Mathlib.Nat.{add-zero}
 use mathlib.Core.Path.{_≡_, refl, sym, ap, _∙_}
 use mathlib.Core.List.{List, [], _∷_, _++_, append-assoc}
 use lib.ListN.{length, take, length-append}
@@ -13,9 +12,9 @@ use Rattle.fields.specs.Records.{fieldsAt, recordBytes, Fill}
 use Rattle.fields.specs.RecordLaws.{length-record-bytes}
 use Rattle.rooms.specs.declared.Feet.{Feet}
 use Rattle.rooms.specs.declared.Label.{Label}
-use Rattle.rooms.specs.Records.{waypointLayout, waypointWords, feetFrom, labelFrom}
+use Rattle.rooms.specs.Records.{waypointLayout, waypointWords, waypointFrom, waypointAt}
 use Rattle.rooms.specs.Lists.{waypointBytes, listBytes}
-use Rattle.listed.specs.Listed.{listedAt, entry, entriesFrom, waypoints}
+use Rattle.listed.specs.Listed.{entry, entriesFrom, waypoints}
 use Rattle.claims.specs.Laws.Fits.{Each, end, more}
 use Rattle.claims.specs.Laws.Below.{Words64, fills}
 
@@ -46,17 +45,10 @@ length-list [] = refl
 length-list (w ∷ t) = omega (arith, length-append (waypointBytes w) (listBytes t), long w, length-list t)
 
 -- the waypoint at a place
-abbrev ofWords : List ℕ → Feet × Label
-ofWords vs = (feetFrom vs, labelFrom vs)
-
-entry-words : (s : List ℕ) (k : ℕ) → entry (listedAt s k) ≡ ofWords (fieldsAt waypointLayout s (40 * k) 0)
-unfolding listedAt
-entry-words s k = rw (add-zero (40 * k))
-
-waypoint-between : (w : Feet × Label) (p rest : List ℕ) (k : ℕ) → Words64 w → length p ≡ 40 * k → entry (listedAt (p ++ (waypointBytes w ++ rest)) k) ≡ w
+waypoint-between : (w : Feet × Label) (p rest : List ℕ) (k : ℕ) → Words64 w → length p ≡ 40 * k → entry (waypointAt (p ++ (waypointBytes w ++ rest)) k) ≡ w
+unfolding waypointAt
 waypoint-between w p rest k h e =
-    entry-words (p ++ (waypointBytes w ++ rest)) k
-    ∙ ap ofWords (record-between waypointLayout (waypointWords (w .0) (w .1)) p rest (40 * k) 0 (fills w h) (omega arith))
+    ap (λ (vs : List ℕ). entry (waypointFrom vs)) (record-between waypointLayout (waypointWords (w .0) (w .1)) p rest (40 * k) 0 (fills w h) (omega arith))
 
 entries-between : {t : List (Feet × Label)} → Each Words64 t → (p : List ℕ) (k : ℕ) → length p ≡ 40 * k → entriesFrom (p ++ listBytes t) k (length t) ≡ t
 unfolding entriesFrom

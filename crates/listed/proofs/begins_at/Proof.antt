@@ -9,8 +9,8 @@ use Rattle.listed.specs.Compared.{starts}
 use Rattle.listed.proofs.begins_at.Statement.{statement}
 use Rattle.listed.proofs.begins_at.Tie as tie
 
-listed-at-requires : tie.Need-listed-at-requires
-listed-at-requires c κs = tt
+get-waypoint-requires : tie.Need-get-waypoint-requires
+get-waypoint-requires c κs = tt
 
 is-start-requires : tie.Need-is-start-requires
 is-start-requires c κs = tt
@@ -18,7 +18,7 @@ is-start-requires c κs = tt
 returns : tie.Need-returns
 returns c =
     let a = c .before .before .before .args in
-    ap (λ (b : Bool). eqb (length (now (a .list)) % 40) 0 && ltb 0 (length (now (a .list))) && b) (c .is-start .ensures ∙ ap (starts (a .start)) (c .before .listed-at .ensures))
+    ap (λ (b : Bool). eqb (length (now (a .list)) % 40) 0 && ltb 0 (length (now (a .list))) && b) (c .is-start .ensures ∙ ap (starts (a .start)) (c .before .get-waypoint .ensures))
 
 pub begins-at-spec : {M : Type 1} → statement M
-begins-at-spec = tie.close (tie.spec listed-at-requires is-start-requires returns)
+begins-at-spec = tie.close (tie.spec get-waypoint-requires is-start-requires returns)

@@ -13,7 +13,7 @@ same-word-requires c κs = tt
 
 returns : tie.Need-returns
 unfolding alike
-returns c = λ i. c .before .before .same-feet .ensures i && (eqb 0 (c .before .before .before .args .v .movement) && c .same-word .ensures i)
+returns c = λ i. c .before .before .same-feet .ensures i && (eqb 0 (c .before .before .before .args .v .label .movement) && c .same-word .ensures i)
 
 pub is-start-spec : {M : Type 1} → statement M
 is-start-spec = tie.close (tie.spec same-feet-requires same-word-requires returns)

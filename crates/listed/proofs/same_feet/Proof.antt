@@ -2,7 +2,6 @@
 use mathlib.Core.Path.{ap, _∙_}
 use Rattle.rooms.specs.declared.Feet.{Feet}
 use Rattle.rooms.specs.Waypoints.{samePoint}
-use Rattle.listed.specs.Listed.{feet}
 use Rattle.listed.proofs.same_feet.Statement.{statement}
 use Rattle.listed.proofs.same_feet.Tie as tie
 
@@ -13,7 +12,7 @@ same-point-requires : tie.Need-same-point-requires
 same-point-requires c κs = tt
 
 returns : tie.Need-returns
-returns c = c .same-point .ensures ∙ ap (λ (p : Feet). samePoint p (feet (c .before .before .args .v))) (c .before .feet-of .ensures)
+returns c = c .same-point .ensures ∙ ap (λ (p : Feet). samePoint p (c .before .before .args .v .feet)) (c .before .feet-of .ensures)
 
 pub same-feet-spec : {M : Type 1} → statement M
 same-feet-spec = tie.close (tie.spec feet-of-requires same-point-requires returns)

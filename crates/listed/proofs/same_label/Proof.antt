@@ -21,8 +21,8 @@ returns : tie.Need-returns
 unfolding alike labelOf
 returns c =
     let v = c .before .before .before .before .args .v in
-    let lifts = c .same-word .ensures ∙ ap (λ (b : ℕ). sameWord b (v .lift)) (c .before .before .bits-of .ensures) in
-    λ i. eqb (c .before .before .before .movement-number .ensures i) (v .movement) && lifts i
+    let lifts = c .same-word .ensures ∙ ap (λ (b : ℕ). sameWord b (v .label .lift)) (c .before .before .bits-of .ensures) in
+    λ i. eqb (c .before .before .before .movement-number .ensures i) (v .label .movement) && lifts i
 
 pub same-label-spec : {M : Type 1} → statement M
 same-label-spec = tie.close (tie.spec movement-number-requires bits-of-requires same-word-requires returns)

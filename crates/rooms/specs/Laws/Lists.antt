@@ -17,12 +17,12 @@ use Rattle.rooms.specs.declared.Label.{Label}
 use Rattle.rooms.specs.declared.Counts.{Counts}
 use Rattle.rooms.specs.Records.{nodeAt}
 use Rattle.rooms.specs.Rooms.{nobody, parentOf, nodeOf, nodeIn, nodesOf, stateOf}
-use Rattle.rooms.specs.Lists.{waypointAt, walk, listOf}
+use Rattle.rooms.specs.Lists.{nodeWaypoint, walk, listOf}
 use Rattle.rooms.specs.Laws.Rooms.{nth-firsts}
 
 -- ---- one turn of a walk
 
-pub walk-on : (f g : ℕ) (a : List ℕ) (n k : ℕ) → f ≡ suc g → k < n → walk f a n k ≡ waypointAt a k ∷ walk g a n (nodeAt a k .parent)
+pub walk-on : (f g : ℕ) (a : List ℕ) (n k : ℕ) → f ≡ suc g → k < n → walk f a n k ≡ nodeWaypoint a k ∷ walk g a n (nodeAt a k .parent)
 walk-on f g a n k e h = ap (λ (i : ℕ). walk i a n k) e ∙ (let t = lt-ltb k n h in rw t)
 
 pub walk-off : (f : ℕ) (a : List ℕ) (n k : ℕ) → n ≤ k → walk f a n k ≡ []
@@ -55,7 +55,7 @@ module _ (a fr : List ℕ) (n : ℕ) (small : n ≤ nobody) where
   unfolding nodeOf
   walk-trace zero k = refl
   walk-trace (suc f) k = ⊎-elim
-      (λ h. ap (trace (suc f) (nodesOf n a fr)) (some-parent k (omega arith)) ∙ ap (traceAt (trace f (nodesOf n a fr))) (nth-firsts n (nodeIn a fr) k h) ∙ ap (λ (l : List (Feet × Label)). waypointAt a k ∷ l) (walk-trace f (nodeAt a k .parent)) ∙ sym (walk-on (suc f) f a n k refl h))
+      (λ h. ap (trace (suc f) (nodesOf n a fr)) (some-parent k (omega arith)) ∙ ap (traceAt (trace f (nodesOf n a fr))) (nth-firsts n (nodeIn a fr) k h) ∙ ap (λ (l : List (Feet × Label)). nodeWaypoint a k ∷ l) (walk-trace f (nodeAt a k .parent)) ∙ sym (walk-on (suc f) f a n k refl h))
       (λ h. off f k h (eqb k nobody) refl ∙ sym (walk-off (suc f) a n k h))
       (in-or-out k n)
 

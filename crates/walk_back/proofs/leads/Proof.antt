@@ -12,11 +12,11 @@ use mir.Syntax.{w64}
 use mir.Val.{Fits}
 use Rattle.world.specs.Space.{Space, space}
 use Rattle.moves.specs.declared.answer.EdgeAnswer.{EdgeAnswer}
+use Rattle.rooms.specs.declared.WaypointRecord.{WaypointRecord}
+use Rattle.rooms.specs.Records.{waypointAt}
 use Rattle.rooms.specs.Waypoints.{samePoint}
 use Rattle.words.specs.Words.{feetOf}
 use Rattle.places.specs.Laws.{asked, spared}
-use Rattle.listed.specs.declared.Listed.{Listed}
-use Rattle.listed.specs.Listed.{listedAt, feet, label}
 use Rattle.listed.specs.Compared.{labelledBy}
 use Rattle.walk_back.specs.Laws.{connectorTo, wayFrom, at-end, pair-on, pair-last}
 use Rattle.walk_back.proofs.leads.Statement.{statement}
@@ -25,7 +25,7 @@ use Rattle.walk_back.proofs.leads.Tie as tie
 abbrev Inv-loop : tie.InvT-loop
 Inv-loop w cells perms shapes boxes r body list n last₀ k₀ last k =
     let sp = space w cells perms shapes boxes in
-    wayFrom sp r body list (listedAt list 0) 1 ≡ wayFrom sp r body list last k
+    wayFrom sp r body list (waypointAt list 0) 1 ≡ wayFrom sp r body list last k
 
 abbrev μ-loop : tie.MeasureT-loop
 μ-loop w cells perms shapes boxes r body list n last₀ k₀ last k = n - k
@@ -39,28 +39,28 @@ fits c = search needs
 
 -- the last pair, and to the goal
 at-goal : (c : tie.After-same-feet Inv-loop μ-loop) → let s = c .before .before .before .before .before .before .before .before .before .before .before .before .before in
-    (eqb (c .before .before .before .before .before .before .loop .k + 1) (length (now (s .args .list)) / 40) && c .same-feet .result) ≡ (eqb (c .before .before .before .before .before .before .loop .k + 1) (length (now (s .args .list)) / 40) && samePoint (feetOf (s .args .r .goal)) (feet (c .before .before .before .listed-at2 .result)))
+    (eqb (c .before .before .before .before .before .before .loop .k + 1) (length (now (s .args .list)) / 40) && c .same-feet .result) ≡ (eqb (c .before .before .before .before .before .before .loop .k + 1) (length (now (s .args .list)) / 40) && samePoint (feetOf (s .args .r .goal)) (c .before .before .before .get-waypoint2 .result .feet))
 at-goal c = ap (λ (b : Bool). eqb (c .before .before .before .before .before .before .loop .k + 1) (length (now (c .before .before .before .before .before .before .before .before .before .before .before .before .before .args .list)) / 40) && b) (c .same-feet .ensures)
 
 -- what the code goes by where no graph step leads to the record
 last-pair : (c : tie.After-same-feet Inv-loop μ-loop) → let s = c .before .before .before .before .before .before .before .before .before .before .before .before .before in
-    wayFrom (sp s) (s .args .r) (s .args .body) (now (s .args .list)) (listedAt (now (s .args .list)) 0) 1
-    ≡ ((eqb (c .before .before .before .before .before .before .loop .k + 1) (length (now (s .args .list)) / 40) && samePoint (feetOf (s .args .r .goal)) (feet (c .before .before .before .listed-at2 .result))) && connectorTo (sp s) (s .args .r) (s .args .body) (c .before .before .before .before .point-of .result) (c .before .before .before .listed-at2 .result))
+    wayFrom (sp s) (s .args .r) (s .args .body) (now (s .args .list)) (waypointAt (now (s .args .list)) 0) 1
+    ≡ ((eqb (c .before .before .before .before .before .before .loop .k + 1) (length (now (s .args .list)) / 40) && samePoint (feetOf (s .args .r .goal)) (c .before .before .before .get-waypoint2 .result .feet)) && connectorTo (sp s) (s .args .r) (s .args .body) (c .before .before .before .before .point-of .result) (c .before .before .before .get-waypoint2 .result))
 last-pair c =
     let s = c .before .before .before .before .before .before .before .before .before .before .before .before .before in
-    c .before .before .before .before .before .before .loop .inv ∙ pair-last (sp s) (s .args .r) (s .args .body) (now (s .args .list)) (c .before .before .before .before .before .before .loop .last) (c .before .before .before .before .before .before .loop .k) (c .before .before .before .before .before .loop-test .taken) _ _ (c .before .before .before .listed-at2 .ensures) (c .before .before .before .before .point-of .ensures) (sym (c .before .before .has-step .ensures) ∙ not-true _ (c .before .if1 .taken))
+    c .before .before .before .before .before .before .loop .inv ∙ pair-last (sp s) (s .args .r) (s .args .body) (now (s .args .list)) (c .before .before .before .before .before .before .loop .last) (c .before .before .before .before .before .before .loop .k) (c .before .before .before .before .before .loop-test .taken) _ _ (c .before .before .before .get-waypoint2 .ensures) (c .before .before .before .before .point-of .ensures) (sym (c .before .before .has-step .ensures) ∙ not-true _ (c .before .if1 .taken))
 
-listed-at-requires : tie.Need-listed-at-requires Inv-loop μ-loop
-listed-at-requires c κs = tt
+get-waypoint-requires : tie.Need-get-waypoint-requires Inv-loop μ-loop
+get-waypoint-requires c κs = tt
 
 loop-holds : tie.Need-loop-holds Inv-loop μ-loop
-loop-holds c = let s = c .before .before .before .before .before .before in ap (λ (v : Listed). wayFrom (sp s) (s .args .r) (s .args .body) (now (s .args .list)) v 1) (sym (c .listed-at .ensures))
+loop-holds c = let s = c .before .before .before .before .before .before in ap (λ (v : WaypointRecord). wayFrom (sp s) (s .args .r) (s .args .body) (now (s .args .list)) v 1) (sym (c .get-waypoint .ensures))
 
 point-of-requires : tie.Need-point-of-requires Inv-loop μ-loop
 point-of-requires c κs = tt
 
-listed-at-requires-2 : tie.Need-listed-at-requires-2 Inv-loop μ-loop
-listed-at-requires-2 c κs = tt
+get-waypoint-requires-2 : tie.Need-get-waypoint-requires-2 Inv-loop μ-loop
+get-waypoint-requires-2 c κs = tt
 
 has-step-requires : tie.Need-has-step-requires Inv-loop μ-loop
 has-step-requires c κs = tt
@@ -79,7 +79,7 @@ labelled-by-requires c κs = tt
 
 returns : tie.Need-returns Inv-loop μ-loop
 returns c =
-    asked (at-goal (c .before .before .before)) (c .before .before .if2 .taken) (c .labelled-by .ensures ∙ ap (λ (e : EdgeAnswer). labelledBy e (label (c .before .before .before .before .before .before .listed-at2 .result))) (c .before .connector .ensures))
+    asked (at-goal (c .before .before .before)) (c .before .before .if2 .taken) (c .labelled-by .ensures ∙ ap (λ (e : EdgeAnswer). labelledBy e (c .before .before .before .before .before .before .get-waypoint2 .result .label)) (c .before .connector .ensures))
     ∙ sym (last-pair (c .before .before .before))
 
 returns-2 : tie.Need-returns-2 Inv-loop μ-loop
@@ -95,7 +95,7 @@ loop-again : tie.Need-loop-again Inv-loop μ-loop
 loop-again c =
     let s = c .before .before .before .before .before .before .before .before .before .before .before .before in
     c .before .before .before .before .before .loop .inv
-    ∙ pair-on (sp s) (s .args .r) (s .args .body) (now (s .args .list)) (c .before .before .before .before .before .loop .last) (c .before .before .before .before .before .loop .k) (c .before .before .before .before .loop-test .taken) _ _ (c .before .before .listed-at2 .ensures) (c .before .before .before .point-of .ensures) (sym (c .before .has-step .ensures) ∙ not-false _ (c .if1 .left))
+    ∙ pair-on (sp s) (s .args .r) (s .args .body) (now (s .args .list)) (c .before .before .before .before .before .loop .last) (c .before .before .before .before .before .loop .k) (c .before .before .before .before .loop-test .taken) _ _ (c .before .before .get-waypoint2 .ensures) (c .before .before .before .point-of .ensures) (sym (c .before .has-step .ensures) ∙ not-false _ (c .if1 .left))
 
 same-feet-requires-2 : tie.Need-same-feet-requires-2 Inv-loop μ-loop
 same-feet-requires-2 c κs = tt
@@ -111,10 +111,10 @@ leads-spec =
     (tie.spec
     Inv-loop
     μ-loop
-    listed-at-requires
+    get-waypoint-requires
     loop-holds
     point-of-requires
-    listed-at-requires-2
+    get-waypoint-requires-2
     has-step-requires
     add-if2
     same-feet-requires
