@@ -166,7 +166,7 @@ module _ {A : Type 0} (bytes : A → List ℕ) where
 
 -- ---- the list of a table's records: one more, one set
 
-last-or : (k n : ℕ) → k < suc n → (k < n) ⊎ (k ≡ n)
+pub last-or : (k n : ℕ) → k < suc n → (k < n) ⊎ (k ≡ n)
 last-or zero zero h = inr refl
 last-or zero (suc n) h = inl (omega arith)
 last-or (suc k) zero h = absurd (omega arith)

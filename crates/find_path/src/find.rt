@@ -35,10 +35,11 @@ pub fn find_path(
     ensures out { λ _. ⌜ now (out .exit) ≡ outAfterPath policy «in_water» (now (flags .entry)) w (now (cells .entry)) (now (perms .entry)) (now (shapes .entry)) (now (boxes .entry)) start goal body (now (nodes .entry)) (now (front .entry)) (now (out .entry)) ⌝ }
 {
     match policy.fill_permissions(in_water, flags, perms) {
-        Filled::BadTable => return Path::BadTable,
-        Filled::Whole => {}
+        Filled::BadTable => Path::BadTable,
+        Filled::Whole => {
+            let r = mob_request::request_of(policy, start, goal, body);
+            let answer = search::find_walk_path(w, cells, perms, shapes, boxes, r, body, nodes, front, out);
+            Path::Searched(answer)
+        }
     }
-    let r = mob_request::request_of(policy, start, goal, body);
-    let answer = search::find_walk_path(w, cells, perms, shapes, boxes, r, body, nodes, front, out);
-    Path::Searched(answer)
 }

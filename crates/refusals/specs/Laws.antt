@@ -8,7 +8,7 @@ use native.Mathlib.Nat.{mul-comm, div-lt-iff-lt-mul, le-div-iff-mul-le}
 use native.Mathlib.Omega.{arith}
 use lib.Dec.{eqb, leb, ltb}
 use borrow.Author.Tests.{ltb-true, ltb-false, lt-ltb, le-ltb, le-leb, lt-leb}
-use Rattle.exploration.specs.Laws.Lists.{none-some}
+use Rattle.exploration.specs.Laws.Lists.{none-some, or-false}
 use Rattle.world.specs.declared.Body.{Body}
 use Rattle.world.specs.declared.Request.{Request}
 use Rattle.world.specs.declared.Window.{Window}
@@ -21,14 +21,6 @@ use Rattle.outcomes.specs.declared.Outcome.the-variants.{Unreachable, BudgetExc
 use Rattle.refusals.specs.Refusals.{noRoom, withoutSearch}
 
 -- ---- rooms: the code divides, 01's numbers multiply
-
-or-false-left : (a b : Bool) → (a || b) ≡ false → a ≡ false
-or-false-left true b e = e
-or-false-left false b e = refl
-
-or-false-right : (a b : Bool) → (a || b) ≡ false → b ≡ false
-or-false-right true b e = absurd (let z : _≡_ {A = ℕ} 0 1 = cc in omega arith)
-or-false-right false b e = e
 
 -- under n records of d bytes: as many whole records, or bytes
 few : (d n x : ℕ) → 0 < d → ltb (x / d) n ≡ ltb x (d * n)
@@ -106,19 +98,19 @@ module _ (w : Window) (cells perms shapes boxes : List ℕ) (r : Request) (body 
 
   small : large ≡ false → r .«node_budget» ≤ 4096
   unfolding tooLarge
-  small e = ltb-false 4096 (r .«node_budget») (or-false-right (sizesTooLarge r body) (ltb 4096 (r .«node_budget»)) e)
+  small e = ltb-false 4096 (r .«node_budget») (or-false (sizesTooLarge r body) (ltb 4096 (r .«node_budget»)) e .1)
 
   has-room : bad ≡ false → large ≡ false → short ≡ false → Begun
   unfolding noRoom
   has-room b l e =
       let n = r .«node_budget» in
-      let f = or-false-left (ltb nodes (56 * n) || ltb front (24 * n)) (ltb out (40 * (n + 1))) e in
+      let f = or-false (ltb nodes (56 * n) || ltb front (24 * n)) (ltb out (40 * (n + 1))) e .0 in
       record {
         world = b;
         few-nodes = small l;
-        node-room = ltb-false nodes (56 * n) (or-false-left (ltb nodes (56 * n)) (ltb front (24 * n)) f);
-        front-room = ltb-false front (24 * n) (or-false-right (ltb nodes (56 * n)) (ltb front (24 * n)) f);
-        out-room = ltb-false out (40 * (n + 1)) (or-false-right (ltb nodes (56 * n) || ltb front (24 * n)) (ltb out (40 * (n + 1))) e) }
+        node-room = ltb-false nodes (56 * n) (or-false (ltb nodes (56 * n)) (ltb front (24 * n)) f .0);
+        front-room = ltb-false front (24 * n) (or-false (ltb nodes (56 * n)) (ltb front (24 * n)) f .1);
+        out-room = ltb-false out (40 * (n + 1)) (or-false (ltb nodes (56 * n) || ltb front (24 * n)) (ltb out (40 * (n + 1))) e .1) }
 
   -- a test that a search passed was not met
   passed : (b : Bool) (o : Outcome) (x : Option Outcome) → cond b (some o) x ≡ none → (b ≡ false) × (x ≡ none)

@@ -11,7 +11,7 @@ ghost use Rattle.fields.specs.Records.{recordAt};
 ghost use Rattle.rooms.specs.Records.{feetFrom, waypointFrom, waypointLayout, waypointAt, nodeAt, entryAt};
 ghost use Rattle.rooms.specs.Laws.Fields.{Offset};
 
-// Where record k of a room is read, at so many bytes a record. One past the end is read at the end, where every field is 0 too: so that no reader has a branch.
+// Where record k of a room is read, at so many bytes a record. One past the end is read at the end, where every field is 0 too, so no reader branches.
 fn offset_of(room: &[u8], size: usize, k: usize) -> usize
     requires { ⌜ 0 < size ⌝ }
     ensures { λ r. ⌜ Offset (now (room .entry)) (size * k) r ⌝ }

@@ -1,6 +1,6 @@
 -- The ways out of `step_to`, as its proof cites them.
-use mathlib.Core.Path.{_≡_, refl, ap, subst}
-use mathlib.Core.Bool.{Bool, true, false, _||_}
+use mathlib.Core.Path.{_≡_, refl, sym, ap, subst}
+use mathlib.Core.Bool.{Bool, false, _||_, or-false}
 use mathlib.Core.List.{List}
 use Prim.Native.Nat.{ℕ}
 use Rattle.moves.specs.declared.answer.Waypoint.{Waypoint}
@@ -18,14 +18,10 @@ use Rattle.strides.specs.declared.Place.{Place}
 use Rattle.strides.specs.declared.Column.{Column}
 use Rattle.strides.specs.Strides.{Strode}
 
-or-none : (b : Bool) → b ≡ (b || false)
-or-none true = refl
-or-none false = refl
-
 module _ {aim : Aim} {at : Place} {c : Column} {a f : List ℕ} (e : EdgeAnswer) where
   pub strode-nowhere : Nowhere ≡ e → Strode aim at e c c a f a f
   strode-nowhere i = subst (λ (x : EdgeAnswer). Strode aim at x c c a f a f) i
-      (record { noted = or-none (c .level); visited = record { counts = refl; nodes = refl; front = refl } })
+      (record { noted = sym (or-false (c .level)); visited = record { counts = refl; nodes = refl; front = refl } })
 
   -- where a visit answers v
   pub strode-to : {v : Visit} {b g : List ℕ} (w : Waypoint) (p : Feet) (l : Label) (flat : Bool) → To w ≡ e → p ≡ feetOf (w .feet) → l ≡ labelOf w

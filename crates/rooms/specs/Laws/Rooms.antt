@@ -14,13 +14,12 @@ use Rattle.exploration.specs.Graph.{Graph}
 use Rattle.exploration.specs.Policy.{Node}
 use Rattle.exploration.specs.Explore.{seek, headOr}
 use Rattle.exploration.specs.Choose.{choose, scan, keep, swap}
-use Rattle.exploration.specs.Estimates as estimates
 use Rattle.exploration.specs.Estimates.{sooner}
 use Rattle.exploration.specs.Laws.Lists.{nth-left, nth-last, nth-lt, map-snoc}
 use Rattle.exploration.specs.Laws.Choices.{choose-some}
 use Rattle.fields.specs.Pieces.{Bytes}
 use Rattle.fields.specs.Records.{firsts, recordsBytes}
-use Rattle.fields.specs.RecordLaws.{length-firsts, firsts-more, firsts-set, record-bytes, room-is}
+use Rattle.fields.specs.RecordLaws.{last-or, length-firsts, firsts-more, firsts-set, record-bytes, room-is}
 use Rattle.rooms.specs.declared.Feet.{Feet}
 use Rattle.rooms.specs.declared.Label.{Label}
 use Rattle.rooms.specs.declared.NodeRecord.{NodeRecord}
@@ -34,12 +33,6 @@ use Rattle.rooms.specs.Laws.Writes.{WroteNode, WroteEntry}
 use Rattle.rooms.specs.Laws.Scans.{First, first-is}
 
 -- ---- the first n values of a function, by place
-
-pub last-or : (k n : ℕ) → k < suc n → (k < n) ⊎ (k ≡ n)
-last-or zero zero h = inr refl
-last-or zero (suc n) h = inl (omega arith)
-last-or (suc k) zero h = absurd (omega arith)
-last-or (suc k) (suc n) h = ⊎-elim (λ l. inl (omega arith)) (λ e. inr (ap suc e)) (last-or k n (omega arith))
 
 pub nth-firsts : {A : Type 0} (n : ℕ) (g : ℕ → A) (k : ℕ) → k < n → nth (firsts n g) k ≡ some (g k)
 nth-firsts zero g k h = absurd (omega arith)

@@ -1,6 +1,6 @@
 -- How steps of an expansion compose, and the paths of the code through a column and through the columns.
 use mathlib.Core.Path.{_≡_, refl, sym, ap, subst, _∙_}
-use mathlib.Core.Bool.{Bool, true, false, _||_}
+use mathlib.Core.Bool.{Bool, true, false, _||_, or-false, or-assoc}
 use mathlib.Core.List.{List, [], _∷_, _++_, map, append-nil, append-assoc}
 use Prim.Native.Nat.{ℕ, _+_, _≤_, _<_}
 use native.Mathlib.Omega.{arith}
@@ -40,18 +40,10 @@ ready-after p n h x y = record { node-room = omega (arith, p .node-room); front-
 
 -- ---- steps, one lot after the other
 
-or-none : (b : Bool) → b ≡ (b || false)
-or-none true = refl
-or-none false = refl
-
-or-assoc : (a b d : Bool) → (a || (b || d)) ≡ ((a || b) || d)
-or-assoc true b d = refl
-or-assoc false b d = refl
-
 level-append : (p : Point) (ws vs : List Waypoint) → level p (ws ++ vs) ≡ (level p ws || level p vs)
 unfolding level
 level-append p [] vs = refl
-level-append p (w ∷ ws) vs = ap (λ (b : Bool). levelTo p (w .feet) || b) (level-append p ws vs) ∙ or-assoc (levelTo p (w .feet)) (level p ws) (level p vs)
+level-append p (w ∷ ws) vs = ap (λ (b : Bool). levelTo p (w .feet) || b) (level-append p ws vs) ∙ sym (or-assoc (levelTo p (w .feet)) (level p ws) (level p vs))
 
 map-append : {A B : Type 0} (h : A → B) (xs ys : List A) → map h (xs ++ ys) ≡ map h xs ++ map h ys
 map-append h [] ys = refl
@@ -76,12 +68,12 @@ module _ {aim : Aim} {at : Place} where
 
   pub went-none : {c : Column} (a f : List ℕ) → c .counts .retained ≤ aim .budget → Went aim at [] c c a f a f
   unfolding level
-  went-none {c} a f h = record { steps = stepped-none a f h; noted = or-none (c .level) }
+  went-none {c} a f h = record { steps = stepped-none a f h; noted = sym (or-false (c .level)) }
 
   pub went-more : {c r t : Column} {a f b g x y : List ℕ} {ws vs : List Waypoint} → Went aim at ws c r a f b g → Went aim at vs r t b g x y → Went aim at (ws ++ vs) c t a f x y
   went-more {c} {ws = ws} {vs = vs} u v = record {
     steps = stepped-more (u .steps) (v .steps);
-    noted = v .noted ∙ ap (λ (b : Bool). b || level (at .point) vs) (u .noted) ∙ sym (or-assoc (c .level) (level (at .point) ws) (level (at .point) vs)) ∙ ap (λ (b : Bool). c .level || b) (sym (level-append (at .point) ws vs)) }
+    noted = v .noted ∙ ap (λ (b : Bool). b || level (at .point) vs) (u .noted) ∙ or-assoc (c .level) (level (at .point) ws) (level (at .point) vs) ∙ ap (λ (b : Bool). c .level || b) (sym (level-append (at .point) ws vs)) }
 
   -- ---- one height
 
@@ -94,7 +86,7 @@ module _ {aim : Aim} {at : Place} where
     noted = s .noted }
   went-by {c} {r} {a} {f} (To w) s h n = record {
     steps = stepped-one w (s .visited .0 (is-ready a f (aim .budget) (at .number) (c .counts) h n));
-    noted = s .noted ∙ ap (λ (x : Bool). c .level || x) (or-none (levelTo (at .point) (w .feet))) }
+    noted = s .noted ∙ ap (λ (x : Bool). c .level || x) (sym (or-false (levelTo (at .point) (w .feet)))) }
 
 -- ---- a loop over steps: those gone, and those left
 

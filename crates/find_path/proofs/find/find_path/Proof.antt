@@ -11,6 +11,15 @@ fill-permissions-requires c κs = tt
 enum-told : tie.Need-enum-told
 enum-told c = search needs
 
+enum-told-2 : tie.Need-enum-told-2
+enum-told-2 c = search needs
+
+request-of-requires : tie.Need-request-of-requires
+request-of-requires c κs = tt
+
+find-walk-path-requires : tie.Need-find-walk-path-requires
+find-walk-path-requires c κs = tt
+
 same-length : tie.Need-same-length
 same-length c = c .before .before .before .before .fill-permissions .kept .1 .1 .1 .0
 
@@ -20,15 +29,6 @@ returns c =
     let fill = c .before .before .before .before .fill-permissions .ensures in
     unsearched (a .policy) (a .in-water) (now (a .flags)) (a .w) (now (a .cells)) (now (a .perms)) (now (a .shapes)) (now (a .boxes)) (a .start) (a .goal) (a .body) (now (a .nodes)) (now (a .front)) (now (a .out))
         (differ (now (a .flags)) (now (a .perms)) (rw (c .enum-told .given .1) at (fill .0))) (fill .1)
-
-enum-told-2 : tie.Need-enum-told-2
-enum-told-2 c = search needs
-
-request-of-requires : tie.Need-request-of-requires
-request-of-requires c κs = tt
-
-find-walk-path-requires : tie.Need-find-walk-path-requires
-find-walk-path-requires c κs = tt
 
 same-length-2 : tie.Need-same-length-2
 same-length-2 c = c .before .before .before .before .before .before .before .before .before .before .before .before .before .before .before .before .fill-permissions .kept .1 .1 .1 .0
@@ -55,11 +55,11 @@ find-path-spec =
     (tie.spec
     fill-permissions-requires
     enum-told
-    same-length
-    returns
     enum-told-2
     request-of-requires
     find-walk-path-requires
+    same-length
+    returns
     same-length-2
     same-length-3
     same-length-4
