@@ -248,8 +248,10 @@ uint64_t walkprint_walk_back(
 /*
  * The kind of movement of the edge from one point to another, or 4 where there
  * is none. The request's start and max_range bound it; its budget is not read.
- * The tables are not judged: a cell that they do not have is unknown. Writes
- * nothing.
+ * The tables are not judged: a cell that they do not have is unknown. Nor are
+ * the request and the body, and the time grows with the cells that the body
+ * sweeps: with a width of 1e6 that is a million million. Ask with sizes that
+ * are not too large (number 4). Writes nothing.
  */
 uint64_t walkprint_edge(
     const uint8_t *window, size_t window_length,

@@ -146,7 +146,8 @@ pub fn walk_back(t: &Tables, request: &Request, body: &Body, list: &[u8]) -> Res
     }
 }
 
-/// How the edge from one point to another moves, where there is one.
+/// How the edge from one point to another moves, where there is one. Neither the request nor the body is judged, and the time grows with the cells that the
+/// body sweeps: ask with sizes that a search would not refuse as too large.
 pub fn edge(t: &Tables, request: &Request, body: &Body, from: Point, to: Point) -> Option<Movement> {
     Movement::numbered(in_bytes(t, &request.bytes(), body, |asked| raw::edge(asked, from, to)))
 }

@@ -1,5 +1,4 @@
--- Clear: of the cells from floor(min) to ceil(max) - 1 on each axis, and one layer below, none has a box that intersects the area, and none
--- whose voxel does lacks bit 1.
+-- When an area is clear (01, The graph, "Clear"): which cells are asked, and what each must be.
 use mathlib.Core.Bool.{Bool, true, false, not, _&&_, _||_}
 use mathlib.Core.List.{List, [], _∷_}
 use lib.IntN.{pos, _-ℤ_}

@@ -45,7 +45,7 @@ fn cell_free(
 ) -> bool
     ensures { λ r. ⌜ r ≡ free area (corner x y z) (space w (now (cells .entry)) (now (perms .entry)) (now (shapes .entry)) (now (boxes .entry)) x y z) ⌝ }
 {
-    match world::cell_at(w, cells, perms, shapes, x, y, z) {
+    match space::cell_at(w, cells, perms, shapes, x, y, z) {
         Cell::Unknown => {
             let p = points::corner_of(x, y, z);
             let meets = boxes::intersects(boxes::voxel_at(p), area);

@@ -6,7 +6,7 @@ use mathlib.Core.Path.{_≡_, refl, sym, ap, _∙_}
 use mathlib.Core.Bool.{Bool, true, false, cond}
 use mathlib.Core.List.{List, [], _∷_, _++_, append-assoc}
 use lib.ListN.{length, getD, set, take, drop, length-append, length-take, length-drop}
-use lib.Seq.{sets, sets-eq, drop-append-seam, drop-cons, getD-drop, getD-take, take-set-le, drop-set-lt}
+use lib.Seq.{sets, sets-eq, drop-append-seam, drop-cons, getD-drop, getD-take, drop-set-lt}
 use lib.Arith.{mod-mul}
 use Rattle.fields.specs.Little.{leAt, bytesOf, fitsAt, field, withField}
 use Rattle.fields.specs.Laws.{field-in, field-parts, with-in, length-bytes, le-same, leb-same, positive}
@@ -116,23 +116,11 @@ with-is n s at v h =
     with-in n s at v h ∙ sets-eq (bytesOf n v) s at (omega (arith, length-bytes n v))
     ∙ ap (λ (k : ℕ). take at s ++ bytesOf n v ++ drop (at + k) s) (length-bytes n v) ∙ append-assoc (take at s) (bytesOf n v) (drop (at + n) s)
 
-take-sets : (k : ℕ) (vs s : List ℕ) (i : ℕ) → k ≤ i → take k (sets s i vs) ≡ take k s
-take-sets k [] s i h = refl
-take-sets k (v ∷ vs) s i h = take-sets k vs (set s i v) (suc i) (omega arith) ∙ take-set-le k s i v h
-
 drop-sets : (k : ℕ) (vs s : List ℕ) (i : ℕ) → i + length vs ≤ k → drop k (sets s i vs) ≡ drop k s
 drop-sets k [] s i h = refl
 drop-sets k (v ∷ vs) s i h = drop-sets k vs (set s i v) (suc i) (omega arith) ∙ drop-set-lt k s i v (omega arith)
 
--- what lies before a field stays, and what lies behind it
-pub take-with : (k n : ℕ) (s : List ℕ) (at v : ℕ) → k ≤ at → take k (withField n s at v) ≡ take k s
-unfolding withField
-take-with k n s at v h = go (fitsAt n s at)
-  where
-    go : (b : Bool) → take k (cond b (sets s at (bytesOf n v)) s) ≡ take k s
-    go true = take-sets k (bytesOf n v) s at h
-    go false = refl
-
+-- what lies behind a field stays
 pub drop-with : (k n : ℕ) (s : List ℕ) (at v : ℕ) → at + n ≤ k → drop k (withField n s at v) ≡ drop k s
 unfolding withField
 drop-with k n s at v h = go (fitsAt n s at)

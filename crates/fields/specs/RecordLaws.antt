@@ -11,7 +11,7 @@ use lib.ListN.{length, take, drop, set, length-append, take-append-drop}
 use lib.Seq.{take-add, drop-drop, take-at, length-take-le, set-append-left, set-at}
 use Rattle.fields.specs.Little.{bytesOf, fitsAt, field, withField}
 use Rattle.fields.specs.Laws.{length-with, length-bytes, read-back, read-other, with-parts}
-use Rattle.fields.specs.Pieces.{Bytes, bytes-field, with-is, take-with, drop-with}
+use Rattle.fields.specs.Pieces.{Bytes, bytes-field, with-is, drop-with}
 use Rattle.fields.specs.Records.{recordSize, fieldsAt, withFields, withRecord, recordBytes, recordsBytes, Fill, firsts}
 
 -- ---- a record written, field by field
@@ -83,13 +83,7 @@ record-back (n ∷ ns) s at by (v ∷ vs) f h =
     record-back ns t at (by + n) vs (f .1) (simp length-with (omega arith)) in
     cc
 
--- the bytes before a record, and those behind it
-pub take-record : (ws s : List ℕ) (at by : ℕ) (vs : List ℕ) (k : ℕ) → k ≤ at + by → take k (withFields ws s at by vs) ≡ take k s
-take-record [] s at by vs k h = refl
-take-record (n ∷ ns) s at by [] k h = refl
-take-record (n ∷ ns) s at by (v ∷ vs) k h =
-    take-record ns (withField n s (at + by) v) at (by + n) vs k (omega arith) ∙ take-with k n s (at + by) v h
-
+-- the bytes behind a record
 pub drop-record : (ws s : List ℕ) (at by : ℕ) (vs : List ℕ) (k : ℕ) → at + by + recordSize ws ≤ k → drop k (withFields ws s at by vs) ≡ drop k s
 drop-record [] s at by vs k h = refl
 drop-record (n ∷ ns) s at by [] k h = refl

@@ -113,7 +113,7 @@ fn cell_next(
 ) -> Height
     ensures { λ r. ⌜ r ≡ pass after best (topsIn band x z (space w (now (cells .entry)) (now (perms .entry)) (now (shapes .entry)) (now (boxes .entry)) cx y cz)) ⌝ }
 {
-    match world::cell_at(w, cells, perms, shapes, cx, y, cz) {
+    match space::cell_at(w, cells, perms, shapes, cx, y, cz) {
         Cell::Unknown => best,
         Cell::Known {
             occupied: _,

@@ -1,6 +1,6 @@
--- What walkprint prints of a scene (01, "Scenes and walkprint"): through the search to what is told, and all lines of it. Definitions only.
-use Prim.Native.Nat.{ℕ, zero, suc, _*_}
-use mathlib.Core.List.{List, [], _++_}
+-- What walkprint tells of a scene (01, "Scenes and walkprint"): a refusal, or what the search answers. Definitions only.
+use Prim.Native.Nat.{ℕ, _*_}
+use mathlib.Core.List.{List}
 use lib.ListN.{length, take}
 use Rattle.floats.specs.Floats.{nought}
 use Rattle.world.specs.declared.Window.{Window}
@@ -8,13 +8,11 @@ use Rattle.world.specs.declared.Request.{Request}
 use Rattle.world.specs.declared.Body.{Body}
 use Rattle.scene_state.specs.declared.state.Scene.{Scene}
 use Rattle.scene_state.specs.Answers.{Answer, given, refused}
-use Rattle.scene.specs.Scene.{Tables, readAll}
 use Rattle.outcomes.specs.declared.Answer as search
 use Rattle.outcomes.specs.Outcomes.{outcomeNumber}
 use Rattle.search.specs.FindWalkPath.{found, nodesAfter, frontAfter, outAfter}
 use Rattle.lengths.specs.Length.{lengthOf}
 use Rattle.print_lines.specs.declared.Told.{Told}
-use Rattle.print_lines.specs.Lines.{lineOf}
 
 -- "Refusals print `refused`, number, record": nothing else is told of one
 unfoldable pub refusal : ℕ → ℕ → Told
@@ -58,16 +56,3 @@ module _ (cells perms shapes boxes : List ℕ) where
   unfoldable pub told : Answer Scene → List ℕ → List ℕ → List ℕ → Told
   told (refused n k) nodes front out = refusal n k
   told (given s) nodes front out = toldOf (answered s (length nodes) (length front) (length out)) (outOf (given s) nodes front out)
-
--- n lines from line k on
-abbrev pub linesFrom : Told → List ℕ → ℕ → ℕ → List ℕ
-linesFrom t list k zero = []
-linesFrom t list k (suc n) = lineOf t list k ++ linesFrom t list (suc k) n
-
--- the output for a scene of these records, in the lent tables and rooms: the first line, and one for each waypoint
-unfoldable pub printed : Tables → List ℕ → List ℕ → List ℕ → List (List ℕ) → List ℕ
-printed t nodes front out ss =
-    let r = readAll t ss in
-    let b = r .tables in
-    let x = told (b .cells) (b .perms) (b .shapes) (b .boxes) (r .answer) nodes front out in
-    linesFrom x (outOf (b .cells) (b .perms) (b .shapes) (b .boxes) (r .answer) nodes front out) 0 (suc (x .waypoints))

@@ -9,7 +9,7 @@ use Rattle.scene.specs.Progress.{tablesOf}
 abbrev pub recordCount : ℕ → ℕ
 recordCount n = (n + 63) / 64
 
--- record k: 64 bytes, or as many as are left, for "a missing or partial record is bad at its own number"
+-- record k: 64 bytes, or as many as are left, for "A missing or partial record is bad at its own number"
 unfoldable pub recordAt : List ℕ → ℕ → List ℕ
 recordAt s k = take 64 (drop (64 * k) s)
 

@@ -12,7 +12,7 @@ use Rattle.regions.specs.declared.Spot.{Spot}
 use Rattle.regions.specs.Ranges.{range}
 use Rattle.regions.specs.Regions.{cellsOf}
 use Rattle.world.specs.declared.Window.{Window}
-use Rattle.tables.specs.BadWorld.{sizeAbove}
+use Rattle.world.specs.Sizes.{sizeAbove}
 use Rattle.scene_tables.specs.Made.{withEntry}
 
 -- "fill: min and max corners inclusive as i32, state, shape; clipped, later ones win, an inverted one fills nothing"

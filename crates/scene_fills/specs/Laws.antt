@@ -18,7 +18,7 @@ use Rattle.regions.specs.declared.Region.{Region}
 use Rattle.regions.specs.declared.Spot.{Spot}
 use Rattle.regions.specs.RegionLaws.{Within, Inside}
 use Rattle.world.specs.declared.Window.{Window}
-use Rattle.tables.specs.BadWorld.{Sizes}
+use Rattle.world.specs.Sizes.{Sizes}
 use Rattle.scene_fills.specs.Fills.{clipped, axisOf, regionOf}
 
 -- ---- a cell of a clipped region: each number is one from 0 to 255

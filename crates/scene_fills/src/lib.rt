@@ -50,7 +50,7 @@ fn fill_region(w: Window, region: Region, state: u32, shape: u32, cells: &mut [u
 pub fn fill_cells(w: Window, bytes: &[u8], cells: &mut [u8])
     ensures { λ _. ⌜ now (cells .exit) ≡ filled w (now (bytes .entry)) (now (cells .entry)) ⌝ }
 {
-    if tables::size_above(w) {
+    if world::size_above(w) {
         return;
     }
     let ys = axis(bytes, 12, w.y, w.sy);

@@ -16,8 +16,8 @@ use Rattle.regions.specs.declared.Spot.{Spot}
 use Rattle.regions.specs.Regions.{cellsOf}
 use Rattle.world.specs.declared.Window.{Window}
 use Rattle.world.specs.Space.{firstOf, countOf, boxAt}
-use Rattle.tables.specs.BadWorld.{Sizes, sizeAbove, boxRule, badWorld}
-use Rattle.tables.specs.Laws.{sizes-of}
+use Rattle.world.specs.Sizes.{sizeAbove, Sizes, sizes-of}
+use Rattle.tables.specs.BadWorld.{boxRule, badWorld}
 use Rattle.tables.specs.Good.{GoodWorld, good-is-not-bad}
 use Rattle.scene_rules.specs.declared.Counts.{Counts}
 use Rattle.scene_records.specs.Layout.{kindOf, numberOf, windowOf, volume, cellCount, boxOf}
@@ -209,7 +209,7 @@ part-count n t i h = field-take 4 (8 * n) t (8 * i + 4) (omega arith)
 part-box : (n : ℕ) (t : List ℕ) (i : ℕ) → i < n → boxAt (take (48 * n) t) (48 * i) ≡ boxAt t (48 * i)
 part-box n t i h = same-box (take (48 * n) t) t (48 * i) (48 * i) (λ j l. field-take 8 (48 * n) t (48 * i + 8 * j) (omega arith))
 
--- "a read scene's tables are never a BadWorld"
+-- so the tables of a scene that was read are a good world
 pub sound-world : (r : Reading) (t : Tables) → Sound r t → 3 ≤ r .kind →
     GoodWorld (r .window) (take (8 * r .counts .cells) (t .cells)) (take (8 * r .counts .shapes) (t .shapes)) (take (48 * r .counts .boxes) (t .boxes))
 sound-world r t s k =
@@ -363,7 +363,7 @@ read-good (s ∷ ss) r t x a h e = go (goodIn r s) refl e (λ g. read-good ss (n
     go true g e rest = rest g e
     go false g e rest = absurd (let z : _≡_ {A = ℕ} 0 1 = cc in omega arith)
 
--- "never a BadWorld"
+-- and never 3 BadWorld
 pub never-bad : (ss : List (List ℕ)) (t : Tables) (x : Scene) → AllBytes ss → readAll t ss .answer ≡ given x →
     badWorld (x .window) (take (x .«in_use» .cells) (readAll t ss .tables .cells)) (take (x .«in_use» .shapes) (readAll t ss .tables .shapes)) (take (x .«in_use» .boxes) (readAll t ss .tables .boxes)) ≡ false
 unfolding readAll begun onward

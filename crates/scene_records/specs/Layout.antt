@@ -12,7 +12,7 @@ use Rattle.world.specs.declared.Aabb.{Aabb}
 use Rattle.world.specs.declared.Body.{Body}
 use Rattle.world.specs.declared.Window.{Window}
 use Rattle.world.specs.Space.{pointAt, boxAt}
-use Rattle.tables.specs.BadWorld.{sizeAbove}
+use Rattle.world.specs.Sizes.{sizeAbove}
 
 -- ---- every kind
 

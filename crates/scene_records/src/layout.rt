@@ -50,7 +50,7 @@ pub fn window_at(bytes: &[u8], at: u32) -> Window
 pub fn cell_count(w: Window) -> u32
     ensures { λ r. ⌜ r ≡ cellCount w ⌝ }
 {
-    if tables::size_above(w) {
+    if world::size_above(w) {
         0
     } else {
         w.sx * w.sy * w.sz

@@ -4,7 +4,8 @@ use mathlib.Core.Bool.{Bool, true, not, _&&_, cond}
 use mathlib.Core.List.{List}
 use lib.Dec.{ltb, leb, eqb}
 use lib.ListN.{length, drop}
-use Rattle.tables.specs.BadWorld.{sizeAbove, boxRule}
+use Rattle.world.specs.Sizes.{sizeAbove}
+use Rattle.tables.specs.BadWorld.{boxRule}
 use Rattle.scene_rules.specs.declared.Counts.{Counts}
 use Rattle.scene_records.specs.Layout.{kindOf, threeZeros, numberOf, byKind, unusedFrom, zeros, windowOf, cellCount, boxOf, permissionOf}
 
@@ -16,7 +17,7 @@ inOrder last k = cond (ltb last 3) (eqb k (last + 1)) (leb 4 k && leb last k && 
 unfoldable pub windowRule : List ℕ → Bool
 windowRule s = eqb (numberOf s) 0 && not (sizeAbove (windowOf s)) && leb (cellCount (windowOf s)) 4096
 
--- kind 4: "n the shape, not falling, at most 255", "at most 256 boxes, 16 a shape, each by the box rule"
+-- kind 4: "n the shape, not falling, at most 255", "At most 256 boxes, 16 a shape, each by the box rule"
 abbrev pub roomInShape : Counts → ℕ → Bool
 roomInShape c n = cond (eqb (n + 1) (c .shapes)) (ltb (c .last) 16) true
 
@@ -28,7 +29,7 @@ shapeRule c s =
 unfoldable pub stateRule : Counts → List ℕ → Bool
 stateRule c s = eqb (numberOf s) (c .states) && leb (numberOf s) 255 && leb (permissionOf s) 7
 
--- kind 1: "n the budget, at most 512"; "in kinds 2, 3 and 6 n is 0"
+-- kind 1: "n the budget, at most 512"; "In kinds 2, 3 and 6 n is 0"
 unfoldable pub rule : ℕ → Counts → List ℕ → Bool
 rule k c s =
     byKind k (leb (numberOf s) 512) (eqb (numberOf s) 0) (windowRule s) (shapeRule c s) (stateRule c s) (eqb (numberOf s) 0)

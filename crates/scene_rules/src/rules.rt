@@ -8,9 +8,9 @@ use scene_records::byte_at;
 use scene_records::cell_count;
 use scene_records::number_of;
 use scene_records::window_at;
-use tables::size_above;
 use world::Aabb;
 use world::point_at;
+use world::size_above;
 
 // Whether a kind may come after the last one, of which 0 is none.
 fn in_order(last: u8, kind: u8) -> bool

@@ -1,4 +1,4 @@
-// "Unused bytes zero" (01, "Scenes and walkprint").
+// "unused bytes zero" (01, "Scenes and walkprint").
 ghost use mathlib.Core.Path.{_≡_};
 ghost use lib.ListN.{drop};
 ghost use Rattle.scene_records.specs.Layout.{zeros, unusedFrom};

@@ -30,7 +30,7 @@ unfoldable pub begun : List ℕ → List ℕ → List ℕ → List ℕ → Answe
 begun cells perms shapes boxes =
     cond (leb 32768 (length cells) && leb 256 (length perms) && leb 2048 (length shapes) && leb 12288 (length boxes)) (given empty) (refused 5 0)
 
--- ---- the end of the input: "a missing or partial record is bad at its own number", and records 0 to 2 can be missing
+-- ---- the end of the input: "A missing or partial record is bad at its own number", and records 0 to 2 can be missing
 
 unfoldable pub ended : Reading → Answer Scene
 ended r =

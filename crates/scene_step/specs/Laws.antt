@@ -7,7 +7,8 @@ use mathlib.Core.List.{List}
 use borrow.Author.Tests.{leb-true, ltb-true, ltb-false, eqb-true, not-true}
 use lib.Dec.{leb, ltb, eqb}
 use lib.ListN.{length, drop}
-use Rattle.tables.specs.BadWorld.{boxRule, sizeAbove}
+use Rattle.world.specs.Sizes.{sizeAbove}
+use Rattle.tables.specs.BadWorld.{boxRule}
 use Rattle.world.specs.declared.Request.{Request}
 use Rattle.world.specs.declared.Body.{Body}
 use Rattle.world.specs.declared.Window.{Window}

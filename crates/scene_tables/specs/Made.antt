@@ -21,7 +21,7 @@ unfilled n t = inTurn (withEntry 4294967295 0) 0 n t
 
 -- ---- kind 4
 
--- "unnamed lower shapes are empty": the shapes from one to that before end, each with so many boxes before it
+-- "Unnamed lower shapes are empty": the shapes from one to that before end, each with so many boxes before it
 unfoldable pub emptyShapes : ℕ → ℕ → ℕ → List ℕ → List ℕ
 emptyShapes from end first t = inTurn (withEntry first 0) from (end - from) t
 

@@ -1,4 +1,4 @@
-// The columns of one expansion (01, The graph, "Graph step"; "Pop, close, try the connector, then the columns").
+// The columns of one expansion (01, The graph, "Graph step"; "Pop, close, try the connector .., then the columns").
 use crate::Around;
 use crate::Task;
 use heights::Height;

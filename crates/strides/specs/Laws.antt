@@ -1,6 +1,6 @@
 -- The ways out of `step_to`, as its proof cites them.
 use mathlib.Core.Path.{_≡_, refl, sym, ap, subst}
-use mathlib.Core.Bool.{Bool, false, _||_, or-false}
+use mathlib.Core.Bool.{Bool, _||_, or-false}
 use mathlib.Core.List.{List}
 use Prim.Native.Nat.{ℕ}
 use Rattle.moves.specs.declared.answer.Waypoint.{Waypoint}

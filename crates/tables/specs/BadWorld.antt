@@ -1,6 +1,6 @@
 -- Bad worlds (01, "Numbers given back"): "3 BadWorld: a size above 256, cell table not 8 bytes a cell, shape or box table not whole records, count
 -- above 16, first + count above the boxes, a box off its rule". Every record counts, used or not.
-use Prim.Native.Nat.{ℕ, zero, suc, _+_, _*_, _/_, _%_, _≤_}
+use Prim.Native.Nat.{ℕ, zero, suc, _+_, _*_, _/_, _%_}
 use mathlib.Core.Bool.{Bool, false, not, _&&_, _||_}
 use mathlib.Core.List.{List}
 use lib.Dec.{ltb, eqb}
@@ -11,6 +11,7 @@ use Rattle.world.specs.declared.Point.{Point}
 use Rattle.world.specs.declared.Aabb.{Aabb}
 use Rattle.world.specs.declared.Window.{Window}
 use Rattle.world.specs.Space.{firstOf, countOf, boxAt}
+use Rattle.world.specs.Sizes.{sizeAbove}
 
 -- ---- the box rule: "finite, min ≤ max, each from -16 to 16"
 
@@ -38,10 +39,6 @@ unfoldable pub boxRule : Aabb → Bool
 boxRule b = each finite b && ordered b && each fromTo b
 
 -- ---- the tables
-
--- "a size above 256"
-unfoldable pub sizeAbove : Window → Bool
-sizeAbove w = ltb 256 (w .sx) || ltb 256 (w .sy) || ltb 256 (w .sz)
 
 -- "8 bytes a cell"
 abbrev pub cellBytes : Window → ℕ
@@ -81,12 +78,6 @@ badWorld w cells shapes boxes =
     some (offRule boxes) (records 48 boxes)
 
 -- ---- for the code's parts
-
--- no size is above 256
-pub record Sizes (w : Window) : Type 0 where
-  pub sx : w .sx ≤ 256
-  pub sy : w .sy ≤ 256
-  pub sz : w .sz ≤ 256
 
 -- both of a shape's conditions at once: of its two numbers, and of record i
 unfoldable pub badRun : ℕ → ℕ → ℕ → Bool

@@ -8,8 +8,9 @@ use lib.Dec.{eqb}
 use lib.ListN.{length}
 use Rattle.world.specs.declared.Window.{Window}
 use Rattle.world.specs.Space.{firstOf, countOf, boxAt}
-use Rattle.tables.specs.BadWorld.{boxRule, sizeAbove, cellBytes, notWhole, records, some, countAbove, runPast, offRule, badWorld, Sizes}
-use Rattle.tables.specs.Laws.{sizes-of, none-is, is-none}
+use Rattle.world.specs.Sizes.{sizeAbove, Sizes, sizes-of}
+use Rattle.tables.specs.BadWorld.{boxRule, cellBytes, notWhole, records, some, countAbove, runPast, offRule, badWorld}
+use Rattle.tables.specs.Laws.{none-is, is-none}
 
 pub record GoodWorld (w : Window) (cells shapes boxes : List ℕ) : Type 0 where
   pub sizes : Sizes w

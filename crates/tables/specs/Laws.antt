@@ -1,13 +1,12 @@
 -- Laws of bad worlds: what the loops go by, that the order of the tests does not matter, and what a world that is not bad is.
-use Prim.Native.Nat.{ℕ, zero, suc, _+_, _*_, _%_, _≤_, _<_}
+use Prim.Native.Nat.{ℕ, zero, suc, _+_, _*_, _%_, _<_}
 use native.Mathlib.Omega.{arith}
-use native.Mathlib.Nat.{mul-le-mul}
 use native.Mathlib.Numerals.{add-one}
 use mathlib.Core.Path.{_≡_, refl, sym, ap, _∙_}
 use mathlib.Core.Bool.{Bool, true, false, not, _&&_, _||_, and-false, or-true}
 use mathlib.Core.List.{List}
-use borrow.Author.Tests.{ltb-false, eq-eqb, ne-eqb, eqb-true, eqb-false}
-use lib.Dec.{ltb, eqb}
+use borrow.Author.Tests.{eq-eqb, ne-eqb, eqb-true, eqb-false}
+use lib.Dec.{eqb}
 use lib.ListN.{length}
 use lib.Ieee.{Float, nan, inf, fin, ofBits, neg, le, lt, eq}
 use lib.Ieee.Scale.{finite}
@@ -18,7 +17,8 @@ use Rattle.world.specs.declared.Entry.the-variants.{Of}
 use Rattle.world.specs.declared.Found.the-variants.{Here}
 use Rattle.world.specs.Space.{entryAt, boxHere}
 use Rattle.world.specs.Laws.{entry-is, box-is}
-use Rattle.tables.specs.BadWorld.{fromTo, eachOf, each, ordered, boxRule, sizeAbove, cellBytes, notWhole, records, some, countAbove, runPast, offRule, badWorld, Sizes, badRun, badShape}
+use Rattle.world.specs.Sizes.{sizeAbove}
+use Rattle.tables.specs.BadWorld.{fromTo, eachOf, each, ordered, boxRule, cellBytes, notWhole, records, some, countAbove, runPast, offRule, badWorld, badRun, badShape}
 
 -- ---- the box rule: a number from -16 to 16 is finite
 
@@ -116,23 +116,6 @@ pub rule-at : (boxes : List ℕ) (i : ℕ) (b : Aabb) → boxHere boxes (48 * i)
 rule-at boxes i b e = rw (box-is boxes (48 * i) b e .1)
 
 -- ---- the tables
-
-pub sizes-of : (w : Window) → sizeAbove w ≡ false → Sizes w
-unfolding sizeAbove
-sizes-of w e = go (ltb 256 (w .sx)) refl (ltb 256 (w .sy)) refl (ltb 256 (w .sz)) refl e
-  where
-    go : (a : Bool) → ltb 256 (w .sx) ≡ a → (b : Bool) → ltb 256 (w .sy) ≡ b → (c : Bool) → ltb 256 (w .sz) ≡ c → a || b || c ≡ false → Sizes w
-    go false p false q false r e = record { sx = ltb-false 256 (w .sx) p; sy = ltb-false 256 (w .sy) q; sz = ltb-false 256 (w .sz) r }
-    go true p b q c r e = absurd (let y : _≡_ {A = ℕ} 0 1 = cc in omega arith)
-    go false p true q c r e = absurd (let y : _≡_ {A = ℕ} 0 1 = cc in omega arith)
-    go false p false q true r e = absurd (let y : _≡_ {A = ℕ} 0 1 = cc in omega arith)
-
--- a window's cells are no more than 256 * 256 * 256
-pub layer-small : (w : Window) → Sizes w → w .sx * w .sy ≤ 256 * 256
-layer-small w s = mul-le-mul {n₁ = w .sx} {m₁ = w .sy} {n₂ = 256} {m₂ = 256} (s .sx) (s .sy)
-
-pub cells-small : (w : Window) → Sizes w → w .sx * w .sy * w .sz ≤ 256 * 256 * 256
-cells-small w s = mul-le-mul {n₁ = w .sx * w .sy} {m₁ = w .sz} {n₂ = 256 * 256} {m₂ = 256} (layer-small w s) (s .sz)
 
 module _ (w : Window) (cells shapes boxes : List ℕ) where
   -- by both of a shape's conditions at once

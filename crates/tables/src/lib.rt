@@ -3,7 +3,8 @@
 ghost use mathlib.Core.Path.{_≡_};
 ghost use Prim.Native.Nat.{_*_, _/_};
 ghost use lib.ListN.{length};
-ghost use Rattle.tables.specs.BadWorld.{Sizes, fromTo, eachOf, boxRule, sizeAbove, cellBytes, badRun, some, badShape, offRule, badWorld};
+ghost use Rattle.world.specs.Sizes.{Sizes};
+ghost use Rattle.tables.specs.BadWorld.{fromTo, eachOf, boxRule, cellBytes, badRun, some, badShape, offRule, badWorld};
 use world::Aabb;
 use world::Entry;
 use world::Found;
@@ -32,13 +33,6 @@ pub fn box_good(b: Aabb) -> bool
     let greatest = b.max;
     let ordered = (least.x <= greatest.x) & (least.y <= greatest.y) & (least.z <= greatest.z);
     ordered & (inside(least) & inside(greatest))
-}
-
-// Whether a size of the window is above 256.
-pub fn size_above(w: Window) -> bool
-    ensures { λ r. ⌜ r ≡ sizeAbove w ⌝ }
-{
-    (256 < w.sx) | (256 < w.sy) | (256 < w.sz)
 }
 
 // How many bytes the cell table of a window has.
@@ -93,7 +87,7 @@ fn bad_boxes(boxes: &[u8]) -> bool
 pub fn bad_world(w: Window, cells: &[u8], shapes: &[u8], boxes: &[u8]) -> bool
     ensures { λ r. ⌜ r ≡ badWorld w (now (cells .entry)) (now (shapes .entry)) (now (boxes .entry)) ⌝ }
 {
-    if size_above(w) {
+    if world::size_above(w) {
         return true;
     }
     if cells.len() != cell_bytes(w) {

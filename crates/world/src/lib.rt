@@ -1,14 +1,14 @@
 // The world (01, "Boxes" and "Tables"): points, boxes, and what stands in a cell.
 //
-// The types stand here, and `space` reads the tables; what is done with boxes is the crate `boxes`. Every public function answers for every input:
-// a cell that the tables do not have is unknown, and a run of boxes ends where its table does.
-mod space;
+// The types stand here, and `records` reads the tables; the cell at a place is the crate `space`, what is done with boxes is `boxes`. Every public function
+// answers for every input: a run of boxes ends where its table does.
+mod records;
 
-pub use space::box_at;
-pub use space::boxes_from;
-pub use space::cell_at;
-pub use space::entry_at;
-pub use space::point_at;
+pub use records::box_at;
+pub use records::boxes_from;
+pub use records::entry_at;
+pub use records::point_at;
+pub use records::size_above;
 
 // A place in the world, or a difference of two.
 pub struct Point {

@@ -6,7 +6,7 @@ use mir.Syntax.{w32}
 use mir.Val.{SFits}
 use mir.Facts.{toZ-ofZ}
 use borrow.Author.Needs.{needs}
-use Rattle.tables.specs.Laws.{sizes-of}
+use Rattle.world.specs.Sizes.{sizes-of}
 use Rattle.scene_fills.specs.Fills.{axisOf, regionOf, filled}
 use Rattle.scene_fills.specs.Laws.{region-clipped}
 use Rattle.scene_fills.proofs.fill_cells.Statement.{statement}

@@ -3,8 +3,9 @@ use mathlib.Core.Path.{_≡_, sym, _∙_}
 use mathlib.Core.Bool.{false}
 use lib.ListN.{length}
 use denote.Ref.{now}
-use Rattle.tables.specs.BadWorld.{sizeAbove, cellBytes}
-use Rattle.tables.specs.Laws.{sizes-of, bad-size, bad-cells, part-shapes, part-boxes, bad-shape, by-boxes}
+use Rattle.world.specs.Sizes.{sizeAbove, sizes-of}
+use Rattle.tables.specs.BadWorld.{cellBytes}
+use Rattle.tables.specs.Laws.{bad-size, bad-cells, part-shapes, part-boxes, bad-shape, by-boxes}
 use Rattle.tables.proofs.bad_world.Statement.{statement}
 use Rattle.tables.proofs.bad_world.Tie as tie
 

@@ -1,7 +1,7 @@
 -- `tables::cell_bytes` meets its contract. Assumes nothing.
 use borrow.Author.Needs.{needs}
 use native.Mathlib.Omega.{arith}
-use Rattle.tables.specs.Laws.{layer-small, cells-small}
+use Rattle.world.specs.Sizes.{layer-small, cells-small}
 use Rattle.tables.proofs.cell_bytes.Statement.{statement}
 use Rattle.tables.proofs.cell_bytes.Tie as tie
 

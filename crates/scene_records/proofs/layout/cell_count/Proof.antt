@@ -1,5 +1,5 @@
 -- `scene_records::layout::cell_count` meets its contract. Assumes nothing.
-use Rattle.tables.specs.Laws.{sizes-of, layer-small, cells-small}
+use Rattle.world.specs.Sizes.{sizes-of, layer-small, cells-small}
 use Rattle.scene_records.specs.Layout.{cellCount}
 use mathlib.Core.Path.{sym, _∙_}
 use native.Mathlib.Omega.{arith}

@@ -2,7 +2,7 @@
 use lib.Dec.{eqb, leb}
 use mathlib.Core.Bool.{not, _&&_}
 use mathlib.Core.Path.{ap, sym, _∙_}
-use Rattle.tables.specs.BadWorld.{sizeAbove}
+use Rattle.world.specs.Sizes.{sizeAbove}
 use Rattle.scene_records.specs.Layout.{byKind, cellCount}
 use Rattle.scene_rules.specs.Laws.{kind-rest}
 use Rattle.scene_rules.specs.Rules.{windowRule, stateRule, rule}

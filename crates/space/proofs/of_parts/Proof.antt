@@ -1,11 +1,11 @@
--- `world::space::of_parts` meets its contract. Assumes nothing.
+-- `space::of_parts` meets its contract. Assumes nothing.
 use Prim.Native.Nat.{_/_, _%_}
 use native.Mathlib.Omega.{arith}
 use borrow.Author.Needs.{needs}
 use Rattle.world.specs.Space.{ofParts}
-use Rattle.world.specs.Laws.{bit-least, bit-times}
-use Rattle.world.proofs.space.of_parts.Statement.{statement}
-use Rattle.world.proofs.space.of_parts.Tie as tie
+use Rattle.space.specs.Laws.{bit-least, bit-times}
+use Rattle.space.proofs.of_parts.Statement.{statement}
+use Rattle.space.proofs.of_parts.Tie as tie
 
 cast-t11 : tie.Need-cast-t11
 cast-t11 c = search needs

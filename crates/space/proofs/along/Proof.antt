@@ -1,4 +1,4 @@
--- `world::space::along` meets its contract. Assumes nothing.
+-- `space::along` meets its contract. Assumes nothing.
 -- A signed local holds bits: what the machine reads back from them is the number, since it fits (`origin`, `at`, `size` below).
 use Prim.Native.Nat.{_^_, _<_}
 use borrow.Author.Needs.{needs}
@@ -9,9 +9,9 @@ use lib.IntN.{pos, _+ℤ_, _-ℤ_}
 use mir.Syntax.{w32, w64}
 use mir.Val.{SFits, toZ, ofZ}
 use mir.Facts.{toZ-ofZ, toZ-pos, sfits-widen}
-use Rattle.world.specs.Laws.{end-fits, inRow, far-else, far-then, far-fits, far-natural, far-small}
-use Rattle.world.proofs.space.along.Statement.{statement}
-use Rattle.world.proofs.space.along.Tie as tie
+use Rattle.space.specs.Laws.{end-fits, inRow, far-else, far-then, far-fits, far-natural, far-small}
+use Rattle.space.proofs.along.Statement.{statement}
+use Rattle.space.proofs.along.Tie as tie
 
 module _ (s : tie.Start) where
   wide : SFits w64 (s .args .origin)

@@ -1,14 +1,14 @@
--- `world::space::cell_at` meets its contract. Assumes nothing.
+-- `space::cell_at` meets its contract. Assumes nothing.
 use mathlib.Core.Path.{_≡_, sym, _∙_}
 use denote.Ref.{now}
 use mir.Syntax.{w64}
 use mir.Val.{SFits}
 use mir.Facts.{toZ-ofZ}
 use Rattle.world.specs.Space.{recordOf, entryIn, cellAt}
-use Rattle.world.specs.Laws.{by-entry, no-state, by-shape}
+use Rattle.space.specs.Laws.{by-entry, no-state, by-shape}
 use borrow.Author.Needs.{needs}
-use Rattle.world.proofs.space.cell_at.Statement.{statement}
-use Rattle.world.proofs.space.cell_at.Tie as tie
+use Rattle.space.proofs.cell_at.Statement.{statement}
+use Rattle.space.proofs.cell_at.Tie as tie
 
 -- which record it is: signed numbers are what the machine reads back from their bits
 here : (c : tie.After-entry-of) → let s = c .before .before .before .before in entryIn (now (s .args .cells)) (recordOf (s .args .w) (s .args .x) (s .args .y) (s .args .z)) ≡ c .entry-of .result

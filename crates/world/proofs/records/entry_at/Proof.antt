@@ -1,12 +1,12 @@
--- `world::space::entry_at` meets its contract. Assumes nothing.
+-- `world::records::entry_at` meets its contract. Assumes nothing.
 use denote.Ref.{now}
 use Prim.Native.Nat.{_+_, _*_, _≤_, _<_}
 use native.Mathlib.Omega.{arith}
 use mathlib.Core.Path.{sym, _∙_}
 use lib.ListN.{length, getD}
 use Rattle.world.specs.Laws.{no-entry, an-entry, own-part, low-half, high-half}
-use Rattle.world.proofs.space.entry_at.Statement.{statement}
-use Rattle.world.proofs.space.entry_at.Tie as tie
+use Rattle.world.proofs.records.entry_at.Statement.{statement}
+use Rattle.world.proofs.records.entry_at.Tie as tie
 
 -- the record lies in the table
 room : (c : tie.Else1) → let s = c .before .before in 8 * s .args .i + 8 ≤ length (now (s .args .s))

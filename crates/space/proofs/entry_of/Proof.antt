@@ -1,4 +1,4 @@
--- `world::space::entry_of` meets its contract. Assumes nothing.
+-- `space::entry_of` meets its contract. Assumes nothing.
 use native.Mathlib.Omega.{arith}
 use mathlib.Core.Path.{_≡_}
 use lib.IntN.{_-ℤ_}
@@ -6,10 +6,10 @@ use mir.Syntax.{w32, w64}
 use mir.Val.{SFits}
 use mir.Facts.{toZ-ofZ}
 use borrow.Author.Needs.{needs}
 use Rattle.world.specs.Space.{place, entryIn}
-use Rattle.world.specs.Laws.{far, record-else, record-then, plane, deep, whole}
-use Rattle.world.proofs.space.entry_of.Statement.{statement}
-use Rattle.world.proofs.space.entry_of.Tie as tie
+use Rattle.space.specs.Laws.{far, record-else, record-then, plane, deep, whole}
+use Rattle.space.proofs.entry_of.Statement.{statement}
+use Rattle.space.proofs.entry_of.Tie as tie
 
 -- what `along` says of each axis: a signed number is what the machine reads back from its bits
 first : (c : tie.After-along) → let s = c .before .before .before in c .along .result ≡ far (place (s .args .x -ℤ s .args .w .x) (s .args .w .sx))

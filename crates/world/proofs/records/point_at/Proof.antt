@@ -1,4 +1,4 @@
--- `world::space::point_at` meets its contract. Assumes nothing.
+-- `world::records::point_at` meets its contract. Assumes nothing.
 use denote.Ref.{now}
 use native.Mathlib.Omega.{arith}
 use Prim.Native.Nat.{_≤_}
@@ -7,8 +7,8 @@ use mathlib.Core.Logic.{⊎-elim}
 use lib.ListN.{length}
 use Rattle.world.specs.Space.{pointAt}
 use Rattle.world.specs.Laws.{point-past}
-use Rattle.world.proofs.space.point_at.Statement.{statement}
-use Rattle.world.proofs.space.point_at.Tie as tie
+use Rattle.world.proofs.records.point_at.Statement.{statement}
+use Rattle.world.proofs.records.point_at.Tie as tie
 
 -- where it reads from: the offset, or the table's end, at which the same is read
 module _ (c : tie.Joined1) where

@@ -1,4 +1,4 @@
--- `world::space::box_at` meets its contract. Assumes nothing.
+-- `world::records::box_at` meets its contract. Assumes nothing.
 use denote.Ref.{now}
 use native.Mathlib.Omega.{arith}
 use Prim.Native.Nat.{_+_, _≤_}
@@ -8,8 +8,8 @@ use borrow.Author.Tests.{leb-true, not-true, not-false}
 use Rattle.world.specs.Space.{boxHere}
 use Rattle.world.specs.declared.Found.the-variants.{Here}
 use Rattle.world.specs.Laws.{a-box, two-corners}
-use Rattle.world.proofs.space.box_at.Statement.{statement}
-use Rattle.world.proofs.space.box_at.Tie as tie
+use Rattle.world.proofs.records.box_at.Statement.{statement}
+use Rattle.world.proofs.records.box_at.Tie as tie
 
 room : (c : tie.Else1) → let s = c .before .before .before in s .args .at + 48 ≤ length (now (s .args .s))
 room c = leb-true _ _ (sym (c .before .fits2 .ensures) ∙ not-false _ (c .if1 .left))

@@ -1,4 +1,4 @@
--- `world::space::boxes_from` meets its contract. Assumes nothing.
+-- `world::records::boxes_from` meets its contract. Assumes nothing.
 use Prim.Native.Nat.{_*_, _≤_}
 use native.Mathlib.Omega.{arith}
 use mathlib.Core.Path.{_≡_, ap, _∙_}
@@ -7,8 +7,8 @@ use lib.ListN.{length, drop}
 use denote.Ref.{now}
 use borrow.Author.Needs.{needs}
 use Rattle.world.specs.Laws.{part-is, part-past}
-use Rattle.world.proofs.space.boxes_from.Statement.{statement}
-use Rattle.world.proofs.space.boxes_from.Tie as tie
+use Rattle.world.proofs.records.boxes_from.Statement.{statement}
+use Rattle.world.proofs.records.boxes_from.Tie as tie
 
 -- where the part starts: at the record, or at the table's end, from which on there is as little
 module _ (c : tie.Joined1) where
