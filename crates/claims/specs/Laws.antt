@@ -8,3 +8,4 @@ pub mod Fits
 pub mod Below
 pub mod ReadBack
 pub mod Accepted
+pub mod Pushes

@@ -16,7 +16,7 @@ use Rattle.exploration.specs.Policy.{Policy, PolicyLaws}
 use Rattle.exploration.specs.Explore.{Outcome, Found, Unreachable, BudgetExceeded, Searching, points, runs, begin, final, outcome, answer}
 use Rattle.exploration.specs.Guides.{play, turns, beginBoth, Fair, one}
 use Rattle.exploration.specs.WalkBack.{isRoute}
-use Rattle.exploration.specs.Choose.{choose, Least, Ordered}
+use Rattle.exploration.specs.Choose.{choose, WaitsAt, Least, Ordered}
 use Rattle.exploration.specs.Estimates.{Comparison, sooner, Before, First}
 use Rattle.exploration.specs.Laws.Budgets.{Compared, equal, parted, compare-final}
 use Rattle.exploration.specs.Laws.Choices.{chosen-least, least-chosen}
@@ -146,19 +146,19 @@ module _ {A E : Type 0} (below level : E → E → Bool) (Number : E → Type 0)
     first-chosen below level Number laws estimate order waits xs (λ k x w. n k x (w .0) (w .1)) r,
   )
 
-  -- Where no two pushes tie, the place decides nothing: every other waiting one has a higher estimate, or an equal one and a later push.
+  -- Where no two pushes of those that wait tie, the place decides nothing: every other waiting one has a higher estimate, or an equal one and a later push.
   pub distinct-pushes-decide : (xs : List A) → ((k : ℕ) (x : A) → nth xs k ≡ some x → waits x ≡ true → Number (estimate x))
-      → ((j k : ℕ) (x y : A) → nth xs j ≡ some x → nth xs k ≡ some y → order x ≡ order y → j ≡ k)
+      → ((j k : ℕ) (x y : A) → nth xs j ≡ some x → nth xs k ≡ some y → waits x ≡ true → waits y ≡ true → order x ≡ order y → j ≡ k)
       → (r : ℕ × A) → choose waits (sooner below level estimate order) xs ≡ some r
       → (k : ℕ) (x : A) → nth xs k ≡ some x → waits x ≡ true → k ≢ r .0
       → (below (estimate (r .1)) (estimate x) ≡ true) ⊎ ((level (estimate (r .1)) (estimate x) ≡ true) × (order (r .1) < order x))
-  distinct-pushes-decide xs n distinct r e k x i w h = let f = picks-lowest-estimate-then-earliest-push xs n r .0 e in go (f .0 .0) (f .1 k x (i, w) h)
+  distinct-pushes-decide xs n distinct r e k x i w h = let f = picks-lowest-estimate-then-earliest-push xs n r .0 e in go (f .0) (f .1 k x (i, w) h)
     where
-      go : nth xs (r .0) ≡ some (r .1) → Before below level estimate order (r .0) (r .1) k x →
+      go : WaitsAt waits (sooner below level estimate order) xs (r .0) (r .1) → Before below level estimate order (r .0) (r .1) k x →
           (below (estimate (r .1)) (estimate x) ≡ true) ⊎ ((level (estimate (r .1)) (estimate x) ≡ true) × (order (r .1) < order x))
       go j (inl p) = inl p
       go j (inr (p, inl q)) = inr (p, q)
-      go j (inr (p, inr q)) = absurd (h (distinct k (r .0) x (r .1) i j (sym (q .0))))
+      go j (inr (p, inr q)) = absurd (h (distinct k (r .0) x (r .1) i (j .0) w (j .1) (sym (q .0))))
 
 -- And so it is for f64 estimates that are no NaN.
 pub picks-lowest-f64-then-earliest-push : {A : Type 0} (waits : A → Bool) (estimate : A → Float) (order : A → ℕ) (xs : List A)

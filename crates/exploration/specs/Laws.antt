@@ -3,6 +3,7 @@ pub mod Lists
 pub mod Apart
 pub mod Visits
 pub mod Loops
+pub mod Kept
 pub mod Invariant
 pub mod Expansions
 pub mod Budgets

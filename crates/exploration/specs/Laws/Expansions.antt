@@ -14,13 +14,8 @@ use Rattle.exploration.specs.Graph.{Graph, at-start, Way, arrived, conne
 use Rattle.exploration.specs.Policy.{Node, Policy, PolicyLaws}
 use Rattle.exploration.specs.Explore.{endingBy, ending, State, child, points, trace, visit, visits, closedNode, close, arrive, expandBy, advanceBy, advance, run, begin, final, keepOrDrop, blank, startNode}
 use Rattle.exploration.specs.Laws.Invariant.{Link, first-link, next-link, Trail, first-trail, next-trail, Frozen, link-later, trail-later, Expanded, closedCount, Inv, Grow, grow-refl, grow-trans, grow-known, grow-of, inv-of}
-use Rattle.exploration.specs.Laws.Lists.{none-some, true-false, true-or-false, or-left, or-right, or-cases, and-both, and-first, nth-snoc, nth-set, nth-set-same, nth-set-other, has-map, has-last, count-on, count-le, count-lt, map-set, map-snoc}
+use Rattle.exploration.specs.Laws.Lists.{Each, none-some, true-false, true-or-false, or-left, or-right, or-cases, and-both, and-first, nth-snoc, nth-set, nth-set-same, nth-set-other, has-map, has-last, count-on, count-le, count-lt, map-set, map-snoc}
 use Rattle.exploration.specs.Laws.Visits.{known, Visited, kept, reparented, retained, lost, visited, at-known}
-
--- each element of a list
-abbrev Each : {A : Type 0} → (A → Type 0) → List A → Type 0
-Each Q [] = Unit {0}
-Each Q (x ∷ xs) = Q x × Each Q xs
 
 each-map : {A : Type 0} (Q R : A → Type 0) → ((x : A) → Q x → R x) → (xs : List A) → Each Q xs → Each R xs
 each-map Q R f [] e = tt

@@ -14,7 +14,7 @@ use Rattle.rooms.specs.Rooms.{Note, nodeWaits, nodeSooner}
 use Rattle.costs.specs.Costs.{float, costBy, estimateBy, cheaper, loweredBy, lowered}
 use Rattle.visits.specs.Best.{opened, given, relaxed, best}
 
-given-is : {A : Type 0} (b : Bool) (x r : A) → given b x ≡ some r → x ≡ r
+pub given-is : {A : Type 0} (b : Bool) (x r : A) → given b x ≡ some r → x ≡ r
 given-is true x r e = cc
 given-is false x r e = absurd (none-some e)
 
