@@ -1,24 +1,34 @@
--- What the contract of `find_walk_path` says of a budget, and of its list: one theorem a claim, of the inputs of a call, in the words of 01, of the contract
+-- What the contract of `find_walk_path` says of a budget, of its list and of its order: one theorem a claim, of the inputs of a call, in the words of 01, of the contract
 -- (FindWalkPath of `search`) and of Words.
 use Prim.Native.Nat.{ℕ, _+_, _*_, _≤_, _<_}
 use mathlib.Core.Path.{_≡_}
-use mathlib.Core.Bool.{true}
-use mathlib.Core.Option.{none}
+use mathlib.Core.Bool.{true, false}
+use mathlib.Core.Option.{none, some}
 use mathlib.Core.List.{List, _++_}
-use mathlib.Core.Logic.{_≢_}
+use mathlib.Core.Logic.{_⊎_, _≢_}
 use native.Mathlib.Omega.{arith}
 use lib.ListN.{length, take, drop}
-use Rattle.exploration.specs.Lists.{has, count}
+use lib.Ieee.{isNan, lt, eq}
+use Rattle.exploration.specs.Lists.{nth, has, count}
 use Rattle.exploration.specs.Graph.{Reach}
+use Rattle.exploration.specs.Policy.{Node}
+use Rattle.exploration.specs.Explore.{State, run, begin}
+use Rattle.exploration.specs.Claims as theory
+use Rattle.exploration.specs.Laws.FloatOrder.{float-comparison}
 use Rattle.world.specs.declared.Body.{Body}
 use Rattle.world.specs.declared.Request.{Request}
 use Rattle.world.specs.declared.Window.{Window}
 use Rattle.world.specs.Space.{Space, space}
+use Rattle.request.specs.Request.{validRequest}
+use Rattle.words.specs.Words.{feetOf}
 use Rattle.steps.specs.Graph.{graph}
 use Rattle.rooms.specs.declared.Feet.{Feet}
 use Rattle.rooms.specs.declared.Label.{Label}
 use Rattle.rooms.specs.Lists.{listBytes}
 use Rattle.rooms.specs.Waypoints.{samePoint}
+use Rattle.rooms.specs.Scans.{estimateOf}
+use Rattle.rooms.specs.Rooms.{Note, nodeWaits}
+use Rattle.visits.specs.Best.{best}
 use Rattle.outcomes.specs.declared.Answer.{Answer}
 use Rattle.outcomes.specs.declared.Outcome.the-variants.{Found, Unreachable, BudgetExceeded}
 use Rattle.outcomes.specs.Outcomes.{outcomeNumber}
@@ -29,6 +39,9 @@ use Rattle.walk_back.specs.WalkBack.{IsRoute, walked}
 use Rattle.claims.specs.Words.{withBudget, InF64}
 use Rattle.claims.specs.Laws.Calls as calls
 use Rattle.claims.specs.Laws.Accepted.{accepted}
+use Rattle.claims.specs.Laws.Fits.{space-tops}
+use Rattle.claims.specs.Laws.Numbers.{estimates-are-numbers}
+use Rattle.claims.specs.Laws.Pushes.{pushOf, pushes-apart}
 
 module _ (w : Window) (cells perms shapes boxes : List ℕ) (r : Request) (body : Body) (nodes front out : List ℕ) where
   -- the space of the tables; the call's answer, and its answer with another budget and other rooms; what it leaves in the output
@@ -102,3 +115,19 @@ module _ (w : Window) (cells perms shapes boxes : List ℕ) (r : Request) (body 
   -- What the search writes, the walk-back accepts: for a request of f64s, as every caller's is.
   pub walk-back-accepts : InF64 r → answer .outcome ≡ Found → walked w cells perms shapes boxes r body (take (40 * answer .count) output) ≡ Yes
   walk-back-accepts = accepted w cells perms shapes boxes r body nodes front out
+
+  -- the search of the call after n expansions
+  abbrev after : ℕ → State Feet Label Note ℕ
+  after n = run (graph sp r body) (best (feetOf (r .goal))) (r .«node_budget») n (begin (graph sp r body) (best (feetOf (r .goal))) (r .«node_budget»))
+
+  -- "lowest estimate first, then earliest push": whenever a node is picked, every other one that waits has a higher estimate, or an equal one and a later push.
+  -- No estimate is a NaN and no two pushes tie, so nothing else decides. For a valid request of f64s.
+  pub lowest-estimate-first : InF64 r → validRequest r body ≡ true → (n : ℕ) (p : ℕ × Node Feet Label Note) → best (feetOf (r .goal)) .pick (after n .nodes) (after n .book) ≡ some p →
+      (k : ℕ) (x : Node Feet Label Note) → nth (after n .nodes) k ≡ some x → nodeWaits x ≡ true → k ≢ p .0 →
+      (lt (estimateOf (p .1 .note .entry)) (estimateOf (x .note .entry)) ≡ true)
+      ⊎ ((eq (estimateOf (p .1 .note .entry)) (estimateOf (x .note .entry)) ≡ true) × (pushOf (p .1) < pushOf x))
+  unfolding best
+  lowest-estimate-first f valid n p e =
+      theory.distinct-pushes-decide lt eq (λ x. isNan x ≡ false) float-comparison nodeWaits (λ x. estimateOf (x .note .entry)) pushOf (after n .nodes)
+      (λ k x i h. estimates-are-numbers sp (space-tops w cells perms shapes boxes) r body f valid (r .«node_budget») n k x i)
+      (pushes-apart (graph sp r body) (feetOf (r .goal)) (r .«node_budget») n) p e

@@ -9,3 +9,6 @@ pub mod Below
 pub mod ReadBack
 pub mod Accepted
 pub mod Pushes
+pub mod NotNegative
+pub mod InRange
+pub mod Numbers

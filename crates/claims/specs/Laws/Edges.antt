@@ -1,7 +1,10 @@
--- An edge by the comparisons that choose its movement (01, The graph, "Edge").
+-- An edge by the comparisons that choose its movement (01, The graph, "Edge"), and that its target is in range.
+use Prim.Native.Nat.{ℕ}
+use native.Mathlib.Omega.{arith}
 use mathlib.Core.Path.{_≡_, refl}
 use mathlib.Core.Bool.{Bool, true, false, cond}
 use lib.Ieee.{Float, binary64, lt, le, add, sub, neg}
+use Rattle.exploration.specs.Laws.Lists.{and-first}
 use Rattle.floats.specs.Floats.{E, nought, larger}
 use Rattle.world.specs.declared.Point.{Point}
 use Rattle.world.specs.declared.Body.{Body}
@@ -9,10 +12,17 @@ use Rattle.world.specs.declared.Request.{Request}
 use Rattle.world.specs.Space.{Space}
 use Rattle.moves.specs.declared.answer.Movement.{Movement}
 use Rattle.moves.specs.declared.answer.Movement.the-variants.{Walk, Step, Jump, Drop}
+use Rattle.moves.specs.declared.answer.Moving.{Moving}
+use Rattle.moves.specs.declared.answer.Moving.the-variants.{By, None}
+use Rattle.moves.specs.declared.answer.Waypoint.{Waypoint}
 use Rattle.moves.specs.declared.answer.EdgeAnswer.{EdgeAnswer}
 use Rattle.moves.specs.declared.answer.EdgeAnswer.the-variants.{To, Nowhere}
 use Rattle.moves.specs.Moves.{stepHeight, rising, falling, moving}
-use Rattle.edges.specs.Edges.{passable, edge}
+use Rattle.places.specs.Places.{inRange}
+use Rattle.edges.specs.Edges.{passable, edgeBy, edge}
+
+pub nowhere-to : {A : Type 0} {w : Waypoint} → Nowhere ≡ To w → A
+nowhere-to {A} {w} e = absurd (let z : _≡_ {A = ℕ} 0 1 = cc in omega arith)
 
 module _ (sp : Space) (r : Request) (body : Body) (from to : Point) where
   -- by this movement and lift, where the way is passable
@@ -45,3 +55,16 @@ module _ (sp : Space) (r : Request) (body : Body) (from to : Point) where
       go false e q f s g true h true i = rw (e, h, i)
       go false e q f s g true h false i = rw (e, h, i)
       go false e q f s g false h u i = rw (e, h)
+
+  -- "Then target and raised point in range"
+  pub target-in-range : (w : Waypoint) → edge sp r body from to ≡ To w → inRange r to ≡ true
+  unfolding edge
+  target-in-range w e = made (moving r body rise) e
+    where
+      pick : (m : Movement) (l : Float) (b : Bool) → passable sp r body from to l ≡ b → cond b (To (record { feet = to; lift = l; movement = m })) Nowhere ≡ To w → inRange r to ≡ true
+      pick m l true p e = unfold passable in and-first _ _ (and-first _ _ (and-first _ _ (and-first _ _ p)))
+      pick m l false p e = nowhere-to e
+
+      made : (m : Moving) → edgeBy sp r body from to m ≡ To w → inRange r to ≡ true
+      made None e = nowhere-to e
+      made (By m l) e = pick m l (passable sp r body from to l) refl e

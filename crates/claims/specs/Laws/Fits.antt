@@ -1,5 +1,6 @@
 -- Every number of a graph step is an f64.
 use Prim.Native.Nat.{ℕ, zero, suc, _*_}
+use mathlib.Core.Path.{_≡_, refl}
 use mathlib.Core.Bool.{Bool, true, false, cond}
 use mathlib.Core.List.{List, [], _∷_, _++_, map}
 use lib.Dec.{T}
@@ -33,7 +34,7 @@ use Rattle.steps.specs.declared.columns.Centre.{Centre}
 use Rattle.sides.specs.Sides.{lookedBy}
 use Rattle.steps.specs.Columns.{centre, centreOf, bandOf, target, ahead, edgesAt, columnSteps, sides, columnIf, stepsFrom}
 use Rattle.claims.specs.Words.{InF64}
-use Rattle.claims.specs.Laws.Edges.{by, rise, edge-is}
+use Rattle.claims.specs.Laws.Edges.{nowhere-to, by, rise, edge-is}
 
 -- ---- a property of every element
 
@@ -63,7 +64,7 @@ F64 x = T (fits binary64 x)
 abbrev Topped : Aabb → Type 0
 Topped b = F64 (b .max .y)
 
-abbrev ToppedSpace : Space → Type 0
+abbrev pub ToppedSpace : Space → Type 0
 ToppedSpace sp = (x y z : ℤ) → Each Topped (sp x y z .boxes)
 
 moved-top : (b : Aabb) (p : Point) → Topped (moved b p)
@@ -160,31 +161,39 @@ module _ (sp : Space) (r : Request) (body : Body) (jump : F64 (r .«jump_height�
         (made-cond (le (neg (rise sp r body from to)) (add binary64 (r .«max_drop») E)) (by-made Drop nought nought-fits) nowhere)
         (by-made Walk (larger (rise sp r body from to) nought) larger-fits)))
 
-  -- ---- the steps from a point
+-- ---- the steps from a point: what every edge to f64s has
 
-  ahead-made : {e : EdgeAnswer} {ws : List Waypoint} → MadeIf e → Each Made ws → Each Made (ahead e ws)
-  ahead-made nowhere q = q
-  ahead-made (made p) q = more p q
+module _ (sp : Space) (r : Request) (body : Body) (topped : ToppedSpace sp) (from : Point) (P : Waypoint → Type 0)
+    (have : (to : Point) → F64 (to .x) → F64 (to .y) → F64 (to .z) → (w : Waypoint) → edge sp r body from to ≡ To w → P w) where
+  ahead-each : (a : EdgeAnswer) {ws : List Waypoint} → ((w : Waypoint) → a ≡ To w → P w) → Each P ws → Each P (ahead a ws)
+  ahead-each Nowhere h q = q
+  ahead-each (To w) h q = more (h w refl) q
 
-  edges-made : (from : Point) (c : Centre) → F64 (c .x) → F64 (c .z) → {ys : List Float} → Each F64 ys → Each Made (edgesAt sp r body from c ys)
+  edges-each : (c : Centre) → F64 (c .x) → F64 (c .z) → {ys : List Float} → Each F64 ys → Each P (edgesAt sp r body from c ys)
   unfolding edgesAt
-  edges-made from c px pz end = end
-  edges-made from c px pz (more {x = y} {xs = ys} p ps) = ahead-made (edge-made from (target c y) px p pz) (edges-made from c px pz ps)
+  edges-each c px pz end = end
+  edges-each c px pz (more {x = y} {xs = ys} p ps) = ahead-each (edge sp r body from (target c y)) (have (target c y) px p pz) (edges-each c px pz ps)
 
-  module _ (topped : ToppedSpace sp) (from : Point) where
-    column-made : (n : ℕ) → Each Made (columnSteps sp r body from n)
-    unfolding columnSteps centreOf centre
-    column-made n =
-        edges-made from (centreOf from n) (add-fits binary64 _ _) (add-fits binary64 _ _)
-        (heights-fit sp topped (bandOf r body from) (centreOf from n .x) (centreOf from n .z))
+  column-each : (n : ℕ) → Each P (columnSteps sp r body from n)
+  unfolding columnSteps centreOf centre
+  column-each n =
+      edges-each (centreOf from n) (add-fits binary64 _ _) (add-fits binary64 _ _)
+      (heights-fit sp topped (bandOf r body from) (centreOf from n .x) (centreOf from n .z))
 
-    looked-made : (n : ℕ) → Each Made (columnIf sp r body from n)
-    unfolding columnIf
-    looked-made n = each-cond (lookedBy (sides sp r body from) n) (column-made n) end
+  looked-each : (n : ℕ) → Each P (columnIf sp r body from n)
+  unfolding columnIf
+  looked-each n = each-cond (lookedBy (sides sp r body from) n) (column-each n) end
 
-    pub steps-made : Each Made (stepsFrom sp r body from)
-    unfolding stepsFrom
-    steps-made = each-gather (columnIf sp r body from) looked-made 0 9
+  pub steps-each : Each P (stepsFrom sp r body from)
+  unfolding stepsFrom
+  steps-each = each-gather (columnIf sp r body from) looked-each 0 9
+
+made-of : {a : EdgeAnswer} → MadeIf a → (w : Waypoint) → a ≡ To w → Made w
+made-of nowhere w e = nowhere-to e
+made-of (made {w = v} p) w e = let s : v ≡ w = cc in rw (← s) p
+
+pub steps-made : (sp : Space) (r : Request) (body : Body) → F64 (r .«jump_height») → ToppedSpace sp → (from : Point) → Each Made (stepsFrom sp r body from)
+steps-made sp r body jump topped from = steps-each sp r body topped from Made (λ to x y z. made-of (edge-made sp r body jump from to x y z))
 
 -- ---- the connector
 

@@ -1,0 +1,149 @@
+-- What is in range of a valid request's start is finite: the room that a valid request leaves to its coordinates keeps its range below 2 ^ 32.
+use Prim.Native.Nat.{ℕ, _+_, _-_, _*_}
+use native.Mathlib.Omega.{arith}
+use mathlib.Core.Path.{_≡_, refl, sym, _∙_, subst}
+use mathlib.Core.Bool.{Bool, true, false, _&&_}
+use borrow.Author.Tests.{lt-ltb, leb-true}
+use lib.IntN.{ℤ, pos}
+use lib.Ieee.{Float, nan, inf, fin, binary64, isNan, lt, le, eq, up, down, add, sub, neg, sum, round, ofInt, ofBits}
+use lib.Ieee.Bits.{is-true}
+use lib.Ieee.Fits.{down-pos}
+use lib.Ieee.Order.{round-mono}
+use lib.Ieee.Scale.{finite}
+use Rattle.exploration.specs.Laws.Lists.{and-first, and-second}
+use Rattle.floats.specs.Floats.{E, nought, absolute}
+use Rattle.floats.specs.Order.{false-true, le-fin, le-right, le-trans, lt-le, not-le}
+use Rattle.floats.specs.Sums.{sum-grows, within-grows}
+use Rattle.world.specs.declared.Point.{Point}
+use Rattle.world.specs.declared.Body.{Body}
+use Rattle.world.specs.declared.Request.{Request}
+use Rattle.request.specs.Request.{number, allFinite, sized, notNegative, limit, within, placed, validRequest}
+use Rattle.request.specs.Laws.{FinitePoint, valid-finite}
+use Rattle.places.specs.Places.{near, inRange}
+use Rattle.claims.specs.Laws.NotNegative.{of-rounding}
+
+-- 2 ^ 32
+abbrev big : Float
+big = fin false 1 (pos 32)
+
+-- ---- what is at least 2 ^ 32 stays so when more is added
+
+big-is : round binary64 false 4294967296 1 ≡ big
+unfolding round
+big-is = refl
+
+module _ (n : ℕ) (d : ℤ) where
+  grown : le big (add binary64 big (fin false n d)) ≡ true
+  unfolding add sum
+  grown =
+      let most = 1 * 4294967296 * down d + n * up d * 1 in
+      subst (λ (x : Float). le x (round binary64 false most (1 * down d)) ≡ true) big-is
+      (is-true (le (round binary64 false 4294967296 1) (round binary64 false most (1 * down d))) (round-mono binary64 4294967296 1 most (1 * down d) (omega arith) (omega (arith, down-pos d)) (omega arith)))
+
+  stays : (x : Float) → le big x ≡ true → le big (add binary64 x (fin false n d)) ≡ true
+  stays x h = le-trans big (add binary64 big (fin false n d)) (add binary64 x (fin false n d)) grown (sum-grows n d big x (unfold le ofBits in refl) h)
+
+stays-over : (x y : Float) → finite y ≡ true → lt nought y ≡ true → le big x ≡ true → le big (add binary64 x y) ≡ true
+unfolding lt ofBits
+stays-over x nan f p h = false-true f
+stays-over x (inf s) f p h = false-true f
+stays-over x (fin true n d) f p h = false-true p
+stays-over x (fin false n d) f p h = stays n d x h
+
+-- ---- and leaves no room
+
+most-is : number 2147483647 ≡ fin false 2147483647 (pos 0)
+unfolding ofInt
+most-is = refl
+
+four-is : number 4 ≡ fin false 1 (pos 2)
+unfolding ofInt
+four-is = refl
+
+no-room : (x : Float) → le big x ≡ true → lt nought (sub binary64 (fin false 2147483647 (pos 0)) x) ≡ false
+unfolding sub add neg sum lt ofBits
+no-room nan h = false-true (unfold le eq in h)
+no-room (inf true) h = false-true (unfold le eq in h)
+no-room (inf false) h = refl
+no-room (fin true m e) h = absurd (omega (arith, down-pos e, leb-true (1 * 4294967296 * down e + m * up e * 1) 0 (sym (le-fin false 1 (pos 32) true m e) ∙ h)))
+no-room (fin false m e) h =
+    let least = leb-true (1 * 4294967296 * down e) (m * up e * 1) (sym (le-fin false 1 (pos 32) false m e) ∙ h) in
+    rw (lt-ltb (2147483647 * 1 * down e) (m * up e * 1) (omega (arith, down-pos e)))
+    (of-rounding (λ x. lt nought x ≡ false) true (λ m e. refl) refl (m * up e * 1 - 2147483647 * 1 * down e) (1 * down e))
+
+-- ---- what is near to a finite number is finite
+
+not-over : (x : Float) → finite x ≡ true → le (inf false) x ≡ false
+unfolding le lt eq
+not-over nan f = refl
+not-over (inf s) f = false-true f
+not-over (fin s m e) f = refl
+
+end-finite : finite (add binary64 big E) ≡ true
+unfolding add ofBits
+end-finite = refl
+
+near-end : (a b : Float) → finite b ≡ true → le (absolute (sub binary64 a b)) (add binary64 big E) ≡ true → finite a ≡ true
+unfolding absolute sub neg lt ofBits
+near-end (fin s m e) b f h = refl
+near-end nan b f h = false-true (unfold le eq in h)
+near-end (inf s) nan f h = false-true f
+near-end (inf s) (inf t) f h = false-true f
+near-end (inf true) (fin t n d) f h = false-true (sym (not-over (add binary64 big E) end-finite) ∙ h)
+near-end (inf false) (fin t n d) f h = false-true (sym (not-over (add binary64 big E) end-finite) ∙ h)
+
+-- ---- a valid request's range
+
+module _ (r : Request) (body : Body) (valid : validRequest r body ≡ true) where
+  tested : (sized body ≡ true) × (notNegative r body ≡ true) × (placed r (limit r body) ≡ true)
+  unfolding validRequest
+  tested =
+      let front = and-first (allFinite r body && sized body && notNegative r body) (placed r (limit r body)) valid in (
+        and-second (allFinite r body) (sized body) (and-first (allFinite r body && sized body) (notNegative r body) front),
+        and-second (allFinite r body && sized body) (notNegative r body) front,
+        and-second (allFinite r body && sized body && notNegative r body) (placed r (limit r body)) valid,
+      )
+
+  sizes : (lt nought (body .width) ≡ true) × (lt nought (body .height) ≡ true)
+  unfolding sized
+  sizes = (and-first _ (lt nought (body .height)) (tested .0), and-second (lt nought (body .width)) _ (tested .0))
+
+  room : lt nought (limit r body) ≡ true
+  unfolding placed
+  room = and-first _ (within (limit r body) (r .start)) (and-first _ (within (limit r body) (r .goal)) (tested .2))
+
+  range-not-negative : le nought (r .«max_range») ≡ true
+  unfolding notNegative
+  range-not-negative = and-first _ _ (and-first _ _ (and-first _ _ (and-first _ _ (tested .1))))
+
+  range-below : le (r .«max_range») big ≡ true
+  unfolding limit
+  range-below = go (le big (r .«max_range»)) refl
+    where
+      go : (b : Bool) → le big (r .«max_range») ≡ b → le (r .«max_range») big ≡ true
+      go false e = lt-le (r .«max_range») big (not-le big (r .«max_range») (unfold isNan in refl) (le-right nought (r .«max_range») range-not-negative) e)
+      go true e =
+          let f = valid-finite r body valid in
+          let w = stays-over (r .«max_range») (body .width) (f .width) (sizes .0) e in
+          let h = stays-over (add binary64 (r .«max_range») (body .width)) (body .height) (f .height) (sizes .1) w in
+          let s = stays 1 (pos 2) (add binary64 (add binary64 (r .«max_range») (body .width)) (body .height)) h in
+          false-true (sym (no-room _ s) ∙ (rw (most-is, four-is) at room))
+
+  -- max_range + E
+  reach-below : le (add binary64 (r .«max_range») E) (add binary64 big E) ≡ true
+  reach-below = within-grows (r .«max_range») big range-not-negative range-below
+
+  near-finite : (a b : Float) → finite b ≡ true → near (add binary64 (r .«max_range») E) a b ≡ true → finite a ≡ true
+  near-finite a b f h = near-end a b f (le-trans (absolute (sub binary64 a b)) (add binary64 (r .«max_range») E) (add binary64 big E) h reach-below)
+
+  pub in-range-finite : (p : Point) → inRange r p ≡ true → FinitePoint p
+  unfolding inRange
+  in-range-finite p h =
+      let most = add binary64 (r .«max_range») E in
+      let s = valid-finite r body valid .start in
+      let two = and-first (near most (p .x) (r .start .x) && near most (p .y) (r .start .y)) (near most (p .z) (r .start .z)) h in
+      record {
+        x = near-finite (p .x) (r .start .x) (s .x) (and-first (near most (p .x) (r .start .x)) (near most (p .y) (r .start .y)) two);
+        y = near-finite (p .y) (r .start .y) (s .y) (and-second (near most (p .x) (r .start .x)) (near most (p .y) (r .start .y)) two);
+        z = near-finite (p .z) (r .start .z) (s .z) (and-second (near most (p .x) (r .start .x) && near most (p .y) (r .start .y)) (near most (p .z) (r .start .z)) h);
+      }
