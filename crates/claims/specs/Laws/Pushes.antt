@@ -12,14 +12,13 @@ use Rattle.exploration.specs.Lists.{nth}
 use Rattle.exploration.specs.Graph.{Graph}
 use Rattle.exploration.specs.Policy.{Node}
 use Rattle.exploration.specs.Explore.{child, closedNode, startNode, run, begin}
-use Rattle.exploration.specs.Laws.Lists.{Each, none-some, true-false, nth-lt, nth-one, nth-snoc, nth-set}
+use Rattle.exploration.specs.Laws.Lists.{Each, none-some, true-false, nth-snoc, nth-set}
 use Rattle.exploration.specs.Laws.Kept.{Kept, run-kept}
 use Rattle.rooms.specs.declared.Feet.{Feet}
 use Rattle.rooms.specs.declared.Label.{Label}
-use Rattle.rooms.specs.declared.Entry.{Entry}
 use Rattle.rooms.specs.Rooms.{Note, nodeWaits}
 use Rattle.costs.specs.Costs.{float, costBy, estimateBy, cheaper, loweredBy, lowered}
-use Rattle.visits.specs.Best.{opened, given, relaxed, best}
+use Rattle.visits.specs.Best.{opened, relaxed, best}
 use Rattle.visits.specs.Laws.Policy.{best-laws, given-is}
 
 abbrev Nodes : Type 0
