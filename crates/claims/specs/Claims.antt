@@ -1,7 +1,7 @@
 -- What the contract of `find_walk_path` says of a budget, of its list and of its order: one theorem a claim, of the inputs of a call, in the words of 01, of the contract
 -- (FindWalkPath of `search`) and of Words.
 use Prim.Native.Nat.{ℕ, _+_, _*_, _≤_, _<_}
-use mathlib.Core.Path.{_≡_}
+use mathlib.Core.Path.{_≡_, _∙_}
 use mathlib.Core.Bool.{true, false}
 use mathlib.Core.Option.{none, some}
 use mathlib.Core.List.{List, _++_}
@@ -41,6 +41,8 @@ use Rattle.claims.specs.Laws.Calls as calls
 use Rattle.claims.specs.Laws.Accepted.{accepted}
 use Rattle.claims.specs.Laws.Fits.{space-tops}
 use Rattle.claims.specs.Laws.Numbers.{estimates-are-numbers}
+use Rattle.claims.specs.Laws.Marks.{isMarked, closed-are-marked}
+use Rattle.claims.specs.Laws.Movements.{movements-named}
 use Rattle.claims.specs.Laws.Pushes.{pushOf, pushes-apart}
 
 module _ (w : Window) (cells perms shapes boxes : List ℕ) (r : Request) (body : Body) (nodes front out : List ℕ) where
@@ -107,14 +109,21 @@ module _ (w : Window) (cells perms shapes boxes : List ℕ) (r : Request) (body 
     calls.count-within w cells perms shapes boxes r body nodes front out,
   )
 
-  -- and where the search began, the closed count is how many of the nodes that it ended with are closed.
+  -- and where the search began, the closed count is how many of the node records that it leaves have 1 for their closed word.
   pub closed-are-counted : withoutSearch w cells perms shapes boxes r body (length nodes) (length front) (length out) ≡ none →
-      answer .closed ≡ count (λ n. n .closed) (ended sp r body .nodes)
-  closed-are-counted = calls.closed-counted w cells perms shapes boxes r body nodes front out
+      answer .closed ≡ count isMarked (ended sp r body .nodes)
+  unfolding ended
+  closed-are-counted n =
+      calls.closed-counted w cells perms shapes boxes r body nodes front out n
+      ∙ closed-are-marked (graph sp r body) (feetOf (r .goal)) (r .«node_budget») (r .«node_budget»)
 
   -- What the search writes, the walk-back accepts: for a request of f64s, as every caller's is.
   pub walk-back-accepts : InF64 r → answer .outcome ≡ Found → walked w cells perms shapes boxes r body (take (40 * answer .count) output) ≡ Yes
   walk-back-accepts = accepted w cells perms shapes boxes r body nodes front out
+
+  -- A route has no movement but 01's four, so the walk-back answers no to a list with a movement above 3.
+  pub movement-above-three : (t : List (Feet × Label)) → IsRoute sp r body t → (k : ℕ) (v : Feet × Label) → nth t k ≡ some v → v .1 .movement ≤ 3
+  movement-above-three t l = movements-named sp r body (l .way)
 
   -- the search of the call after n expansions
   abbrev after : ℕ → State Feet Label Note ℕ

@@ -9,6 +9,8 @@ pub mod Below
 pub mod ReadBack
 pub mod Accepted
 pub mod Pushes
+pub mod Marks
+pub mod Movements
 pub mod NotNegative
 pub mod InRange
 pub mod Numbers

@@ -127,7 +127,8 @@ module _ {P L A B : Type 0} (𝓖 : Graph P L) (𝓟 : Policy P L A B) where
   abbrev pub close : State P L A B → ℕ → Node P L A → State P L A B
   close s k n = record { nodes = set (s .nodes) k (closedNode n); book = s .book; closings = suc (s .closings); dropped = s .dropped; found = s .found }
 
-  -- close the node n at place k; end the search there, or visit the node's steps
+  -- close the node n at place k; end the search there, or visit the node's steps. 01, "Search": "Pop, close, try the connector (a start equal to the goal
+  -- needs none: its list is the start alone), then the columns."
   abbrev pub expandBy : ℕ → State P L A B → ℕ → Node P L A → Option (List (P × L)) → State P L A B
   expandBy b s k n (some t) = arrive (close s k n) k t
   expandBy b s k n none = visits b k (closedNode n) (close s k n) (steps (n .point))

@@ -31,7 +31,7 @@ walkedNumber No = 11
 
 module _ (sp : Space) (r : Request) (body : Body) where
   -- The test of a list: no partial record, good ends, and from the start by graph steps to the goal, the last pair allowed to be a connector. An empty list
-  -- fails it, and so does a movement above 3, for no edge has one.
+  -- fails it, and so does a movement above 3, for no edge has one (`movement-above-three` of claims).
   unfoldable pub isRouteList : List ℕ → Bool
   isRouteList list = eqb (length list % 40) 0 && endsGood sp r body && isRoute (graph sp r body) (waypoints list)
 

@@ -12,8 +12,8 @@ use Rattle.exploration.specs.Lists.{nth}
 use Rattle.exploration.specs.Graph.{Graph}
 use Rattle.exploration.specs.Policy.{Node}
 use Rattle.exploration.specs.Explore.{child, closedNode, startNode, run, begin}
-use Rattle.exploration.specs.Laws.Lists.{Each, none-some, true-false, nth-snoc, nth-set}
-use Rattle.exploration.specs.Laws.Kept.{Kept, run-kept}
+use Rattle.exploration.specs.Laws.Lists.{none-some, true-false, nth-snoc, nth-set}
+use Rattle.exploration.specs.Laws.Kept.{Kept, each-any, run-kept}
 use Rattle.rooms.specs.declared.Feet.{Feet}
 use Rattle.rooms.specs.declared.Label.{Label}
 use Rattle.rooms.specs.Rooms.{Note, nodeWaits}
@@ -86,10 +86,6 @@ module _ (ns : Nodes) (g j k : ℕ) (m : Node Feet Label Note) (at : nth ns j �
   again false =
       in-place ns g (g + 1) j _ i (omega arith) (λ c. refl) (λ w. let z = i .before j m at (i .open-waits j m at unshut) in omega arith)
       (λ w d x o f v q. o (i .alone d j x m f at v (i .open-waits j m at unshut) q))
-
-each-any : {A : Type 0} (xs : List A) → Each (λ x. Unit {0}) xs
-each-any [] = tt
-each-any (x ∷ xs) = (tt, each-any xs)
 
 module _ (𝓖 : Graph Feet Label) (goal : Feet) where
   pushed-again : (ns : Nodes) (g k : ℕ) (f : Node Feet Label Note) (w : Feet × Label) (j : ℕ) (m : Node Feet Label Note) (a : Note × ℕ) → Apart ns g → nth ns j ≡ some m → m .closed ≡ false →

@@ -14,6 +14,11 @@ use Rattle.exploration.specs.Explore.{State, child, seek, ending, keepOr
 use Rattle.exploration.specs.Laws.Lists.{Each}
 use Rattle.exploration.specs.Laws.Visits.{Sought, at, nowhere, sought}
 
+-- nothing is asked of any
+pub each-any : {A : Type 0} (xs : List A) → Each (λ x. Unit {0}) xs
+each-any [] = tt
+each-any (x ∷ xs) = (tt, each-any xs)
+
 module _ {P L A B : Type 0} (𝓖 : Graph P L) (𝓟 : Policy P L A B) (I : List (Node P L A) → B → Type 0) (J : Node P L A → Type 0) (W : P × L → Type 0) where
   open Graph 𝓖 using (same)
   open Policy 𝓟 using (waits, pick, opening, admit, relax)
