@@ -1,14 +1,14 @@
 -- The closed word of a node record is 1 for a closed node and else 0, in every state that a search comes to: so whoever counts the words counts the closed
 -- nodes.
 use Prim.Native.Nat.{ℕ, zero, suc, _+_}
-use mathlib.Core.Path.{_≡_, refl, ap}
-use mathlib.Core.Bool.{Bool, true, false, cond}
+use mathlib.Core.Path.{_≡_, refl}
+use mathlib.Core.Bool.{Bool}
 use mathlib.Core.Option.{some}
 use mathlib.Core.List.{List, [], _∷_, _++_}
 use mathlib.Core.Logic.{⊎-elim}
 use lib.Dec.{eqb}
 use lib.ListN.{set}
-use Rattle.exploration.specs.Lists.{nth, count, tally}
+use Rattle.exploration.specs.Lists.{nth, count}
 use Rattle.exploration.specs.Graph.{Graph}
 use Rattle.exploration.specs.Policy.{Node}
 use Rattle.exploration.specs.Explore.{child, closedNode, startNode, run, begin}

@@ -1,14 +1,14 @@
 -- Each point of a route carries one of 01's four movements: the start a Walk, and every other one an edge's.
 use Prim.Native.Nat.{ℕ, zero, suc, _≤_}
 use native.Mathlib.Omega.{arith}
-use mathlib.Core.Path.{_≡_, refl, sym}
-use mathlib.Core.Bool.{Bool, true, false, _&&_, _||_}
+use mathlib.Core.Path.{_≡_, refl}
+use mathlib.Core.Bool.{Bool, true, _&&_}
 use mathlib.Core.Option.{some}
 use mathlib.Core.List.{List, [], _∷_, map}
 use mathlib.Core.Logic.{⊎-elim}
 use borrow.Author.Tests.{eqb-true}
 use Rattle.exploration.specs.Lists.{nth, has}
-use Rattle.exploration.specs.Graph.{Graph, Way, arrived, connected, stepped, Route, route, labelled}
+use Rattle.exploration.specs.Graph.{Way, arrived, connected, stepped, Route, route, labelled}
 use Rattle.exploration.specs.Laws.Lists.{none-some, true-false, or-cases, and-first, and-second}
 use Rattle.world.specs.declared.Body.{Body}
 use Rattle.world.specs.declared.Request.{Request}
