@@ -15,7 +15,7 @@ use lib.Ieee.Fits.{down-pos, round-fits, and-l, and-r}
 use Rattle.floats.specs.Laws.{equal-bits}
 
 -- two f64s of one sign and one value are one
-same-value : (x : Float) (s : Bool) (m : ℕ) (e : ℤ) → T (fits binary64 x) → T (fits binary64 (fin s m e)) → HasValue x s (m * up e) (down e) → x ≡ fin s m e
+pub same-value : (x : Float) (s : Bool) (m : ℕ) (e : ℤ) → T (fits binary64 x) → T (fits binary64 (fin s m e)) → HasValue x s (m * up e) (down e) → x ≡ fin s m e
 unfolding toBits
 same-value nan s m e h k v = absurd v
 same-value (inf t) s m e h k v = absurd v

@@ -1,1 +1,2 @@
-// At a point that is the same as the goal the connector passes (01, "Search": "a start equal to the goal needs none"; `specs/Arrival.antt`): theorems only. No code.
+// At a point that is the same as the goal the connector passes (01, "Search": "a start equal to the goal needs none"; `specs/Arrival.antt`), and lifts compare as
+// numbers (01, Modules 5; `specs/Lifts.antt`): theorems only. No code.

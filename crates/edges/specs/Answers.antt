@@ -17,8 +17,8 @@ use Rattle.moves.specs.Moves.{moving}
 use Rattle.moves.specs.Laws.{Number, moving-number}
 use Rattle.edges.specs.Edges.{passable, edgeBy, edge}
 
-nowhere : {A : Type 0} {w : Waypoint} → Nowhere ≡ To w → A
-nowhere {A} {w} e = absurd (let z : _≡_ {A = ℕ} 0 1 = cc in omega arith)
+pub nowhere-to : {A : Type 0} {w : Waypoint} → Nowhere ≡ To w → A
+nowhere-to {A} {w} e = absurd (let z : _≡_ {A = ℕ} 0 1 = cc in omega arith)
 
 -- ---- its feet are the target
 
@@ -29,10 +29,10 @@ module _ (sp : Space) (r : Request) (body : Body) (from to : Point) (w : Waypoin
     where
       pick : (m : Movement) (l : Float) (b : Bool) → cond b (To (record { feet = to; lift = l; movement = m })) Nowhere ≡ To w → w .feet ≡ to
       pick m l true e = let s : record { feet = to; lift = l; movement = m } ≡ w = cc in ap (λ (v : Waypoint). v .feet) (sym s)
-      pick m l false e = nowhere e
+      pick m l false e = nowhere-to e
 
       by : (m : Moving) → edgeBy sp r body from to m ≡ To w → w .feet ≡ to
-      by None e = nowhere e
+      by None e = nowhere-to e
       by (By m l) e = pick m l (passable sp r body from to l) e
 
 -- ---- its lift is no NaN
@@ -44,8 +44,8 @@ module _ (r : Request) (body : Body) (jumps : isNan (r .«jump_height») ≡ fal
     where
       pick : (m : Movement) (l : Float) → isNan l ≡ false → (b : Bool) → cond b (To (record { feet = to; lift = l; movement = m })) Nowhere ≡ To w → isNan (w .lift) ≡ false
       pick m l n true e = let s : record { feet = to; lift = l; movement = m } ≡ w = cc in rw (← ap (λ (v : Waypoint). v .lift) s) n
-      pick m l n false e = nowhere e
+      pick m l n false e = nowhere-to e
 
       by : (m : Moving) → Number m → edgeBy sp r body from to m ≡ To w → isNan (w .lift) ≡ false
-      by None n e = nowhere e
+      by None n e = nowhere-to e
       by (By m l) n e = pick m l n (passable sp r body from to l) e

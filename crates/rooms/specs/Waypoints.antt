@@ -15,7 +15,7 @@ sameWord a b = eqb (canonicalWord a) (canonicalWord b)
 unfoldable pub samePoint : Feet → Feet → Bool
 samePoint p q = sameWord (p .x) (q .x) && sameWord (p .y) (q .y) && sameWord (p .z) (q .z)
 
--- 01, Modules 5: "lifts compare as numbers": equal bits, with -0.0 as 0, for no edge's lift is a NaN (`lift-number` of edges)
+-- 01, Modules 5: "lifts compare as numbers": equal bits, with -0.0 as 0, for no edge's lift is a NaN (`lifts-as-numbers` of arrival)
 unfoldable pub alike : Label → Label → Bool
 alike a b = eqb (a .movement) (b .movement) && sameWord (a .lift) (b .lift)
 

@@ -1,6 +1,4 @@
 -- An edge by the comparisons that choose its movement (01, The graph, "Edge"), and that its target is in range.
-use Prim.Native.Nat.{ℕ}
-use native.Mathlib.Omega.{arith}
 use mathlib.Core.Path.{_≡_, refl}
 use mathlib.Core.Bool.{Bool, true, false, cond}
 use lib.Ieee.{Float, binary64, lt, le, add, sub, neg}
@@ -20,9 +18,7 @@ use Rattle.moves.specs.declared.answer.EdgeAnswer.the-variants.{To, Nowhere}
 use Rattle.moves.specs.Moves.{stepHeight, rising, falling, moving}
 use Rattle.places.specs.Places.{inRange}
 use Rattle.edges.specs.Edges.{passable, edgeBy, edge}
-
-pub nowhere-to : {A : Type 0} {w : Waypoint} → Nowhere ≡ To w → A
-nowhere-to {A} {w} e = absurd (let z : _≡_ {A = ℕ} 0 1 = cc in omega arith)
+use Rattle.edges.specs.Answers.{nowhere-to}
 
 module _ (sp : Space) (r : Request) (body : Body) (from to : Point) where
   -- by this movement and lift, where the way is passable

@@ -30,11 +30,12 @@ use Rattle.moves.specs.declared.answer.EdgeAnswer.{EdgeAnswer}
 use Rattle.moves.specs.declared.answer.EdgeAnswer.the-variants.{To, Nowhere}
 use Rattle.moves.specs.Moves.{stepHeight}
 use Rattle.edges.specs.Edges.{passable, edge, nearGoal, connector}
+use Rattle.edges.specs.Answers.{nowhere-to}
 use Rattle.steps.specs.declared.columns.Centre.{Centre}
 use Rattle.sides.specs.Sides.{lookedBy}
 use Rattle.steps.specs.Columns.{centre, centreOf, bandOf, target, ahead, edgesAt, columnSteps, sides, columnIf, stepsFrom}
 use Rattle.claims.specs.Words.{InF64}
-use Rattle.claims.specs.Laws.Edges.{nowhere-to, by, rise, edge-is}
+use Rattle.claims.specs.Laws.Edges.{by, rise, edge-is}
 
 -- ---- a property of every element
 
