@@ -1,2 +1,3 @@
+-- The records that a C caller hands over. What a reader must believe: Records, Asked.
 pub mod Records
 pub mod Asked

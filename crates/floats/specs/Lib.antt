@@ -1,3 +1,4 @@
+-- Floats. What a reader must believe: Floats. What is proved of it: Patterns, Laws, Order, Zeros, Sums.
 pub mod Floats
 pub mod Patterns
 pub mod Laws

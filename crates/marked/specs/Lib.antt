@@ -1,1 +1,2 @@
+-- 01's marked examples, one table under one claim: Marked.
 pub mod Marked

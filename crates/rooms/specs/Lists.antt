@@ -1,4 +1,4 @@
--- The list that a search found, on the node room and in bytes. Definitions only.
+-- The list that a search found, on the node room and in bytes (01, "Tables": "Waypoint record 40 bytes"). Definitions only.
 use mathlib.Core.Path.{_≡_}
 use mathlib.Core.Bool.{Bool, true, false, cond}
 use mathlib.Core.List.{List, [], _∷_, _++_, reverseAux}

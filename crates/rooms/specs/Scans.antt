@@ -1,4 +1,4 @@
--- What a search looks for in its rooms: the node at a point, and the next of the frontier. Definitions only.
+-- What a search looks for in its rooms (01, "Search"): the node at a point, and the next of the frontier. Definitions only.
 use Prim.Native.Nat.{ℕ, zero, suc}
 use mathlib.Core.Bool.{Bool, cond}
 use mathlib.Core.Option.{Option, none, some}

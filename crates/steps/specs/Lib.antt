@@ -1,3 +1,4 @@
+-- The graph. What a reader must believe: Columns, Graph. What is proved of them: ColumnLaws, Expansion, GraphLaws, Gathers, Layers, Bounds.
 pub mod Columns
 pub mod Graph
 pub mod ColumnLaws

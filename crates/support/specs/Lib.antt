@@ -1,3 +1,4 @@
+-- Supported segments. What a reader must believe: Support, Cover, and of Pass `reached` and `step`. What is proved of them: Laws, Rounds, Pass, PassLaws.
 pub mod Cover
 pub mod Support
 pub mod Laws

@@ -1,1 +1,2 @@
+-- The C interface. What a reader must believe: Answers.
 pub mod Answers
