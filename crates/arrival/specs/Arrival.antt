@@ -17,6 +17,7 @@ use Rattle.world.specs.declared.Body.{Body}
 use Rattle.world.specs.declared.Request.{Request}
 use Rattle.world.specs.Boxes.{fromFeet, minus}
 use Rattle.world.specs.Space.{Space}
+use Rattle.world.specs.Laws.{both}
 use Rattle.request.specs.Laws.{FinitePoint}
 use Rattle.clear.specs.Clear.{clear}
 use Rattle.support.specs.Support.{supported}
@@ -31,11 +32,6 @@ use Rattle.words.specs.Words.{coordinate, pointOf, feetOf, labelOf}
 use Rattle.steps.specs.Graph.{graph}
 use Rattle.arrival.specs.Alike.{Alike, Zero, zero-alike, nought-zero, finite-alike, sub-alike, no-difference, with-zero, lt-alike, le-alike, absolute-alike}
 use Rattle.arrival.specs.Areas.{AlikePoint, ZeroPoint, Held, swept-alike, clear-alike, supported-alike}
-
-both : (a b : Bool) → (a && b) ≡ true → (a ≡ true) × (b ≡ true)
-both true b e = (refl, e)
-both false true e = (e, refl)
-both false false e = (e, e)
 
 -- ---- no rise and no fall
 

@@ -8,6 +8,7 @@ pub mod Fits
 pub mod Below
 pub mod ReadBack
 pub mod Accepted
+pub mod Nodes
 pub mod Pushes
 pub mod Marks
 pub mod Movements

@@ -4,10 +4,8 @@ use Prim.Native.Nat.{ℕ, _+_}
 use mathlib.Core.Path.{_≡_}
 use mathlib.Core.Bool.{Bool, true, false}
 use mathlib.Core.Option.{some}
-use mathlib.Core.List.{List, [], _∷_, _++_, map}
-use mathlib.Core.Logic.{⊎-elim}
+use mathlib.Core.List.{List, [], map}
 use lib.IntN.{pos}
-use lib.ListN.{set}
 use lib.Ieee.{binary64, isNan, add, mul, lt, ofBits}
 use lib.Ieee.Fits.{add-fits}
 use lib.Ieee.Scale.{finite}
@@ -16,7 +14,6 @@ use Rattle.exploration.specs.Graph.{Graph}
 use Rattle.exploration.specs.Policy.{Node}
 use Rattle.exploration.specs.Explore.{child, closedNode, run, begin}
 use Rattle.exploration.specs.Laws.Lists as lists
-use Rattle.exploration.specs.Laws.Lists.{none-some, nth-snoc, nth-set}
 use Rattle.exploration.specs.Laws.Kept.{Kept, run-kept}
 use Rattle.floats.specs.Laws.{float-of-bits}
 use Rattle.world.specs.declared.Point.{Point}
@@ -42,6 +39,7 @@ use Rattle.visits.specs.Laws.Policy.{best-laws, given-is}
 use Rattle.claims.specs.Words.{InF64}
 use Rattle.claims.specs.Laws.Edges.{target-in-range}
 use Rattle.claims.specs.Laws.Fits.{Each, end, more, F64, ToppedSpace, steps-each}
+use Rattle.claims.specs.Laws.Nodes.{AllOf, none-there, one-more, in-place}
 use Rattle.claims.specs.Laws.InRange.{in-range-finite}
 use Rattle.claims.specs.Laws.NotNegative.{NotNegative, sized, is-number, sum-not-negative, half-more-not-negative, difference-number, distance-not-negative}
 
@@ -103,21 +101,9 @@ record Sound (n : Node Feet Label Note) : Type 0 where
   pub cost : Weight (n .note .cost)
   pub estimate : Weight (n .note .entry .estimate)
 
-abbrev AllSound : List (Node Feet Label Note) → Type 0
-AllSound ns = (k : ℕ) (x : Node Feet Label Note) → nth ns k ≡ some x → Sound x
-
 -- and of each step that it visits
 abbrev Reached : Feet × Label → Type 0
 Reached w = FiniteFeet (w .0)
-
-none-there : AllSound []
-none-there k x e = absurd (none-some e)
-
-one-more : (ns : List (Node Feet Label Note)) (n : Node Feet Label Note) → AllSound ns → Sound n → AllSound (ns ++ (n ∷ []))
-one-more ns n i s k x e = ⊎-elim (λ p. i k x p) (λ p. rw (p .1) s) (nth-snoc ns n k x e)
-
-in-place : (ns : List (Node Feet Label Note)) (j : ℕ) (n : Node Feet Label Note) → AllSound ns → Sound n → AllSound (set ns j n)
-in-place ns j n i s k x e = ⊎-elim (λ p. rw (p .1) s) (λ p. i k x (p .1)) (nth-set ns j n k x e)
 
 module _ (goal : Feet) (there : FiniteFeet goal) where
   relaxed-sound : (n : Note) (k : ℕ) (to p : Feet) (l : Label) (cost g : ℕ) (a : Note × ℕ) → Weight (n .entry .estimate) → FiniteFeet to → FiniteFeet p → Weight cost →
@@ -129,18 +115,18 @@ module _ (goal : Feet) (there : FiniteFeet goal) where
       rw (← z) (record { point = q; cost = w; estimate = lowered-weight (lt (float est) (float (n .entry .estimate))) est (n .entry) g (estimate-weight to goal t there cost w) v })
 
   module _ (𝓖 : Graph Feet Label) (start : FiniteFeet (𝓖 .start)) (reached : (p : Feet) → lists.Each Reached (𝓖 .steps p)) where
-    kept : Kept 𝓖 (best goal) (λ ns g. AllSound ns) Sound Reached
+    kept : Kept 𝓖 (best goal) (λ ns g. AllOf Sound ns) Sound Reached
     unfolding best
     kept = record {
-      empty = none-there;
-      begins = one-more [] _ none-there (record { point = start; cost = none-weight; estimate = none-weight });
+      empty = none-there Sound;
+      begins = one-more Sound [] _ (none-there Sound) (record { point = start; cost = none-weight; estimate = none-weight });
       steps = λ f s. reached (f .point);
-      closes = λ ns g k n i e w. let c = closed n (i k n e) in (in-place ns k _ i c, c);
+      closes = λ ns g k n i e w. let c = closed n (i k n e) in (in-place Sound ns k _ i c, c);
       retains = λ ns g k f w s t i.
           let c = cost-weight (f .point) (w .0) (s .point) t (f .note .cost) (s .cost) in
-          one-more ns _ i (record { point = t; cost = c; estimate = estimate-weight (w .0) goal t there _ c });
+          one-more Sound ns _ i (record { point = t; cost = c; estimate = estimate-weight (w .0) goal t there _ c });
       reparents = λ ns g k f w j m a s t i e p c x.
-          in-place ns j _ i
+          in-place Sound ns j _ i
           (relaxed-sound (m .note) k (w .0) (m .point) (w .1) _ g a (i j m e .estimate) t (i j m e .point) (cost-weight (f .point) (w .0) (s .point) t (f .note .cost) (s .cost)) x);
     }
       where
@@ -173,4 +159,4 @@ module _ (sp : Space) (topped : ToppedSpace sp) (r : Request) (body : Body) (f :
       let start = feet-finite (r .start) (f .start-x) (f .start-y) (f .start-z) (v .start) in
       let goal = feet-finite (r .goal) (f .goal-x) (f .goal-y) (f .goal-z) (v .goal) in
       is-number
-      (run-kept (graph sp r body) (best (feetOf (r .goal))) (λ ns g. AllSound ns) Sound Reached (best-laws (feetOf (r .goal))) (kept (feetOf (r .goal)) goal (graph sp r body) start steps-finite) b n k x e .estimate)
+      (run-kept (graph sp r body) (best (feetOf (r .goal))) (λ ns g. AllOf Sound ns) Sound Reached (best-laws (feetOf (r .goal))) (kept (feetOf (r .goal)) goal (graph sp r body) start steps-finite) b n k x e .estimate)
