@@ -5,7 +5,7 @@ use std::fmt::Write;
 use original::Checks;
 use scene::{Scene, Waypoint};
 
-use crate::replay::Tape;
+use crate::tape::Tape;
 
 /// A question and its answer.
 pub enum Question {

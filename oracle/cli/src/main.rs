@@ -3,21 +3,25 @@
 
 mod bench;
 mod digest;
+mod files;
 mod geometry;
 mod numbers;
 mod policy;
 mod printed;
 mod reader;
-mod replay;
+mod row;
 mod selftest;
 mod stats;
 mod store;
+mod tape;
 mod trace;
 mod walks;
 
 use std::io::{ErrorKind, Read, Write};
 use std::path::Path;
 use std::process::ExitCode;
+
+use crate::files::scene_file;
 
 const USAGE: &str = "\
 oracle print < SCENE
@@ -91,12 +95,6 @@ fn put(bytes: &[u8]) -> Result<bool, String> {
         Err(error) => Err(error.to_string()),
         Ok(()) => Ok(true),
     }
-}
-
-/// The bytes of a scene in text form.
-fn scene_file(file: &str) -> Result<Vec<u8>, String> {
-    let text = std::fs::read_to_string(file).map_err(|error| format!("{file}: {error}"))?;
-    scene::from_text(&text).map_err(|error| format!("{file}: {error}"))
 }
 
 /// The scene of a seed and a kind.

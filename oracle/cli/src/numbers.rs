@@ -7,7 +7,7 @@ use std::fmt::Write;
 use original::Apex;
 
 use crate::policy;
-use crate::replay::{Row, stirred};
+use crate::row::{Row, stirred};
 
 const LEAD: u64 = 1 << 52;
 const SIGN: u64 = 1 << 63;

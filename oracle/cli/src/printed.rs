@@ -2,12 +2,7 @@
 
 use std::path::Path;
 
-use crate::{scene_file, store};
-
-/// What walkprint prints of a scene.
-pub fn text(bytes: &[u8]) -> String {
-    scene::print_verdict(&original::verdict(bytes))
-}
+use crate::files::{directed, scene_file};
 
 /// Where the flat scene is cut, in and between records.
 const CUTS: [usize; 13] = [0, 63, 64, 65, 128, 191, 192, 193, 320, 447, 448, 449, 511];
@@ -17,7 +12,7 @@ const CUTS: [usize; 13] = [0, 63, 64, 65, 128, 191, 192, 193, 320, 447, 448, 449
 pub fn scenes(folder: &Path) -> Result<Vec<Vec<u8>>, String> {
     let file = |name: &str| folder.join(name).to_string_lossy().into_owned();
     let mut out = Vec::new();
-    for name in store::directed(folder)? {
+    for name in directed(folder)? {
         out.push(scene_file(&file(&name))?);
     }
     let flat = std::fs::read_to_string(file("flat.txt")).map_err(|error| error.to_string())?;

@@ -3,7 +3,7 @@
 
 use scene::{Record, write_bytes};
 
-use crate::replay::Tape;
+use crate::tape::Tape;
 
 /// A base scene with many small damages, then whole scenes; each in tables
 /// full of another byte.

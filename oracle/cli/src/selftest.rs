@@ -5,7 +5,8 @@ use std::path::Path;
 use original::{Apex, Policy};
 use scene::{Answer, Outcome};
 
-use crate::{geometry, policy, scene_file, store, trace, walks};
+use crate::files::{directed, scene_file};
+use crate::{geometry, policy, store, trace, walks};
 
 /// Runs every check on the scenes of a folder; prints a line each, and is
 /// false if one failed.
@@ -73,7 +74,7 @@ fn comes_back(bytes: &[u8]) -> bool {
 }
 
 fn texts(folder: &Path) -> Result<bool, String> {
-    for name in store::directed(folder)? {
+    for name in directed(folder)? {
         if !comes_back(&scene_file(&folder.join(&name).to_string_lossy())?) {
             println!("{name} does not come back");
             return Ok(false);

@@ -6,8 +6,9 @@ use std::path::Path;
 
 use scene::Verdict;
 
-use crate::replay::Tape;
-use crate::{geometry, numbers, printed, reader, scene_file, walks};
+use crate::files::{directed, scene_file};
+use crate::tape::Tape;
+use crate::{geometry, numbers, printed, reader, walks};
 
 /// A scene and where it comes from.
 struct Source {
@@ -42,17 +43,6 @@ pub fn lists(folder: &Path) -> Result<Vec<(&'static str, Vec<u8>)>, String> {
         ("../crates/numbers_check/stdin", records),
         ("../crates/numbers_check/stdout", lines),
     ])
-}
-
-/// The directed scenes of a folder, by name.
-pub fn directed(folder: &Path) -> Result<Vec<String>, String> {
-    let entries = std::fs::read_dir(folder).map_err(|error| error.to_string())?;
-    let mut files: Vec<String> = entries
-        .filter_map(|entry| entry.ok()?.file_name().into_string().ok())
-        .filter(|name| name.ends_with(".txt"))
-        .collect();
-    files.sort();
-    Ok(files)
 }
 
 /// The most bytes of a stored scene that was made from a seed, with the list

@@ -2,7 +2,7 @@
 
 use scene::{Answer, Outcome, Scene, u64_at};
 
-use crate::replay::Tape;
+use crate::tape::Tape;
 
 const KINDS: [&str; 6] = ["levels", "slabs", "stairs", "doors", "far", "zeros"];
 /// The most bytes of a scene, and the seeds looked through for each kind.
