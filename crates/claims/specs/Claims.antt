@@ -93,7 +93,7 @@ module _ (w : Window) (cells perms shapes boxes : List ℕ) (r : Request) (body 
   pub enough-budget : (K : List Feet) → ((p : Feet) → Reach (graph sp r body) p → has (λ x. samePoint x p) K ≡ true) →
       length K ≤ r .«node_budget» →
       answer .outcome ≢ BudgetExceeded
-  enough-budget = calls.not-exceeded w cells perms shapes boxes r body nodes front out
+  enough-budget K covers enough = calls.not-exceeded w cells perms shapes boxes r body nodes front out K covers (omega (arith, enough))
 
   -- So where there is a route, and the budget is for every such point and draws no refusal, Found is answered.
   pub a-route-is-found : (t : List (Feet × Label)) → IsRoute sp r body t →
