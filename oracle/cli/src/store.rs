@@ -16,7 +16,7 @@ struct Source {
     bytes: Vec<u8>,
 }
 
-/// Writes every list into `folder`; says their sizes.
+/// Writes every list of the directed scenes in `folder`; says their sizes.
 pub fn store(folder: &Path) -> Result<String, String> {
     let mut out = String::new();
     for (file, bytes) in lists(folder)? {
@@ -26,8 +26,8 @@ pub fn store(folder: &Path) -> Result<String, String> {
     Ok(out)
 }
 
-/// Each list's file and bytes. Those of the gate's programs lie beside the
-/// folder, under `crates`.
+/// Each list's file, as seen from the folder of the directed scenes, and bytes.
+/// Those of the gate's programs lie under `crates`.
 pub fn lists(folder: &Path) -> Result<Vec<(&'static str, Vec<u8>)>, String> {
     let mut tape = Tape::new(printed::scenes(folder)?);
     searches(folder, &mut tape)?;
@@ -37,11 +37,11 @@ pub fn lists(folder: &Path) -> Result<Vec<(&'static str, Vec<u8>)>, String> {
     let [input, output, names] = tape.files();
     let (records, lines) = numbers::files();
     Ok(vec![
-        ("../crates/replay_check/stdin", input),
-        ("../crates/replay_check/stdout", output),
-        ("replay.lst", names),
-        ("../crates/numbers_check/stdin", records),
-        ("../crates/numbers_check/stdout", lines),
+        ("../../crates/replay_check/stdin", input),
+        ("../../crates/replay_check/stdout", output),
+        ("../replay.lst", names),
+        ("../../crates/numbers_check/stdin", records),
+        ("../../crates/numbers_check/stdout", lines),
     ])
 }
 

@@ -80,7 +80,7 @@ fn recipes_of<'a>(names: &[&'a str]) -> Vec<&'a str> {
 
 /// The directed scenes.
 fn scenes() -> PathBuf {
-    PathBuf::from(concat!(env!("CARGO_MANIFEST_DIR"), "/../../scenes"))
+    PathBuf::from(concat!(env!("CARGO_MANIFEST_DIR"), "/../../scenes/directed"))
 }
 
 fn number(word: &str) -> u64 {

@@ -119,7 +119,7 @@ pub fn table(folder: &Path, seed: u64, count: u64) -> bool {
             judged.supported(variant) != judged.supported(Variant::ReadAsWritten)
         });
         if tells {
-            println!("{name}: scenes/{name}.txt by asking whether start to goal is supported");
+            println!("{name}: scenes/directed/{name}.txt by asking whether start to goal is supported");
         } else {
             println!("{name}: SURVIVES");
             survivors += 1;
@@ -141,7 +141,7 @@ fn row(variant: Variant, scenes: &[Judged], random: &[Judged]) -> (String, bool,
     let verdict = match own.or(killers.first()) {
         Some(judged) => {
             let shown = shown_by(&judged.right, &search(&judged.scene, variant));
-            format!("scenes/{}.txt by {shown}", judged.name)
+            format!("scenes/directed/{}.txt by {shown}", judged.name)
         }
         None => "SURVIVES".to_string(),
     };
