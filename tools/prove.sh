@@ -63,8 +63,8 @@ is_proved() { # OUTPUT WORD
     [ -f "$1" ] && [ -f "$1.proved" ] && [ "$(cat "$1.proved")" = "$(stamp_for "$1" "$2")" ]
 }
 
-# A line for each crate that is proved, as soon as rt tells of it, and what rt says beside. A crate that has not changed counts without a line, and one that
-# is told of twice counts once.
+# A line for each crate that is proved, as soon as rt tells of it, and what rt says of failures. A crate that has not changed counts without a line, and one
+# that is told of twice counts once.
 progress() {
     told=' ' number=0
     while IFS= read -r line; do
@@ -76,6 +76,7 @@ progress() {
             told="$told$crate " number=$((number + 1))
             case $line in *'(unchanged'*) ;; *) printf '[%s/%s] %s proved\n' "$number" "$count" "$crate" ;; esac
             ;;
+        'rt: ok, '* | 'rt: target/'*) ;;
         'rt: '*) printf '%s\n' "${line#rt: }" ;;
         esac
     done

@@ -7,6 +7,7 @@
 # ---- the fields of a record, whose bytes are two hex digits each in b[0] to b[63]
 
 function u32(at) { return from_hex(b[at + 3] b[at + 2] b[at + 1] b[at]) }
+function big(n) { return sprintf("%.0f", n) } # in all its digits
 function f64(at) { return b[at + 7] b[at + 6] b[at + 5] b[at + 4] b[at + 3] b[at + 2] b[at + 1] b[at] }
 
 # ---- each rule's sentence, or nothing where it is kept
@@ -26,7 +27,7 @@ function zeros_broken(k,    i) {
 function window_broken(    i, cells) {
     cells = 1
     for (i = 1; i <= 3; i++) {
-        if (u32(16 + 4 * i) > 256) return "the window's size in " axis[i] " is " u32(16 + 4 * i) ", above 256"
+        if (u32(16 + 4 * i) > 256) return "the window's size in " axis[i] " is " big(u32(16 + 4 * i)) ", above 256"
         cells *= u32(16 + 4 * i)
     }
     return cells > 4096 ? "the window has " cells " cells, above 4096" : ""
@@ -42,23 +43,23 @@ function box_broken(    i, end, bits) {
     return ""
 }
 function shape_broken(n) {
-    if (n > 255) return "shape " n " is above 255"
+    if (n > 255) return "shape " big(n) " is above 255"
     if (n + 1 < shapes) return "shape " n " after shape " (shapes - 1) "; the shapes' numbers do not fall"
     if (n + 1 == shapes && in_shape == 16) return "box 17 of shape " n "; a shape has at most 16"
     if (boxes == 256) return "box 257; a scene has at most 256"
     return box_broken()
 }
 function state_broken(n,    permission) {
-    if (states == 256) return "state " n " after state 255, which is the last that can be"
-    if (n != states) return "state " n " where state " states " was awaited; the states count from 0"
+    if (states == 256) return "state " big(n) " after state 255, which is the last that can be"
+    if (n != states) return "state " big(n) " where state " states " was awaited; the states count from 0"
     permission = from_hex(b[8])
     return permission > 7 ? "permission " permission " is above 7, the sum of 1 (occupied), 2 (support) and 4 (collides)" : ""
 }
 function rule_broken(k, n) {
-    if (k == 1) return n > 512 ? "budget " n " is above 512" : ""
+    if (k == 1) return n > 512 ? "budget " big(n) " is above 512" : ""
     if (k == 4) return shape_broken(n)
     if (k == 5) return state_broken(n)
-    if (n != 0) return "the number n of a " kind[k] " is 0, not " n
+    if (n != 0) return "the number n of a " kind[k] " is 0, not " big(n)
     return k == 3 ? window_broken() : ""
 }
 
