@@ -17,14 +17,15 @@ find_kit() {
         [ -x "$kit/bin/rt" ] || fail 1 "RATTLE_HOME is $kit, and that is no folder of the Rattle kit: it has no bin/rt"
     else
         command -v rt >/dev/null || fail 1 "the Rattle kit is not here: put its rt on the path, or its folder into RATTLE_HOME"
-        kit=$(dirname "$(rt doc </dev/null 2>/dev/null)")/..
-        [ -x "$kit/bin/rt" ] || fail 1 "the rt on the path, $(command -v rt), is not the Rattle kit's: put the kit's folder into RATTLE_HOME"
+        guide=$(rt doc </dev/null 2>&1) || :
+        kit=$(dirname "$guide")/..
+        [ -x "$kit/bin/rt" ] || fail 1 "the rt on the path, $(command -v rt), leads to no Rattle kit: put the kit's folder into RATTLE_HOME. It says: $guide"
     fi
     kit=$(cd "$kit" && pwd -P)
     [ -d "$kit/on/$machine/toolchain" ] || fail 1 "the Rattle kit at $kit has nothing for this machine, $machine"
 }
 
-# Sets `crates`, the crates that NAME stands on and then NAME, with those that each uses, as crates.txt has it; none where it does not list NAME.
+# Sets `crates`, the crates that NAME stands on and then NAME, with those that each uses, as crates.txt has it, their `names` and `count`.
 stand_on() { # NAME
     crates=$(NAME=$1 awk '
         function visit(n,    part, k, m) {
@@ -37,6 +38,7 @@ stand_on() { # NAME
         { sub(/#.*/, ""); i = index($0, ":") }
         i { n = substr($0, 1, i - 1); gsub(/[ \t]/, "", n); uses[n] = substr($0, i + 1) }
         END { visit(ENVIRON["NAME"]) }' "$root/crates.txt")
+    [ -n "$crates" ] || fail 2 "crates.txt has no crate $1"
     names=$(printf '%s\n' "$crates" | sed 's/:.*//')
     count=$(printf '%s\n' "$names" | wc -l | tr -d ' ')
 }
@@ -93,7 +95,7 @@ warn_of_kit() {
 prove() { # OUTPUT WORD LOG COMMAND...
     output=$1 word=$2 log=$3
     shift 3
-    { mkdir -p "$(dirname "$output")" && rm -f "$output.proved" && : >"$log"; } 2>/dev/null || fail 1 "cannot write in $root/target, where the proofs go"
+    { mkdir -p "$(dirname "$output")" && rm -f "$output.proved" && touch "$log"; } 2>/dev/null || fail 1 "cannot write in $root/target, where the proofs go"
     warn_of_kit
     new=0
     for crate in $names; do [ -e "$root/target/stamp/$crate" ] || new=1; done
