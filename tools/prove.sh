@@ -86,7 +86,7 @@ progress() {
 
 warn_of_kit() {
     pinned=$(cat "$root/KIT" 2>/dev/null) || pinned='no kit (there is no file KIT)'
-    here=$("$kit/bin/rt" version </dev/null)
+    here=$(RATTLE_HOME=$kit "$kit/bin/rt" version </dev/null)
     [ "$pinned" = "$here" ] || say "warning: the kit here is $here, and the proofs were written for $pinned"
 }
 
