@@ -98,10 +98,10 @@ prove() { # OUTPUT WORD LOG COMMAND...
     { mkdir -p "$(dirname "$output")" && rm -f "$output.proved" && touch "$log"; } 2>/dev/null || fail 1 "cannot write in $root/target, where the proofs go"
     warn_of_kit
     new=0
-    for crate in $names; do [ -e "$root/target/stamp/$crate" ] || new=1; done
+    for crate in $names; do [ -e "$root/target/stamp/$crate" ] || new=$((new + 1)); done
     case $new in
-    1) say "proving $count crates, some minutes" ;;
-    *) say "looking through $count crates, and proving again what has changed" ;;
+    0 | 1) say "looking through $count crates, and proving what has changed" ;;
+    *) say "proving $count crates, some minutes" ;;
     esac
     status=$({ { "$@" </dev/null 2>&1 3>&- && ended=0 || ended=$?; echo "$ended" >&3; } | tee "$log" | progress >&2; } 3>&1)
     if [ "$status" != 0 ] || [ ! -f "$output" ]; then fail 1 "not proved; $log has what the prover said"; fi
