@@ -21,7 +21,7 @@ find_kit() {
         kit=$(dirname "$guide")/..
         [ -x "$kit/bin/rt" ] || fail 1 "the rt on the path, $(command -v rt), leads to no Rattle kit: put the kit's folder into RATTLE_HOME. It says: $guide"
     fi
-    kit=$(cd "$kit" && pwd -P)
+    kit=$(CDPATH= cd -- "$kit" && pwd -P)
     [ -d "$kit/on/$machine/toolchain" ] || fail 1 "the Rattle kit at $kit has nothing for this machine, $machine"
 }
 
