@@ -4,7 +4,7 @@ use Prim.Native.Nat.{ℕ, zero, suc, _*_, _^_, _<_}
 use native.Mathlib.Nat.{zero-mul, mul-pos}
 use native.Mathlib.Omega.{arith}
 use mathlib.Core.Path.{_≡_, refl, sym, ap, _∙_}
-use mathlib.Core.Bool.{Bool, true, false, not, _&&_, _||_, cond, Bool·beq}
+use mathlib.Core.Bool.{Bool, true, false, not, _&&_, _||_, Bool·beq}
 use borrow.Author.Tests.{eqb-true, eqb-false, eq-eqb}
 use lib.Dec.{T, eqb, eqb→eq}
 use lib.IntN.{ℤ, pos, negsuc}
@@ -29,6 +29,7 @@ use Rattle.rooms.specs.Waypoints.{canonicalWord, sameWord, alike}
 use Rattle.words.specs.Words.{labelOf}
 use Rattle.arrival.specs.Exact.{same-value}
 use Rattle.arrival.specs.Alike.{Alike}
+use Rattle.arrival.specs.Signs.{word-alike}
 
 no : {A : Type 0} → false ≡ true → A
 no e = absurd (let z : _≡_ {A = ℕ} 0 1 = cc in omega arith)
@@ -116,15 +117,6 @@ word-of (inf s) f = refl
 word-of (fin s zero e) f = rw (unit-exponent e f) (zero-word s ∙ sym (zero-word false))
 word-of (fin s (suc m) e) f = refl
 
--- -0.0 and 0 are alike
-read-alike : (n : ℕ) → Alike (ofBits binary64 (canonicalWord n)) (ofBits binary64 n)
-unfolding canonicalWord
-read-alike n = go (eqb n 0x8000_0000_0000_0000) refl
-  where
-    go : (q : Bool) → eqb n 0x8000_0000_0000_0000 ≡ q → Alike (ofBits binary64 (cond q 0 n)) (ofBits binary64 n)
-    go true p = rw (eqb-true n 0x8000_0000_0000_0000 p) (unfold ofBits canonical in refl)
-    go false p = refl
-
 -- ---- the theorem
 
 not-nan : (x y : Float) → eq x y ≡ true → T (not (isNan y))
@@ -148,7 +140,7 @@ words-as-numbers x n f number h = go (eqb (word x) (canonicalWord n)) refl (eq x
     -- the same words: the numbers are alike, so equal
     then-equal : word x ≡ canonicalWord n → eq x y ≡ true
     then-equal e =
-        let a : Alike x y = sym (read-alike (toBits binary64 x) ∙ ap canonical (float-of-bits x f)) ∙ ap (λ (v : ℕ). canonical (ofBits binary64 v)) e ∙ read-alike n in
+        let a : Alike x y = sym (word-alike (toBits binary64 x) ∙ ap canonical (float-of-bits x f)) ∙ ap (λ (v : ℕ). canonical (ofBits binary64 v)) e ∙ word-alike n in
         sym (canonical-eq x y) ∙ ap (eq x) (sym a) ∙ canonical-eq x x ∙ itself x number
 
     -- equal numbers: alike, so of the same word
