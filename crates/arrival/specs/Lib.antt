@@ -1,4 +1,5 @@
--- The goal's own point, the sign of a zero, and lifts as numbers: theorems alone. Arrival, Signs and Lifts state them; Exact, Alike, Areas and Supports lead to them.
+-- The goal's own point, the sign of a zero, and lifts as numbers: theorems alone. Arrival, Signs, Tops and Lifts state them; Exact, Alike, Areas, Supports and MinusZero
+-- lead to them.
 pub mod Exact
 pub mod Alike
 pub mod Areas
@@ -6,3 +7,5 @@ pub mod Supports
 pub mod Signs
 pub mod Arrival
 pub mod Lifts
+pub mod MinusZero
+pub mod Tops

@@ -6,9 +6,8 @@ use native.Mathlib.Omega.{arith}
 use mathlib.Core.Path.{_≡_, refl, sym, ap, _∙_}
 use mathlib.Core.Bool.{Bool, true, false, not, _&&_, _||_, Bool·beq}
 use borrow.Author.Tests.{eqb-true, eqb-false, eq-eqb}
-use lib.Dec.{T, eqb, eqb→eq}
-use lib.IntN.{ℤ, pos, negsuc}
-use lib.Pow.{pow-pos}
+use lib.Dec.{T, eqb}
+use lib.IntN.{ℤ, pos}
 use lib.Ieee.{Float, nan, inf, fin, binary64, fits, isNan, size, span, climb, up, down, level, eq, ofBits, toBits}
 use lib.Ieee.Bits.{ofBits-fits, toBits-ofBits}
 use lib.Ieee.Fits.{up-pos, down-pos}
@@ -27,7 +26,7 @@ use Rattle.edges.specs.Answers.{lift-number}
 use Rattle.rooms.specs.declared.Label.{Label}
 use Rattle.rooms.specs.Waypoints.{canonicalWord, sameWord, alike}
 use Rattle.words.specs.Words.{labelOf}
-use Rattle.arrival.specs.Exact.{same-value}
+use Rattle.arrival.specs.Exact.{same-value, unit-exponent}
 use Rattle.arrival.specs.Alike.{Alike}
 use Rattle.arrival.specs.Signs.{word-alike}
 
@@ -67,7 +66,7 @@ beq-same false false e = refl
 beq-same true false e = no e
 beq-same false true e = no e
 
-same-number : (x y : Float) → T (fits binary64 x) → T (fits binary64 y) → eq x y ≡ true → Alike x y
+pub same-number : (x y : Float) → T (fits binary64 x) → T (fits binary64 y) → eq x y ≡ true → Alike x y
 unfolding eq canonical
 same-number nan y f g e = no e
 same-number (inf s) nan f g e = no e
@@ -95,12 +94,6 @@ itself (fin s m e) n = rw (eq-eqb (m * up e * down e) (m * up e * down e) refl) 
     signs false = refl
 
 -- ---- the word of a number, with -0.0 as 0
-
--- a zero has no exponent
-unit-exponent : (e : ℤ) → T (eqb (up e * down e) 1) → e ≡ pos zero
-unit-exponent (pos zero) h = refl
-unit-exponent (pos (suc k)) h = absurd (let z = pow-pos k in omega (arith, eqb→eq (2 ^ suc k * 1) 1 h))
-unit-exponent (negsuc k) h = absurd (let z = pow-pos k in omega (arith, eqb→eq (1 * 2 ^ suc k) 1 h))
 
 zero-word : (s : Bool) → canonicalWord (toBits binary64 (fin s zero (pos zero))) ≡ 0
 unfolding canonicalWord toBits size span climb
