@@ -266,8 +266,8 @@ sound-sums r t s =
     record {
       firsts = λ i h.
           let l : i < n = omega (arith, many) in
-          part-first n (t .shapes) i l ∙ s .shapes .firsts i l ∙ sym (part-sum n (t .shapes) i (omega arith));
-      all = rw (many, boxes) (part-sum n (t .shapes) n (omega arith) ∙ s .shapes .all);
+          omega (arith, part-first n (t .shapes) i l, s .shapes .firsts i l, part-sum n (t .shapes) i (omega arith));
+      all = rw (many, boxes) (omega (arith, part-sum n (t .shapes) n (omega arith), s .shapes .all));
     }
   where
     part-sum : (n : ℕ) (u : List ℕ) (i : ℕ) → i ≤ n → countsBefore (take (8 * n) u) i ≡ countsBefore u i

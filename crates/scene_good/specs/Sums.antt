@@ -30,7 +30,7 @@ none-before t = refl
 
 pub one-more : (t : List ℕ) (i : ℕ) → countsBefore t (i + 1) ≡ countsBefore t i + countOf t i
 unfolding countsBefore
-one-more t i = rw add-one
+one-more t i = rw (add-one i) (omega arith)
 
 -- equal counts have equal sums
 pub same-sum : (t u : List ℕ) (i : ℕ) → ((j : ℕ) → j < i → countOf t j ≡ countOf u j) → countsBefore t i ≡ countsBefore u i
@@ -48,10 +48,9 @@ empty-sum t i (suc n) e =
 
 -- each run is within the sum of all
 pub run-within : (t : List ℕ) (i n : ℕ) → i < n → countsBefore t i + countOf t i ≤ countsBefore t n
-unfolding countsBefore
 run-within t i zero h = absurd (omega arith)
-run-within t i (suc n) h = go (eqb i n) refl (run-within t i n)
+run-within t i (suc n) h = rw (← add-one n) (go (eqb i n) refl (run-within t i n))
   where
-    go : (b : Bool) → eqb i n ≡ b → (i < n → countsBefore t i + countOf t i ≤ countsBefore t n) → countsBefore t i + countOf t i ≤ countsBefore t n + countOf t n
-    go true e below = let q : i ≡ n = eqb-true i n e in rw q (omega arith)
-    go false e below = let w = below (omega (arith, eqb-false i n e)) in omega arith
+    go : (b : Bool) → eqb i n ≡ b → (i < n → countsBefore t i + countOf t i ≤ countsBefore t n) → countsBefore t i + countOf t i ≤ countsBefore t (n + 1)
+    go true e below = let q : i ≡ n = eqb-true i n e in rw q (omega (arith, one-more t n))
+    go false e below = omega (arith, one-more t n, below (omega (arith, eqb-false i n e)))
