@@ -1,14 +1,15 @@
--- Floats that differ at most in the sign of a zero. No comparison and no cell tells them apart, and no sum but for that sign.
+-- Floats that differ at most in the sign of a zero. No comparison and no cell tells them apart, and no sum, difference or quotient but for that sign.
 use Prim.Native.Nat.{ℕ, zero, suc, _-_, _*_, _<_}
 use native.Mathlib.Nat.{zero-mul, mul-one, one-mul, mul-assoc, mul-comm, mul-pos, zero-add, add-zero, zero-div, zero-mod}
 use native.Mathlib.Omega.{arith}
 use mathlib.Core.Path.{_≡_, refl, sym, ap, _∙_, subst}
 use mathlib.Core.Bool.{Bool, true, false, _&&_, cond}
-use borrow.Author.Tests.{ltb-false, le-ltb}
+use mathlib.Core.Logic.{_⊎_, inl, inr}
+use borrow.Author.Tests.{ltb-false, le-ltb, ne-eqb}
 use lib.Dec.{T, ltb}
 use lib.IntN.{ℤ, pos}
-use lib.Ieee.{Float, nan, inf, fin, binary64, fits, up, down, size, span, climb, odd, units, round, sum, add, sub, neg, lt, le, eq, ofBits}
-use lib.Ieee.Fits.{down-pos}
+use lib.Ieee.{Float, nan, inf, fin, binary64, fits, up, down, size, span, climb, odd, units, round, sum, add, sub, neg, div, lt, le, eq, ofBits}
+use lib.Ieee.Fits.{up-pos, down-pos}
 use lib.Ieee.Scale.{finite, round-same}
 use Rattle.floats.specs.Floats.{nought, smaller, larger, absolute, canonical}
 use Rattle.floats.specs.Zeros.{nil, by-zeros, lt-canonical, canonical-lt, le-canonical, canonical-le, eq-canonical, canonical-eq}
@@ -28,6 +29,21 @@ nought-zero = refl
 
 pub zero-alike : (x : Float) → Zero x → Alike x nought
 zero-alike x z = z ∙ sym nought-zero
+
+-- floats that are alike are zeros, or they are one float
+pub zero-or-same : (x y : Float) → Alike x y → ((Zero x) × (Zero y)) ⊎ (x ≡ y)
+zero-or-same x y e = go (zero-or-own x) (zero-or-own y)
+  where
+    zero-or-own : (v : Float) → (Zero v) ⊎ (canonical v ≡ v)
+    zero-or-own nan = inr (unfold canonical in refl)
+    zero-or-own (inf s) = inr (unfold canonical in refl)
+    zero-or-own (fin s zero e) = inl (unfold canonical in refl)
+    zero-or-own (fin s (suc m) e) = inr (unfold canonical in refl)
+
+    go : (Zero x) ⊎ (canonical x ≡ x) → (Zero y) ⊎ (canonical y ≡ y) → ((Zero x) × (Zero y)) ⊎ (x ≡ y)
+    go (inl z) own = inl (z, sym e ∙ z)
+    go (inr p) (inl z) = inl (e ∙ z, z)
+    go (inr p) (inr q) = inr (sym p ∙ e ∙ q)
 
 -- floats that are alike answer alike where no zero is told from 0.0
 alike-by : {A : Type 0} (f : Float → A) → ((s : Bool) (e : ℤ) → f nil ≡ f (fin s zero e)) → (x y : Float) → Alike x y → f x ≡ f y
@@ -119,6 +135,19 @@ add-alike = both-alike (λ x y. canonical (add binary64 x y)) add-left add-right
 pub sub-alike : (x y a b : Float) → Alike x a → Alike y b → Alike (sub binary64 x y) (sub binary64 a b)
 unfolding sub
 sub-alike x y a b e f = add-alike x (neg y) a (neg b) e (neg-alike y b f)
+
+-- a quotient by one divisor
+pub div-alike : (x y d : Float) → Alike x y → Alike (div binary64 x d) (div binary64 y d)
+div-alike x y d = alike-by (λ v. canonical (div binary64 v d)) (λ s e. quotient s e d) x y
+  where
+    quotient : (s : Bool) (e : ℤ) (d : Float) → Alike (div binary64 nil d) (div binary64 (fin s zero e) d)
+    quotient s e nan = unfold div in refl
+    quotient s e (inf t) = unfold div canonical in refl
+    quotient s e (fin t zero d) = unfold div in refl
+    quotient s e (fin t (suc n) d) =
+        unfold div in rw (ne-eqb (suc n) 0 (λ q. omega arith))
+        (round-zero _ (0 * 1 * down d) (suc n * up d * 1) (simp zero-mul) (mul-pos {m = suc n * up d} {n = 1} (mul-pos {m = suc n} {n = up d} (omega arith) (up-pos d)) (omega arith))
+        ∙ sym (round-zero _ (0 * up e * down d) (suc n * up d * down e) (simp zero-mul) (mul-pos {m = suc n * up d} {n = down e} (mul-pos {m = suc n} {n = up d} (omega arith) (up-pos d)) (down-pos e))))
 
 -- a number less itself is a zero, and so it is less one alike
 itself : (x : Float) → finite x ≡ true → Zero (sub binary64 x x)

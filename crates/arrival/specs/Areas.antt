@@ -1,22 +1,17 @@
--- Points and boxes that differ at most in signs of zeros: an area is clear where the other one is, and a point supports itself and what is alike.
-use mathlib.Core.Path.{_≡_, refl, sym, _∙_}
-use mathlib.Core.Bool.{true, cond}
-use mathlib.Core.Option.{Option, none, some}
+-- Points and boxes that differ at most in signs of zeros: an area is clear where the other one is.
+use mathlib.Core.Path.{_≡_, refl, _∙_}
 use mathlib.Core.List.{List, [], _∷_}
 use lib.Dec.{T}
-use lib.Ieee.{Float, binary64, fits, lt, le, eq, add, sub, ofBits}
+use lib.Ieee.{Float, binary64, fits, lt, ofBits}
 use lib.Ieee.Fits.{add-fits, sub-fits}
-use Rattle.floats.specs.Floats.{E, nought, smaller, larger, canonical}
+use Rattle.floats.specs.Floats.{nought, smaller, larger, canonical}
 use Rattle.regions.specs.declared.Spot.{Spot}
 use Rattle.world.specs.declared.Point.{Point}
 use Rattle.world.specs.declared.Aabb.{Aabb}
-use Rattle.world.specs.Boxes.{one, plus, span, fromFeet, expandTowards, meets, corner, voxel}
+use Rattle.world.specs.Boxes.{plus, minus, span, fromFeet, expandTowards, meets, corner, voxel}
 use Rattle.world.specs.Space.{Space, Block}
-use Rattle.request.specs.Laws.{FinitePoint}
 use Rattle.clear.specs.Clear.{hits, free, allFree, around, clear}
-use Rattle.support.specs.declared.Interval.{Interval}
-use Rattle.support.specs.Support.{footprint, Shape, beneath, shapesUnder, counts, narrowed, andThen, interval, counting, intervals, carried, supported}
-use Rattle.arrival.specs.Alike.{Alike, Zero, zero-alike, add-alike, sub-alike, no-difference, with-zero, lt-alike, le-alike, eq-alike, smaller-alike, larger-alike, floor-alike, ceil-alike}
+use Rattle.arrival.specs.Alike.{Alike, Zero, zero-alike, add-alike, sub-alike, with-zero, lt-alike, smaller-alike, larger-alike, floor-alike, ceil-alike}
 
 pub record AlikePoint (p q : Point) : Type 0 where
   pub x : Alike (p .x) (q .x)
@@ -38,6 +33,14 @@ pub record Held (p : Point) : Type 0 where
   pub y : T (fits binary64 (p .y))
   pub z : T (fits binary64 (p .z))
 
+pub itself : (p : Point) → AlikePoint p p
+itself p = record { x = refl; y = refl; z = refl }
+
+pub minus-alike : (p q a b : Point) → AlikePoint p a → AlikePoint q b → AlikePoint (minus p q) (minus a b)
+unfolding minus
+minus-alike p q a b h k =
+    record { x = sub-alike (p .x) (q .x) (a .x) (b .x) (h .x) (k .x); y = sub-alike (p .y) (q .y) (a .y) (b .y) (h .y) (k .y); z = sub-alike (p .z) (q .z) (a .z) (b .z) (h .z) (k .z) }
+
 through-point : (a b c : Point) → AlikePoint a b → AlikePoint b c → AlikePoint a c
 through-point a b c h k = record { x = h .x ∙ k .x; y = h .y ∙ k .y; z = h .z ∙ k .z }
 
@@ -50,6 +53,24 @@ module _ (width height : Float) where
     min = record { x = sub-alike (p .x) _ (q .x) _ (h .x) refl; y = h .y; z = sub-alike (p .z) _ (q .z) _ (h .z) refl };
     max = record { x = add-alike (p .x) _ (q .x) _ (h .x) refl; y = add-alike (p .y) height (q .y) height (h .y) refl; z = add-alike (p .z) _ (q .z) _ (h .z) refl };
   }
+
+  -- and what it grows to, towards differences that are alike
+  pub swept-alike : (p q d e : Point) → AlikePoint p q → AlikePoint d e → AlikeBox (expandTowards (fromFeet p width height) d) (expandTowards (fromFeet q width height) e)
+  unfolding expandTowards plus span
+  swept-alike p q d e h k =
+      let f = feet-alike p q h in
+      record {
+        min = record {
+          x = add-alike _ _ _ _ (f .min .x) (smaller-alike (d .x) nought (e .x) nought (k .x) refl);
+          y = add-alike _ _ _ _ (f .min .y) (smaller-alike (d .y) nought (e .y) nought (k .y) refl);
+          z = add-alike _ _ _ _ (f .min .z) (smaller-alike (d .z) nought (e .z) nought (k .z) refl);
+        };
+        max = record {
+          x = add-alike _ _ _ _ (f .max .x) (larger-alike (d .x) nought (e .x) nought (k .x) refl);
+          y = add-alike _ _ _ _ (f .max .y) (larger-alike (d .y) nought (e .y) nought (k .y) refl);
+          z = add-alike _ _ _ _ (f .max .z) (larger-alike (d .z) nought (e .z) nought (k .z) refl);
+        };
+      }
 
   held-min : (p : Point) → Held p → Held (fromFeet p width height .min)
   unfolding fromFeet
@@ -88,8 +109,8 @@ grown b d h k z = record {
 }
 
 -- the area swept from a point by no difference
-pub swept-alike : (width height : Float) (p q d : Point) → AlikePoint p q → Held p → ZeroPoint d → AlikeBox (expandTowards (fromFeet p width height) d) (fromFeet q width height)
-swept-alike width height p q d h k z =
+pub swept-nowhere : (width height : Float) (p q d : Point) → AlikePoint p q → Held p → ZeroPoint d → AlikeBox (expandTowards (fromFeet p width height) d) (fromFeet q width height)
+swept-nowhere width height p q d h k z =
     let g = grown (fromFeet p width height) d (held-min width height p k) (held-max width height p) z in
     let f = feet-alike width height p q h in
     record { min = through-point _ _ _ (g .min) (f .min); max = through-point _ _ _ (g .max) (f .max) }
@@ -134,98 +155,3 @@ module _ (a b : Aabb) (h : AlikeBox a b) where
           floor-alike (a .min .z) (b .min .z) (h .min .z),
           ceil-alike (a .max .z) (b .max .z) (h .max .z),
         ) (all-alike _)
-
--- ---- supported
-
-module _ (f g : Aabb) (h : AlikeBox f g) where
-  counts-alike : (b : Aabb) → counts f b ≡ counts g b
-  unfolding counts
-  counts-alike b = cc (
-    le-alike (sub binary64 (f .min .y) E) (b .max .y) (sub binary64 (g .min .y) E) (b .max .y) (sub-alike (f .min .y) E (g .min .y) E (h .min .y) refl) refl,
-    le-alike (b .max .y) (add binary64 (f .max .y) E) (b .max .y) (add binary64 (g .max .y) E) refl (add-alike (f .max .y) E (g .max .y) E (h .max .y) refl),
-    lt-alike (b .min .x) (f .max .x) (b .min .x) (g .max .x) refl (h .max .x),
-    lt-alike (f .min .x) (b .max .x) (g .min .x) (b .max .x) (h .min .x) refl,
-    lt-alike (b .min .z) (f .max .z) (b .min .z) (g .max .z) refl (h .max .z),
-    lt-alike (f .min .z) (b .max .z) (g .min .z) (b .max .z) (h .min .z) refl,
-  )
-
-  counting-alike : (ss : List Shape) → counting f ss ≡ counting g ss
-  unfolding counting
-  counting-alike [] = refl
-  counting-alike (s ∷ ss) = rw (counts-alike (s .box), counting-alike ss)
-
-  shapes-alike : (sp : Space) → shapesUnder sp f ≡ shapesUnder sp g
-  unfolding shapesUnder beneath
-  shapes-alike sp =
-      rw (
-        floor-alike (f .min .y) (g .min .y) (h .min .y),
-        floor-alike (f .max .y) (g .max .y) (h .max .y),
-        floor-alike (f .min .x) (g .min .x) (h .min .x),
-        ceil-alike (f .max .x) (g .max .x) (h .max .x),
-        floor-alike (f .min .z) (g .min .z) (h .min .z),
-        ceil-alike (f .max .z) (g .max .z) (h .max .z),
-      )
-
-zero-equal : (d : Float) → Zero d → eq d nought ≡ true
-zero-equal d z = eq-alike d nought nought nought (zero-alike d z) refl ∙ base
-  where
-    base : eq nought nought ≡ true
-    base = unfold eq ofBits in refl
-
--- a line that does not move
-narrowed-alike : (s t d e low high : Float) (i : Interval) → Alike s t → Zero d → Zero e → narrowed s d low high i ≡ narrowed t e low high i
-unfolding narrowed
-narrowed-alike s t d e low high i h z y = rw (zero-equal d z, zero-equal e y, lt-alike s low t low h refl, lt-alike high s high t refl h)
-
--- the whole line, and an interval that does not begin behind its end
-abbrev whole : Interval
-whole = record { begin = nought; end = one }
-
-abbrev proper : Interval → Option Interval
-proper j = cond (le (j .begin) (j .end)) (some j) none
-
-module _ (p q : Point) (h : AlikePoint p q) (n : FinitePoint q) where
-  along-x : (b : Aabb) (i : Interval) →
-      narrowed (p .x) (sub binary64 (q .x) (p .x)) (b .min .x) (b .max .x) i ≡ narrowed (q .x) (sub binary64 (q .x) (q .x)) (b .min .x) (b .max .x) i
-  along-x b i = narrowed-alike (p .x) (q .x) _ _ (b .min .x) (b .max .x) i (h .x) (no-difference (q .x) (p .x) (sym (h .x)) (n .x)) (no-difference (q .x) (q .x) refl (n .x))
-
-  along-z : (b : Aabb) (i : Interval) →
-      narrowed (p .z) (sub binary64 (q .z) (p .z)) (b .min .z) (b .max .z) i ≡ narrowed (q .z) (sub binary64 (q .z) (q .z)) (b .min .z) (b .max .z) i
-  along-z b i = narrowed-alike (p .z) (q .z) _ _ (b .min .z) (b .max .z) i (h .z) (no-difference (q .z) (p .z) (sym (h .z)) (n .z)) (no-difference (q .z) (q .z) refl (n .z))
-
-  interval-alike : (b : Aabb) → interval b p q ≡ interval b q q
-  unfolding interval
-  interval-alike b = rw (along-x b whole) (go (narrowed (q .x) (sub binary64 (q .x) (q .x)) (b .min .x) (b .max .x) whole))
-    where
-      go : (o : Option Interval) →
-          andThen o (λ i. andThen (narrowed (p .z) (sub binary64 (q .z) (p .z)) (b .min .z) (b .max .z) i) proper)
-          ≡ andThen o (λ i. andThen (narrowed (q .z) (sub binary64 (q .z) (q .z)) (b .min .z) (b .max .z) i) proper)
-      go none = refl
-      go (some i) = rw (along-z b i)
-
-  intervals-alike : (ss : List Shape) → intervals p q ss ≡ intervals q q ss
-  unfolding intervals
-  intervals-alike [] = refl
-  intervals-alike (s ∷ ss) = rw (interval-alike (s .box), intervals-alike ss)
-
-  print-alike : (width : Float) → AlikeBox (footprint width p q) (footprint width q q)
-  unfolding footprint span
-  print-alike width = record {
-    min = record {
-      x = sub-alike (smaller (p .x) (q .x)) _ (smaller (q .x) (q .x)) _ (smaller-alike (p .x) (q .x) (q .x) (q .x) (h .x) refl) refl;
-      y = smaller-alike (p .y) (q .y) (q .y) (q .y) (h .y) refl;
-      z = sub-alike (smaller (p .z) (q .z)) _ (smaller (q .z) (q .z)) _ (smaller-alike (p .z) (q .z) (q .z) (q .z) (h .z) refl) refl;
-    };
-    max = record {
-      x = add-alike (larger (p .x) (q .x)) _ (larger (q .x) (q .x)) _ (larger-alike (p .x) (q .x) (q .x) (q .x) (h .x) refl) refl;
-      y = larger-alike (p .y) (q .y) (q .y) (q .y) (h .y) refl;
-      z = add-alike (larger (p .z) (q .z)) _ (larger (q .z) (q .z)) _ (larger-alike (p .z) (q .z) (q .z) (q .z) (h .z) refl) refl;
-    };
-  }
-
-  pub supported-alike : (sp : Space) (width : Float) → supported sp width p q ≡ supported sp width q q
-  unfolding supported carried
-  supported-alike sp width =
-      let k = print-alike width in
-      let g = footprint width q q in
-      rw (shapes-alike (footprint width p q) g k sp, counting-alike (footprint width p q) g k (shapesUnder sp g), intervals-alike (counting g (shapesUnder sp g)))

@@ -1,11 +1,11 @@
--- A number that an f64 holds is rounded to itself.
-use Prim.Native.Nat.{ℕ, suc, _+_, _-_, _*_, _%_, _^_, _≤_, _<_}
+-- A number that an f64 holds is rounded to itself, and it is a whole number of the smallest ones.
+use Prim.Native.Nat.{ℕ, zero, suc, _+_, _-_, _*_, _%_, _^_, _≤_, _<_}
 use native.Mathlib.Nat.{mul-assoc, mul-right-comm, mul-one, mul-lt-mul-of-pos-right, lt-of-lt-of-le, lt-irrefl}
 use native.Mathlib.Omega.{arith}
 use mathlib.Core.Path.{_≡_, refl, sym, ap, _∙_, subst}
 use mathlib.Core.Bool.{Bool, true, false, _&&_}
 use borrow.Author.Tests.{ltb-true, ltb-false}
-use lib.Dec.{T, ltb, leb, eqb, ltb→lt, leb→le}
+use lib.Dec.{T, ltb, leb, eqb, ltb→lt, leb→le, eqb→eq}
 use lib.IntN.{ℤ, pos, negsuc}
 use lib.Pow.{pow-add, pow-pos, pow-mono, pow-lt, shl-lt}
 use lib.Ieee.{Float, nan, inf, fin, binary64, fits, low, emax, prec, up, down, round, toBits}
@@ -32,6 +32,12 @@ small k h = go (ltb (low binary64) (suc k)) refl
     go : (b : Bool) → ltb (low binary64) (suc k) ≡ b → suc k ≤ low binary64
     go false e = ltb-false (low binary64) (suc k) e
     go true e = absurd (lt-irrefl (2 ^ low binary64) (lt-of-lt-of-le (pow-lt {i = low binary64} {j = suc k} (ltb-true (low binary64) (suc k) e)) h))
+
+-- a zero has no exponent
+pub unit-exponent : (e : ℤ) → T (eqb (up e * down e) 1) → e ≡ pos zero
+unit-exponent (pos zero) h = refl
+unit-exponent (pos (suc k)) h = absurd (let z = pow-pos k in omega (arith, eqb→eq (2 ^ suc k * 1) 1 h))
+unit-exponent (negsuc k) h = absurd (let z = pow-pos k in omega (arith, eqb→eq (1 * 2 ^ suc k) 1 h))
 
 -- what `fits` says of a number that is no zero
 digits-and-range : (s : Bool) (m : ℕ) (e : ℤ) → T (fits binary64 (fin s (suc m) e)) →
@@ -71,3 +77,15 @@ exact s m (negsuc k) h =
 
 pub round-itself : (s : Bool) (m : ℕ) (e : ℤ) → T (fits binary64 (fin s (suc m) e)) → round binary64 s (suc m * up e) (down e) ≡ fin s (suc m) e
 round-itself s m e h = same-value (round binary64 s (suc m * up e) (down e)) s (suc m) e (round-fits binary64 s (suc m * up e) (down e)) h (exact s m e h)
+
+-- ---- so many of the smallest ones make up the unit of an f64's fraction
+
+pub fine-unit : (s : Bool) (m : ℕ) (e : ℤ) → T (fits binary64 (fin s m e)) → (g : ℕ) × (g * down e ≡ 2 ^ low binary64)
+unfolding fits
+fine-unit s zero e h = let z = unit-exponent e h in (2 ^ low binary64, rw z (mul-one (2 ^ low binary64)))
+fine-unit s (suc m) (pos k) h = (2 ^ low binary64, mul-one (2 ^ low binary64))
+fine-unit s (suc m) (negsuc k) h =
+    let l = low binary64 in
+    let fine : suc k ≤ l = small k (digits-and-range s m (negsuc k) h .1) in
+    let whole : l - suc k + suc k ≡ l = omega arith in
+    (2 ^ (l - suc k), sym (pow-add 2 (l - suc k) (suc k)) ∙ ap (λ (x : ℕ). 2 ^ x) whole)

@@ -4,11 +4,10 @@ use Prim.Native.Nat.{ℕ, zero, suc, _*_, _^_, _<_}
 use native.Mathlib.Nat.{zero-mul, mul-pos}
 use native.Mathlib.Omega.{arith}
 use mathlib.Core.Path.{_≡_, refl, sym, ap, _∙_}
-use mathlib.Core.Bool.{Bool, true, false, not, _&&_, _||_, cond, Bool·beq}
+use mathlib.Core.Bool.{Bool, true, false, not, _&&_, _||_, Bool·beq}
 use borrow.Author.Tests.{eqb-true, eqb-false, eq-eqb}
-use lib.Dec.{T, eqb, eqb→eq}
-use lib.IntN.{ℤ, pos, negsuc}
-use lib.Pow.{pow-pos}
+use lib.Dec.{T, eqb}
+use lib.IntN.{ℤ, pos}
 use lib.Ieee.{Float, nan, inf, fin, binary64, fits, isNan, size, span, climb, up, down, level, eq, ofBits, toBits}
 use lib.Ieee.Bits.{ofBits-fits, toBits-ofBits}
 use lib.Ieee.Fits.{up-pos, down-pos}
@@ -27,8 +26,9 @@ use Rattle.edges.specs.Answers.{lift-number}
 use Rattle.rooms.specs.declared.Label.{Label}
 use Rattle.rooms.specs.Waypoints.{canonicalWord, sameWord, alike}
 use Rattle.words.specs.Words.{labelOf}
-use Rattle.arrival.specs.Exact.{same-value}
+use Rattle.arrival.specs.Exact.{same-value, unit-exponent}
 use Rattle.arrival.specs.Alike.{Alike}
+use Rattle.arrival.specs.Signs.{word-alike}
 
 no : {A : Type 0} → false ≡ true → A
 no e = absurd (let z : _≡_ {A = ℕ} 0 1 = cc in omega arith)
@@ -66,7 +66,7 @@ beq-same false false e = refl
 beq-same true false e = no e
 beq-same false true e = no e
 
-same-number : (x y : Float) → T (fits binary64 x) → T (fits binary64 y) → eq x y ≡ true → Alike x y
+pub same-number : (x y : Float) → T (fits binary64 x) → T (fits binary64 y) → eq x y ≡ true → Alike x y
 unfolding eq canonical
 same-number nan y f g e = no e
 same-number (inf s) nan f g e = no e
@@ -95,12 +95,6 @@ itself (fin s m e) n = rw (eq-eqb (m * up e * down e) (m * up e * down e) refl) 
 
 -- ---- the word of a number, with -0.0 as 0
 
--- a zero has no exponent
-unit-exponent : (e : ℤ) → T (eqb (up e * down e) 1) → e ≡ pos zero
-unit-exponent (pos zero) h = refl
-unit-exponent (pos (suc k)) h = absurd (let z = pow-pos k in omega (arith, eqb→eq (2 ^ suc k * 1) 1 h))
-unit-exponent (negsuc k) h = absurd (let z = pow-pos k in omega (arith, eqb→eq (1 * 2 ^ suc k) 1 h))
-
 zero-word : (s : Bool) → canonicalWord (toBits binary64 (fin s zero (pos zero))) ≡ 0
 unfolding canonicalWord toBits size span climb
 zero-word true = refl
@@ -115,15 +109,6 @@ word-of nan f = refl
 word-of (inf s) f = refl
 word-of (fin s zero e) f = rw (unit-exponent e f) (zero-word s ∙ sym (zero-word false))
 word-of (fin s (suc m) e) f = refl
-
--- -0.0 and 0 are alike
-read-alike : (n : ℕ) → Alike (ofBits binary64 (canonicalWord n)) (ofBits binary64 n)
-unfolding canonicalWord
-read-alike n = go (eqb n 0x8000_0000_0000_0000) refl
-  where
-    go : (q : Bool) → eqb n 0x8000_0000_0000_0000 ≡ q → Alike (ofBits binary64 (cond q 0 n)) (ofBits binary64 n)
-    go true p = rw (eqb-true n 0x8000_0000_0000_0000 p) (unfold ofBits canonical in refl)
-    go false p = refl
 
 -- ---- the theorem
 
@@ -148,7 +133,7 @@ words-as-numbers x n f number h = go (eqb (word x) (canonicalWord n)) refl (eq x
     -- the same words: the numbers are alike, so equal
     then-equal : word x ≡ canonicalWord n → eq x y ≡ true
     then-equal e =
-        let a : Alike x y = sym (read-alike (toBits binary64 x) ∙ ap canonical (float-of-bits x f)) ∙ ap (λ (v : ℕ). canonical (ofBits binary64 v)) e ∙ read-alike n in
+        let a : Alike x y = sym (word-alike (toBits binary64 x) ∙ ap canonical (float-of-bits x f)) ∙ ap (λ (v : ℕ). canonical (ofBits binary64 v)) e ∙ word-alike n in
         sym (canonical-eq x y) ∙ ap (eq x) (sym a) ∙ canonical-eq x x ∙ itself x number
 
     -- equal numbers: alike, so of the same word

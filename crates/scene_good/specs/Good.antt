@@ -1,7 +1,8 @@
--- A read scene's tables are never a BadWorld: what the records leave, at the sizes in use, is by every rule of `tables`. The records are bytes.
+-- A read scene's tables are never a BadWorld: what the records leave, at the sizes in use, is by every rule of `tables`; and the first box of each shape is the sum
+-- of the counts before it. The records are bytes.
 use Prim.Native.Nat.{ℕ, _+_, _-_, _*_, _/_, _^_, _≤_, _<_}
 use native.Mathlib.Omega.{arith}
-use mathlib.Core.Path.{_≡_, refl, ap, _∙_}
+use mathlib.Core.Path.{_≡_, refl, sym, ap, _∙_}
 use mathlib.Core.Bool.{Bool, true, false, _&&_, cond}
 use mathlib.Core.List.{List, [], _∷_, foldl}
 use mathlib.Core.Logic.{_⊎_, inl, inr, ⊎-elim}
@@ -17,8 +18,9 @@ use Rattle.regions.specs.Regions.{cellsOf}
 use Rattle.world.specs.declared.Window.{Window}
 use Rattle.world.specs.Space.{firstOf, countOf, boxAt}
 use Rattle.world.specs.Sizes.{sizeAbove, Sizes, sizes-of}
-use Rattle.tables.specs.BadWorld.{boxRule, badWorld}
+use Rattle.tables.specs.BadWorld.{boxRule, records, badWorld}
 use Rattle.tables.specs.Good.{GoodWorld, good-is-not-bad}
+use Rattle.scene_good.specs.Sums.{countsBefore, Summed, none-before, one-more, same-sum, empty-sum, run-within}
 use Rattle.scene_rules.specs.declared.Counts.{Counts}
 use Rattle.scene_records.specs.Layout.{kindOf, numberOf, windowOf, volume, cellCount, boxOf}
 use Rattle.scene_tables.specs.Made.{inTurn, withEntry, unfilled, emptyShapes, withShape, withBox}
@@ -38,8 +40,9 @@ pub record Shaped (n last boxes : ℕ) (t : List ℕ) : Type 0 where
   pub room : 2048 ≤ length t
   pub few : n ≤ 256
   pub counts : (i : ℕ) → i < n → countOf t i ≤ 16
-  pub runs : (i : ℕ) → i < n → firstOf t i + countOf t i ≤ boxes
-  pub run : (k : ℕ) → k + 1 ≡ n → firstOf t k + last ≤ boxes
+  pub firsts : (i : ℕ) → i < n → firstOf t i ≡ countsBefore t i
+  pub all : countsBefore t n ≡ boxes
+  pub own : (k : ℕ) → k + 1 ≡ n → countOf t k ≡ last
 
 -- a shape table behind a record of kind 4: what each record of it is
 module _ (from n first count : ℕ) (t : List ℕ) (room : 2048 ≤ length t) (small : n ≤ 255) (low : from ≤ n + 1) (f : first < 256 ^ 4) (c : count < 256 ^ 4) where
@@ -88,7 +91,7 @@ module _ (from n first count : ℕ) (t : List ℕ) (room : 2048 ≤ length t) (s
 
 -- one box more, of shape n: the last one, or a new one
 module _ (from n boxes : ℕ) (last : ℕ) (t : List ℕ) (h : Shaped from last boxes t) (low : from ≤ n + 1) (small : n ≤ 255) (room : boxes < 256) where
-  module _ (count : ℕ) (big : count ≤ 16) (own : ((n < from) × (firstOf t n + count ≤ boxes + 1)) ⊎ ((from ≤ n) × (count ≡ 1))) where
+  module _ (count : ℕ) (big : count ≤ 16) (named : ((n + 1 ≡ from) × (count ≡ last + 1)) ⊎ ((from ≤ n) × (count ≡ 1))) where
     after : List ℕ
     after = withShape from n boxes count t
 
@@ -98,48 +101,67 @@ module _ (from n boxes : ℕ) (last : ℕ) (t : List ℕ) (h : Shaped from last 
     count-fit : count < 256 ^ 4
     count-fit = omega arith
 
-    own-run : firstOf after n + count ≤ boxes + 1
-    unfolding after
-    own-run = ⊎-elim
-        (λ w. rw (old-first from n boxes count t (h .room) small low boxes-fit count-fit n (w .0)) (w .1))
-        (λ w. omega (arith, new-first from n boxes count t (h .room) small low boxes-fit count-fit n (w .0) (omega arith), w .1))
-        own
-
-    lower : (i : ℕ) → i < n → (countOf after i ≤ 16) × (firstOf after i + countOf after i ≤ boxes + 1)
-    unfolding after
-    lower i l = go (ltb i from) refl
-      where
-        go : (x : Bool) → ltb i from ≡ x → (countOf after i ≤ 16) × (firstOf after i + countOf after i ≤ boxes + 1)
-        go true p =
-            let a = ltb-true i from p in
-            let e = old-first from n boxes count t (h .room) small low boxes-fit count-fit i a in
-            let f = old-count from n boxes count t (h .room) small low boxes-fit count-fit i a l in
-            (omega (arith, f, h .counts i a), omega (arith, e, f, h .runs i a))
-        go false p =
-            let a = ltb-false i from p in
-            let e = new-first from n boxes count t (h .room) small low boxes-fit count-fit i a (omega arith) in
-            let f = new-count from n boxes count t (h .room) small low boxes-fit count-fit i a l in
-            (omega (arith, f), omega (arith, e, f))
-
     here : countOf after n ≡ count
     unfolding after
     here = own-count from n boxes count t (h .room) small low boxes-fit count-fit
 
-    each : (i : ℕ) → i < n + 1 → (countOf after i ≤ 16) × (firstOf after i + countOf after i ≤ boxes + 1)
-    each i l = go (eqb i n) refl
+    first-kept : (i : ℕ) → i < from → firstOf after i ≡ firstOf t i
+    unfolding after
+    first-kept = old-first from n boxes count t (h .room) small low boxes-fit count-fit
+
+    count-kept : (i : ℕ) → i < from → i < n → countOf after i ≡ countOf t i
+    unfolding after
+    count-kept = old-count from n boxes count t (h .room) small low boxes-fit count-fit
+
+    first-new : (i : ℕ) → from ≤ i → i ≤ n → firstOf after i ≡ boxes
+    unfolding after
+    first-new = new-first from n boxes count t (h .room) small low boxes-fit count-fit
+
+    count-new : (i : ℕ) → from ≤ i → i < n → countOf after i ≡ 0
+    unfolding after
+    count-new = new-count from n boxes count t (h .room) small low boxes-fit count-fit
+
+    -- the sums: as they were up to the last shape, and all boxes so far behind it
+    sum-kept : (i : ℕ) → i ≤ from → i ≤ n → countsBefore after i ≡ countsBefore t i
+    sum-kept i l m = same-sum after t i (λ j k. count-kept j (omega arith) (omega arith))
+
+    sum-new : (i : ℕ) → from ≤ i → i ≤ n → countsBefore after i ≡ boxes
+    sum-new i l m =
+        let e : from + (i - from) ≡ i = omega arith in
+        ap (countsBefore after) (sym e) ∙ empty-sum after from (i - from) (λ j x y. count-new j x (omega arith)) ∙ sum-kept from (omega arith) (omega arith) ∙ h .all
+
+    firsts : (i : ℕ) → i < n + 1 → firstOf after i ≡ countsBefore after i
+    firsts i l = go (ltb i from) refl
       where
-        go : (x : Bool) → eqb i n ≡ x → (countOf after i ≤ 16) × (firstOf after i + countOf after i ≤ boxes + 1)
-        go true p = let e : i ≡ n = eqb-true i n p in rw e (omega (arith, here), omega (arith, here, own-run))
-        go false p = lower i (omega (arith, eqb-false i n p))
+        go : (x : Bool) → ltb i from ≡ x → firstOf after i ≡ countsBefore after i
+        go true p = let a = ltb-true i from p in first-kept i a ∙ h .firsts i a ∙ sym (sum-kept i (omega arith) (omega arith))
+        go false p = let a = ltb-false i from p in first-new i a (omega arith) ∙ sym (sum-new i a (omega arith))
+
+    all : countsBefore after (n + 1) ≡ boxes + 1
+    all = ⊎-elim
+        (λ w.
+        let e : countsBefore t (n + 1) ≡ boxes = ap (countsBefore t) (w .0) ∙ h .all in
+        omega (arith, one-more after n, here, w .1, sum-kept n (omega (arith, w .0)) (omega arith), one-more t n, e, h .own n (w .0)))
+        (λ w. omega (arith, one-more after n, here, w .1, sum-new n (w .0) (omega arith)))
+        named
+
+    counts : (i : ℕ) → i < n + 1 → countOf after i ≤ 16
+    counts i l = go (eqb i n) refl (ltb i from) refl
+      where
+        go : (x : Bool) → eqb i n ≡ x → (y : Bool) → ltb i from ≡ y → countOf after i ≤ 16
+        go true p y q = let e : i ≡ n = eqb-true i n p in rw e (omega (arith, here))
+        go false p true q = let a = ltb-true i from q in omega (arith, count-kept i a (omega (arith, eqb-false i n p)), h .counts i a)
+        go false p false q = omega (arith, count-new i (ltb-false i from q) (omega (arith, eqb-false i n p)))
 
     counted : Shaped (n + 1) count (boxes + 1) (withShape from n boxes count t)
     unfolding after
     counted = record {
       room = rw (shape-length from n boxes count t (h .room) small low boxes-fit count-fit) (h .room);
       few = omega arith;
-      counts = λ i l. each i l .0;
-      runs = λ i l. each i l .1;
-      run = λ k e. let q : k ≡ n = omega arith in rw q own-run;
+      counts = counts;
+      firsts = firsts;
+      all = all;
+      own = λ k e. let q : k ≡ n = omega arith in rw q here;
     }
 
 pub shaped-more : (c : Counts) (n : ℕ) (t : List ℕ) → Shaped (c .shapes) (c .last) (c .boxes) t → c .shapes ≤ n + 1 → ShapeFits c n →
@@ -152,8 +174,7 @@ shaped-more c n t h low fits = go (eqb (n + 1) (c .shapes)) refl
     go true p =
         let e : n + 1 ≡ c .shapes = eqb-true (n + 1) (c .shapes) p in
         let r : ltb (c .last) 16 ≡ true = rw p at (fits .room) in
-        counted (c .shapes) n (c .boxes) (c .last) t h low (fits .small) (fits .boxes) (c .last + 1) (omega (arith, ltb-true (c .last) 16 r))
-        (inl (omega arith, omega (arith, h .run n e)))
+        counted (c .shapes) n (c .boxes) (c .last) t h low (fits .small) (fits .boxes) (c .last + 1) (omega (arith, ltb-true (c .last) 16 r)) (inl (e, refl))
     go false p =
         counted (c .shapes) n (c .boxes) (c .last) t h low (fits .small) (fits .boxes) 1 (omega arith)
         (inr (omega (arith, eqb-false (n + 1) (c .shapes) p), refl))
@@ -227,11 +248,30 @@ sound-world r t s k =
       runs = λ i h.
           let l : i < r .counts .shapes = omega (arith, p) in
           let m : r .counts .boxes ≤ length (take (48 * r .counts .boxes) (t .boxes)) / 48 = rw b (omega arith) in
-          rw (part-first (r .counts .shapes) (t .shapes) i l, part-count (r .counts .shapes) (t .shapes) i l) (omega (arith, m, s .shapes .runs i l));
+          rw (part-first (r .counts .shapes) (t .shapes) i l, part-count (r .counts .shapes) (t .shapes) i l)
+          (omega (arith, m, s .shapes .firsts i l, run-within (t .shapes) i (r .counts .shapes) l, s .shapes .all));
       rules = λ i h.
           let l : i < r .counts .boxes = omega (arith, b) in
           rw (part-box (r .counts .boxes) (t .boxes) i l) (s .boxes .rules i l);
     }
+
+-- and its first boxes are sums
+pub sound-sums : (r : Reading) (t : Tables) → Sound r t → Summed (take (8 * r .counts .shapes) (t .shapes)) (take (48 * r .counts .boxes) (t .boxes))
+sound-sums r t s =
+    let n = r .counts .shapes in
+    let p : length (take (8 * n) (t .shapes)) ≡ 8 * n = length-take-le (8 * n) (t .shapes) (omega (arith, s .shapes .room, s .shapes .few)) in
+    let b : length (take (48 * r .counts .boxes) (t .boxes)) ≡ 48 * r .counts .boxes = length-take-le (48 * r .counts .boxes) (t .boxes) (omega (arith, s .boxes .room, s .boxes .few)) in
+    let many : records 8 (take (8 * n) (t .shapes)) ≡ n = rw p (omega arith) in
+    let boxes : records 48 (take (48 * r .counts .boxes) (t .boxes)) ≡ r .counts .boxes = rw b (omega arith) in
+    record {
+      firsts = λ i h.
+          let l : i < n = omega (arith, many) in
+          omega (arith, part-first n (t .shapes) i l, s .shapes .firsts i l, part-sum n (t .shapes) i (omega arith));
+      all = rw (many, boxes) (omega (arith, part-sum n (t .shapes) n (omega arith), s .shapes .all));
+    }
+  where
+    part-sum : (n : ℕ) (u : List ℕ) (i : ℕ) → i ≤ n → countsBefore (take (8 * n) u) i ≡ countsBefore u i
+    part-sum n u i h = same-sum (take (8 * n) u) u i (λ j l. part-count n u j (omega arith))
 
 -- ---- it holds before the first record, and behind each good one
 
@@ -239,7 +279,7 @@ pub sound-empty : (t : Tables) → 32768 ≤ length (t .cells) → 2048 ≤ leng
 unfolding empty
 sound-empty t a b c = record {
   cells = a;
-  shapes = record { room = b; few = omega arith; counts = λ i h. absurd (omega arith); runs = λ i h. absurd (omega arith); run = λ k e. absurd (omega arith) };
+  shapes = record { room = b; few = omega arith; counts = λ i h. absurd (omega arith); firsts = λ i h. absurd (omega arith); all = none-before (t .shapes); own = λ k e. absurd (omega arith) };
   boxes = record { room = c; few = omega arith; rules = λ i h. absurd (omega arith) };
   window = λ h. absurd (omega arith);
 }
@@ -331,20 +371,20 @@ abbrev pub AllBytes : List (List ℕ) → Type 0
 AllBytes [] = Unit {0}
 AllBytes (s ∷ ss) = Bytes s × AllBytes ss
 
--- the tables that a read scene leaves, as far as they are in use, are a good world
-abbrev pub GoodScene : Scene → Tables → Type 0
-GoodScene x t = GoodWorld (x .window) (take (x .«in_use» .cells) (t .cells)) (take (x .«in_use» .shapes) (t .shapes)) (take (x .«in_use» .boxes) (t .boxes))
-
+-- the tables that a read scene leaves are what good records make, up to the window at least
 abbrev sceneOf : Reading → Scene
 sceneOf r = record { request = r .request; body = r .body; window = r .window; «in_use» = inUse (r .counts) }
 
-at-end : (r : Reading) (t : Tables) (x : Scene) → Sound r t → ended r ≡ given x → GoodScene x t
+abbrev Made : Scene → Tables → Type 0
+Made x t = (r : Reading) × (Sound r t) × (3 ≤ r .kind) × (sceneOf r ≡ x)
+
+at-end : (r : Reading) (t : Tables) (x : Scene) → Sound r t → ended r ≡ given x → Made x t
 unfolding ended inUse
 at-end r t x h = go (ltb (r .kind) 3) refl
   where
-    go : (b : Bool) → ltb (r .kind) 3 ≡ b → cond b (refused 7 (r .number)) (given (sceneOf r)) ≡ given x → GoodScene x t
+    go : (b : Bool) → ltb (r .kind) 3 ≡ b → cond b (refused 7 (r .number)) (given (sceneOf r)) ≡ given x → Made x t
     go true p e = absurd (let z : _≡_ {A = ℕ} 0 1 = cc in omega arith)
-    go false p e = let q : sceneOf r ≡ x = cc in rw (← q) (sound-world r t h (ltb-false (r .kind) 3 p))
+    go false p e = let q : sceneOf r ≡ x = cc in (r, h, ltb-false (r .kind) 3 p, q)
 
 abbrev onto : Reading → List ℕ → Tables → List (List ℕ) → Read
 onto r s t ss = readFrom (next (kindOf s) r s) (tablesRead r s t) ss
@@ -352,34 +392,55 @@ onto r s t ss = readFrom (next (kindOf s) r s) (tablesRead r s t) ss
 abbrev stop : Reading → Tables → Read
 stop r t = record { answer = refused 7 (r .number); tables = t }
 
-pub read-good : (ss : List (List ℕ)) (r : Reading) (t : Tables) (x : Scene) → AllBytes ss → Sound r t →
-    readFrom r t ss .answer ≡ given x → GoodScene x (readFrom r t ss .tables)
+from-sound : (ss : List (List ℕ)) (r : Reading) (t : Tables) (x : Scene) → AllBytes ss → Sound r t → readFrom r t ss .answer ≡ given x → Made x (readFrom r t ss .tables)
 unfolding readFrom
-read-good [] r t x a h e = at-end r t x h e
-read-good (s ∷ ss) r t x a h e = go (goodIn r s) refl e (λ g. read-good ss (next (kindOf s) r s) (tablesRead r s t) x (a .1) (sound-more r t s (a .0) h g))
+from-sound [] r t x a h e = at-end r t x h e
+from-sound (s ∷ ss) r t x a h e = go (goodIn r s) refl e (λ g. from-sound ss (next (kindOf s) r s) (tablesRead r s t) x (a .1) (sound-more r t s (a .0) h g))
   where
     go : (b : Bool) → goodIn r s ≡ b → cond b (onto r s t ss) (stop r t) .answer ≡ given x →
-        (goodIn r s ≡ true → onto r s t ss .answer ≡ given x → GoodScene x (onto r s t ss .tables)) → GoodScene x (cond b (onto r s t ss) (stop r t) .tables)
+        (goodIn r s ≡ true → onto r s t ss .answer ≡ given x → Made x (onto r s t ss .tables)) → Made x (cond b (onto r s t ss) (stop r t) .tables)
     go true g e rest = rest g e
     go false g e rest = absurd (let z : _≡_ {A = ℕ} 0 1 = cc in omega arith)
 
--- and never 3 BadWorld
-pub never-bad : (ss : List (List ℕ)) (t : Tables) (x : Scene) → AllBytes ss → readAll t ss .answer ≡ given x →
-    badWorld (x .window) (take (x .«in_use» .cells) (readAll t ss .tables .cells)) (take (x .«in_use» .shapes) (readAll t ss .tables .shapes)) (take (x .«in_use» .boxes) (readAll t ss .tables .boxes)) ≡ false
+made : (ss : List (List ℕ)) (t : Tables) (x : Scene) → AllBytes ss → readAll t ss .answer ≡ given x → Made x (readAll t ss .tables)
 unfolding readAll begun onward
-never-bad ss t x a e =
-    good-is-not-bad (x .window) (take (x .«in_use» .cells) (readAll t ss .tables .cells)) (take (x .«in_use» .shapes) (readAll t ss .tables .shapes)) (take (x .«in_use» .boxes) (readAll t ss .tables .boxes))
-    (go (leb 32768 (length (t .cells)) && leb 256 (length (t .perms)) && leb 2048 (length (t .shapes)) && leb 12288 (length (t .boxes))) refl e)
+made ss t x a e = go (leb 32768 (length (t .cells)) && leb 256 (length (t .perms)) && leb 2048 (length (t .shapes)) && leb 12288 (length (t .boxes))) refl e
   where
     go : (b : Bool) → leb 32768 (length (t .cells)) && leb 256 (length (t .perms)) && leb 2048 (length (t .shapes)) && leb 12288 (length (t .boxes)) ≡ b →
-        onward (cond b (given empty) (refused 5 0)) t ss .answer ≡ given x → GoodScene x (onward (cond b (given empty) (refused 5 0)) t ss .tables)
+        onward (cond b (given empty) (refused 5 0)) t ss .answer ≡ given x → Made x (onward (cond b (given empty) (refused 5 0)) t ss .tables)
     go true p q =
         let three = left-true (leb 32768 (length (t .cells)) && leb 256 (length (t .perms)) && leb 2048 (length (t .shapes))) (leb 12288 (length (t .boxes))) p in
         let two = left-true (leb 32768 (length (t .cells)) && leb 256 (length (t .perms))) (leb 2048 (length (t .shapes))) three in
-        read-good ss empty t x a
+        from-sound ss empty t x a
         (sound-empty t
         (leb-true 32768 (length (t .cells)) (left-true (leb 32768 (length (t .cells))) (leb 256 (length (t .perms))) two))
         (leb-true 2048 (length (t .shapes)) (right-true (leb 32768 (length (t .cells)) && leb 256 (length (t .perms))) (leb 2048 (length (t .shapes))) three))
         (leb-true 12288 (length (t .boxes)) (right-true (leb 32768 (length (t .cells)) && leb 256 (length (t .perms)) && leb 2048 (length (t .shapes))) (leb 12288 (length (t .boxes))) p)))
         q
     go false p q = absurd (let z : _≡_ {A = ℕ} 0 1 = cc in omega arith)
+
+-- ---- the theorems: of the tables that a read scene leaves, as far as they are in use
+
+module _ (ss : List (List ℕ)) (t : Tables) (x : Scene) (a : AllBytes ss) (e : readAll t ss .answer ≡ given x) where
+  abbrev cells : List ℕ
+  cells = take (x .«in_use» .cells) (readAll t ss .tables .cells)
+
+  abbrev shapes : List ℕ
+  shapes = take (x .«in_use» .shapes) (readAll t ss .tables .shapes)
+
+  abbrev boxes : List ℕ
+  boxes = take (x .«in_use» .boxes) (readAll t ss .tables .boxes)
+
+  -- they are never a BadWorld
+  pub never-bad : badWorld (x .window) cells shapes boxes ≡ false
+  unfolding inUse
+  never-bad =
+      let m = made ss t x a e in
+      rw (← m .3) (good-is-not-bad _ _ _ _ (sound-world (m .0) (readAll t ss .tables) (m .1) (m .2)))
+
+  -- "a first box is the sum of the counts before it"
+  pub first-boxes-are-sums : Summed shapes boxes
+  unfolding inUse
+  first-boxes-are-sums =
+      let m = made ss t x a e in
+      rw (← m .3) (sound-sums (m .0) (readAll t ss .tables) (m .1))
