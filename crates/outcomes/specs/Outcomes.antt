@@ -1,4 +1,4 @@
--- 01's outcomes and their numbers ("Numbers given back"), and what the end of a run is told as. Definitions only.
+-- 01's outcomes and their numbers ("Numbers given back"), what an answer gives, and what the end of a run is told as. Definitions only.
 use Prim.Native.Nat.{ℕ, zero, suc}
 use mathlib.Core.List.{List, [], _∷_}
 use lib.ListN.{length}
@@ -15,7 +15,7 @@ use Rattle.outcomes.specs.declared.Path.the-variants.{Searched, BadTable
 use Rattle.outcomes.specs.declared.Turn.{Turn}
 use Rattle.outcomes.specs.declared.Turn.the-variants.{Rest, Going, At, By}
 
--- 01's numbers
+-- 01, "Numbers given back", the table's first six rows: 0 Found, 1 Unreachable, 2 BudgetExceeded, 3 BadWorld, 4 TooLarge, 5 NoRoom
 abbrev pub outcomeNumber : Outcome → ℕ
 outcomeNumber Found = 0
 outcomeNumber Unreachable = 1
@@ -24,10 +24,20 @@ outcomeNumber BadWorld = 3
 outcomeNumber TooLarge = 4
 outcomeNumber NoRoom = 5
 
--- of a mob's search: "`find_path` gives the outcome number", or 8
+-- of a mob's search: "`find_path` gives the outcome number", or the table's 8 BadTable
 abbrev pub pathNumber : Path → ℕ
 pathNumber (Searched a) = outcomeNumber (a .outcome)
 pathNumber BadTable = 8
+
+-- 01: "Each enum answer has a definition that gives this paper's number and values for each of its cases. The promises use that definition." Of a search it
+-- is the outcome's number, and the values are "waypoints, retained nodes, closed nodes".
+unfoldable pub answerGiven : Answer → ℕ × List ℕ
+answerGiven a = (outcomeNumber (a .outcome), a .count ∷ a .retained ∷ a .closed ∷ [])
+
+-- of a mob's search the same; 8 has no values
+unfoldable pub pathGiven : Path → ℕ × List ℕ
+pathGiven (Searched a) = answerGiven a
+pathGiven BadTable = (pathNumber BadTable, [])
 
 -- the theory's outcome in 01's words; no search ends `Searching` (exploration's Claims, `ends-within-budget`)
 abbrev pub toldBy : explore.Outcome (Feet × Label) → Outcome
