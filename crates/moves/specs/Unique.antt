@@ -14,15 +14,15 @@ use Rattle.moves.specs.declared.answer.Moving.{Moving}
 use Rattle.moves.specs.declared.answer.Moving.the-variants.{By, None}
 use Rattle.moves.specs.declared.answer.EdgeAnswer.{EdgeAnswer}
 use Rattle.moves.specs.declared.answer.EdgeAnswer.the-variants.{To, Nowhere}
-use Rattle.moves.specs.Moves.{movedNumber, movingGiven, edgeGiven}
+use Rattle.moves.specs.Moves.{movedNumber, noneNumber, movingGiven, edgeGiven}
 
 abbrev movement : ℕ → Movement
-movement n = cond (eqb n 130) Walk (cond (eqb n 131) Step (cond (eqb n 132) Jump Drop))
+movement n = cond (eqb n (movedNumber Walk)) Walk (cond (eqb n (movedNumber Step)) Step (cond (eqb n (movedNumber Jump)) Jump Drop))
 
 -- ---- a movement, by its number and its lift
 
 abbrev moving : ℕ × List Float → Moving
-moving (n, values) = cond (eqb n 110) None (By (movement n) (getD values 0 nought))
+moving (n, values) = cond (eqb n noneNumber) None (By (movement n) (getD values 0 nought))
 
 moving-back : (a : Moving) → moving (movingGiven a) ≡ a
 unfolding movingGiven
@@ -39,7 +39,7 @@ one-moving a b e = sym (moving-back a) ∙ ap moving e ∙ moving-back b
 
 abbrev edge : ℕ × List Float → EdgeAnswer
 edge (n, values) =
-    cond (eqb n 110) Nowhere
+    cond (eqb n noneNumber) Nowhere
     (To (record {
       feet = record { x = getD values 0 nought; y = getD values 1 nought; z = getD values 2 nought };
       lift = getD values 3 nought;

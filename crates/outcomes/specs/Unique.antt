@@ -10,13 +10,18 @@ use Rattle.outcomes.specs.declared.Outcome.the-variants.{Found, Unreacha
 use Rattle.outcomes.specs.declared.Answer.{Answer}
 use Rattle.outcomes.specs.declared.Path.{Path}
 use Rattle.outcomes.specs.declared.Path.the-variants.{Searched, BadTable}
-use Rattle.outcomes.specs.Outcomes.{outcomeNumber, answerGiven, pathGiven}
+use Rattle.outcomes.specs.Outcomes.{outcomeNumber, pathNumber, answerGiven, pathGiven}
 
 -- ---- an outcome, by its number
 
 abbrev outcome : ℕ → Outcome
 outcome n =
-    cond (eqb n 0) Found (cond (eqb n 1) Unreachable (cond (eqb n 2) BudgetExceeded (cond (eqb n 3) BadWorld (cond (eqb n 4) TooLarge NoRoom))))
+    cond (eqb n (outcomeNumber Found)) Found
+    (cond (eqb n (outcomeNumber Unreachable)) Unreachable
+    (cond (eqb n (outcomeNumber BudgetExceeded)) BudgetExceeded
+    (cond (eqb n (outcomeNumber BadWorld)) BadWorld
+    (cond (eqb n (outcomeNumber TooLarge)) TooLarge
+    NoRoom))))
 
 outcome-back : (o : Outcome) → outcome (outcomeNumber o) ≡ o
 outcome-back Found = refl
@@ -41,9 +46,9 @@ answer-back a = ap (λ (o : Outcome). record { outcome = o; count = a .count; re
 pub one-answer : (a b : Answer) → answerGiven a ≡ answerGiven b → a ≡ b
 one-answer a b e = sym (answer-back a) ∙ ap answer e ∙ answer-back b
 
--- ---- of a mob's search: 8 is no outcome's number
+-- ---- of a mob's search: BadTable has no outcome's number
 
-other : (o : Outcome) → eqb (outcomeNumber o) 8 ≡ false
+other : (o : Outcome) → eqb (outcomeNumber o) (pathNumber BadTable) ≡ false
 other Found = refl
 other Unreachable = refl
 other BudgetExceeded = refl
@@ -52,7 +57,7 @@ other TooLarge = refl
 other NoRoom = refl
 
 abbrev path : ℕ × List ℕ → Path
-path (n, values) = cond (eqb n 8) BadTable (Searched (answer (n, values)))
+path (n, values) = cond (eqb n (pathNumber BadTable)) BadTable (Searched (answer (n, values)))
 
 path-back : (p : Path) → path (pathGiven p) ≡ p
 unfolding pathGiven answerGiven
