@@ -29,16 +29,6 @@ abbrev pub pathNumber : Path → ℕ
 pathNumber (Searched a) = outcomeNumber (a .outcome)
 pathNumber BadTable = 8
 
--- 01: "Each enum answer has a definition that gives this paper's number and values for each of its cases. The promises use that definition." Of a search it
--- is the outcome's number, and the values are "waypoints, retained nodes, closed nodes".
-unfoldable pub answerGiven : Answer → ℕ × List ℕ
-answerGiven a = (outcomeNumber (a .outcome), a .count ∷ a .retained ∷ a .closed ∷ [])
-
--- of a mob's search the same; 8 has no values
-unfoldable pub pathGiven : Path → ℕ × List ℕ
-pathGiven (Searched a) = answerGiven a
-pathGiven BadTable = (pathNumber BadTable, [])
-
 -- the theory's outcome in 01's words; no search ends `Searching` (exploration's Claims, `ends-within-budget`)
 abbrev pub toldBy : explore.Outcome (Feet × Label) → Outcome
 toldBy (explore.Found t) = Found
@@ -56,6 +46,18 @@ listIn explore.Searching = []
 -- the answer where no search began: "retained nodes, closed nodes (0 if no search began)", "On 1 to 5 .. its count is 0"
 abbrev pub unsearched : Outcome → Answer
 unsearched o = record { outcome = o; count = 0; retained = 0; closed = 0 }
+
+-- ---- what an answer gives
+
+-- 01: "Each enum answer has a definition that gives this paper's number and values for each of its cases. The promises use that definition." Of a search it
+-- is the outcome's number, and the values are "waypoints, retained nodes, closed nodes".
+unfoldable pub answerGiven : Answer → ℕ × List ℕ
+answerGiven a = (outcomeNumber (a .outcome), a .count ∷ a .retained ∷ a .closed ∷ [])
+
+-- of a mob's search the same; 8 has no values
+unfoldable pub pathGiven : Path → ℕ × List ℕ
+pathGiven (Searched a) = answerGiven a
+pathGiven BadTable = (pathNumber BadTable, [])
 
 -- ---- the end of a run
 
