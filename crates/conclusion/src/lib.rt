@@ -2,7 +2,7 @@
 ghost use mathlib.Core.Path.{_≡_};
 ghost use lib.ListN.{length, replicate};
 ghost use Rattle.rooms.specs.Lists.{written};
-ghost use Rattle.outcomes.specs.Outcomes.{countsOf, listIn, endAt, answerOf};
+ghost use Rattle.outcomes.specs.Outcomes.{answerGiven, countsOf, listIn, endAt, answerOf};
 use outcomes::Answer;
 use outcomes::Outcome;
 use outcomes::Turn;
@@ -11,7 +11,7 @@ use rooms::Feet;
 
 // The answer that the end of a run makes of its node room, with its list written; nothing waits any more.
 pub fn conclude(nodes: &[u8], front: &mut [u8], goal: Feet, turn: Turn, out: &mut [u8]) -> Answer
-    ensures { λ a. ⌜ a ≡ answerOf (countsOf turn) (endAt (now (nodes .entry)) goal turn) ⌝ }
+    ensures { λ a. ⌜ answerGiven a ≡ answerGiven (answerOf (countsOf turn) (endAt (now (nodes .entry)) goal turn)) ⌝ }
     ensures { λ _. ⌜ now (out .exit) ≡ written (listIn (endAt (now (nodes .entry)) goal turn)) (now (out .entry)) ⌝ }
     ensures { λ _. ⌜ now (front .exit) ≡ replicate (length (now (front .entry))) 0 ⌝ }
 {

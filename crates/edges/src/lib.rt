@@ -5,6 +5,7 @@ mod way;
 
 ghost use mathlib.Core.Path.{_≡_};
 ghost use Rattle.world.specs.Space.{space};
+ghost use Rattle.moves.specs.Moves.{edgeGiven};
 ghost use Rattle.edges.specs.Edges.{edge, connector};
 use moves::EdgeAnswer;
 use moves::Moving;
@@ -26,7 +27,7 @@ pub fn edge(
     from: Point,
     to: Point,
 ) -> EdgeAnswer
-    ensures { λ a. ⌜ a ≡ edge (space w (now (cells .entry)) (now (perms .entry)) (now (shapes .entry)) (now (boxes .entry))) r body from to ⌝ }
+    ensures { λ a. ⌜ edgeGiven a ≡ edgeGiven (edge (space w (now (cells .entry)) (now (perms .entry)) (now (shapes .entry)) (now (boxes .entry))) r body from to) ⌝ }
 {
     let Moving::By(movement, lift) = moves::moving(r, body, to.y - from.y) else {
         return EdgeAnswer::Nowhere;
@@ -52,7 +53,7 @@ pub fn connector(
     body: Body,
     from: Point,
 ) -> EdgeAnswer
-    ensures { λ a. ⌜ a ≡ connector (space w (now (cells .entry)) (now (perms .entry)) (now (shapes .entry)) (now (boxes .entry))) r body from ⌝ }
+    ensures { λ a. ⌜ edgeGiven a ≡ edgeGiven (connector (space w (now (cells .entry)) (now (perms .entry)) (now (shapes .entry)) (now (boxes .entry))) r body from) ⌝ }
 {
     if places::near(1.5, from.x, r.goal.x) & places::near(1.5, from.z, r.goal.z) {
         return edge(w, cells, perms, shapes, boxes, r, body, from, r.goal);

@@ -16,6 +16,7 @@ use Rattle.mob_request.specs.Asked.{requestOf}
 use Rattle.search.specs.FindWalkPath.{found, nodesAfter, frontAfter, outAfter}
 use Rattle.outcomes.specs.declared.Answer.{Answer}
 use Rattle.outcomes.specs.declared.Path.the-variants.{Searched, BadTable}
+use Rattle.outcomes.specs.Outcomes.{pathGiven}
 use Rattle.find_path.specs.FindPath.{unlessBad, path, nodesAfterPath, frontAfterPath, outAfterPath}
 
 -- it is filled where the tables agree in length
@@ -49,19 +50,19 @@ module _ (p : WalkPolicy) (inWater : Bool) (flags : List ℕ) (w : Window) (cell
       → table ≡ permissionTable p inWater flags perms → r ≡ requestOf p start goal body
       → (a ≡ found w cells table shapes boxes r body (length nodes) (length front) (length out)) × ((b ≡ nodesAfter w cells table shapes boxes r body nodes front out)
       × ((g ≡ frontAfter w cells table shapes boxes r body nodes front out) × (x ≡ outAfter w cells table shapes boxes r body nodes front out)))
-      → (Searched a ≡ path p inWater flags w cells perms shapes boxes start goal body (length nodes) (length front) (length out))
+      → (pathGiven (Searched a) ≡ pathGiven (path p inWater flags w cells perms shapes boxes start goal body (length nodes) (length front) (length out)))
       × ((table ≡ permissionTable p inWater flags perms) × ((b ≡ nodesAfterPath p inWater flags w cells perms shapes boxes start goal body nodes front out)
       × ((g ≡ frontAfterPath p inWater flags w cells perms shapes boxes start goal body nodes front out)
       × (x ≡ outAfterPath p inWater flags w cells perms shapes boxes start goal body nodes front out))))
   unfolding path nodesAfterPath frontAfterPath outAfterPath
   searched e i j s = let h = rw (i, j) at s in
-      (alike flags perms _ e (ap Searched (h .0)), (i, (alike flags perms _ e (h .1 .0), (alike flags perms _ e (h .1 .1 .0), alike flags perms _ e (h .1 .1 .1)))))
+      (ap pathGiven (alike flags perms _ e (ap Searched (h .0))), (i, (alike flags perms _ e (h .1 .0), (alike flags perms _ e (h .1 .1 .0), alike flags perms _ e (h .1 .1 .1)))))
 
   -- nothing but the table is written, and that as its own definition says
   pub unsearched : {table : List ℕ} → eqb (length flags) (length perms) ≡ false → table ≡ permissionTable p inWater flags perms
-      → (BadTable ≡ path p inWater flags w cells perms shapes boxes start goal body (length nodes) (length front) (length out))
+      → (pathGiven BadTable ≡ pathGiven (path p inWater flags w cells perms shapes boxes start goal body (length nodes) (length front) (length out)))
       × ((table ≡ permissionTable p inWater flags perms) × ((nodes ≡ nodesAfterPath p inWater flags w cells perms shapes boxes start goal body nodes front out)
       × ((front ≡ frontAfterPath p inWater flags w cells perms shapes boxes start goal body nodes front out)
       × (out ≡ outAfterPath p inWater flags w cells perms shapes boxes start goal body nodes front out))))
   unfolding path nodesAfterPath frontAfterPath outAfterPath
-  unsearched e i = (unlike flags perms _ e, (i, (unlike flags perms _ e, (unlike flags perms _ e, unlike flags perms _ e))))
+  unsearched e i = (ap pathGiven (unlike flags perms _ e), (i, (unlike flags perms _ e, (unlike flags perms _ e, unlike flags perms _ e))))

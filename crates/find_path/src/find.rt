@@ -8,6 +8,7 @@ use world::Window;
 ghost use mathlib.Core.Path.{_≡_};
 ghost use lib.ListN.{length};
 ghost use Rattle.policy.specs.Permission.{permissionTable};
+ghost use Rattle.outcomes.specs.Outcomes.{pathGiven};
 ghost use Rattle.find_path.specs.FindPath.{path, nodesAfterPath, frontAfterPath, outAfterPath};
 
 // A way for a mob from a start to a goal. `perms` is filled by the flags of the states, unless the two differ in length, and stays filled whatever the
@@ -28,7 +29,7 @@ pub fn find_path(
     front: &mut [u8],
     out: &mut [u8],
 ) -> Path
-    ensures answer { λ p. ⌜ p ≡ path policy «in_water» (now (flags .entry)) w (now (cells .entry)) (now (perms .entry)) (now (shapes .entry)) (now (boxes .entry)) start goal body (length (now (nodes .entry))) (length (now (front .entry))) (length (now (out .entry))) ⌝ }
+    ensures answer { λ p. ⌜ pathGiven p ≡ pathGiven (path policy «in_water» (now (flags .entry)) w (now (cells .entry)) (now (perms .entry)) (now (shapes .entry)) (now (boxes .entry)) start goal body (length (now (nodes .entry))) (length (now (front .entry))) (length (now (out .entry)))) ⌝ }
     ensures permissions { λ _. ⌜ now (perms .exit) ≡ permissionTable policy «in_water» (now (flags .entry)) (now (perms .entry)) ⌝ }
     ensures nodes { λ _. ⌜ now (nodes .exit) ≡ nodesAfterPath policy «in_water» (now (flags .entry)) w (now (cells .entry)) (now (perms .entry)) (now (shapes .entry)) (now (boxes .entry)) start goal body (now (nodes .entry)) (now (front .entry)) (now (out .entry)) ⌝ }
     ensures front { λ _. ⌜ now (front .exit) ≡ frontAfterPath policy «in_water» (now (flags .entry)) w (now (cells .entry)) (now (perms .entry)) (now (shapes .entry)) (now (boxes .entry)) start goal body (now (nodes .entry)) (now (front .entry)) (now (out .entry)) ⌝ }

@@ -1,6 +1,7 @@
--- 01, The graph, "Edge": the movement and the lift by a difference in height. Definitions only.
-use Prim.Native.Nat.{ℕ}
+-- 01, The graph, "Edge": the movement and the lift by a difference in height, and what an edge's answer gives. Definitions only.
+use Prim.Native.Nat.{ℕ, _+_}
 use mathlib.Core.Bool.{cond}
+use mathlib.Core.List.{List, [], _∷_}
 use lib.Ieee.{Float, binary64, lt, le, add, neg}
 use Rattle.floats.specs.Floats.{E, nought, smaller, larger}
 use Rattle.world.specs.declared.Body.{Body}
@@ -9,6 +10,8 @@ use Rattle.moves.specs.declared.answer.Movement.{Movement}
 use Rattle.moves.specs.declared.answer.Movement.the-variants.{Walk, Step, Jump, Drop}
 use Rattle.moves.specs.declared.answer.Moving.{Moving}
 use Rattle.moves.specs.declared.answer.Moving.the-variants.{By, None}
+use Rattle.moves.specs.declared.answer.EdgeAnswer.{EdgeAnswer}
+use Rattle.moves.specs.declared.answer.EdgeAnswer.the-variants.{To, Nowhere}
 
 -- 01, Tables: "movement as u64 (0 Walk, 1 Step, 2 Jump, 3 Drop)"
 abbrev pub movementNumber : Movement → ℕ
@@ -16,6 +19,23 @@ movementNumber Walk = 0
 movementNumber Step = 1
 movementNumber Jump = 2
 movementNumber Drop = 3
+
+-- 01 has no number for an edge. Ours are from 100 on, so that none is one of 01's: 130 Walk, 131 Step, 132 Jump, 133 Drop, and 110 where there is no edge.
+abbrev pub movedNumber : Movement → ℕ
+movedNumber m = 130 + movementNumber m
+
+abbrev pub noneNumber : ℕ
+noneNumber = 110
+
+-- "Each enum answer has a definition that gives this paper's number and values for each of its cases." Of a movement the value is its lift,
+unfoldable pub movingGiven : Moving → ℕ × List Float
+movingGiven (By m lift) = (movedNumber m, lift ∷ [])
+movingGiven None = (noneNumber, [])
+
+-- and of an edge the values are those of its waypoint, in the order of 01's record: "feet x, y, z, lift", then the movement, which the number says.
+unfoldable pub edgeGiven : EdgeAnswer → ℕ × List Float
+edgeGiven (To w) = (movedNumber (w .movement), w .feet .x ∷ w .feet .y ∷ w .feet .z ∷ w .lift ∷ [])
+edgeGiven Nowhere = (noneNumber, [])
 
 -- "step = the smaller step height"
 unfoldable pub stepHeight : Request → Body → Float

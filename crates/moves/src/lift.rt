@@ -1,6 +1,6 @@
 // How a body moves by a difference in height (01, The graph, "Edge"): the kind of movement and its lift, or that it does not.
 ghost use mathlib.Core.Path.{_≡_};
-ghost use Rattle.moves.specs.Moves.{stepHeight, rising, falling, moving};
+ghost use Rattle.moves.specs.Moves.{stepHeight, rising, falling, moving, movingGiven};
 use crate::answer::Movement;
 use crate::answer::Moving;
 use world::Body;
@@ -39,7 +39,7 @@ fn falling(r: Request, dy: f64) -> Moving
 
 // The movement by a difference in height.
 pub fn moving(r: Request, body: Body, dy: f64) -> Moving
-    ensures { λ a. ⌜ a ≡ moving r body dy ⌝ }
+    ensures { λ a. ⌜ movingGiven a ≡ movingGiven (moving r body dy) ⌝ }
 {
     if floats::E < dy {
         return rising(r, body, dy);

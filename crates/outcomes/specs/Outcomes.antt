@@ -1,4 +1,4 @@
--- 01's outcomes and their numbers ("Numbers given back"), and what the end of a run is told as. Definitions only.
+-- 01's outcomes and their numbers ("Numbers given back"), what an answer gives, and what the end of a run is told as. Definitions only.
 use Prim.Native.Nat.{ℕ, zero, suc}
 use mathlib.Core.List.{List, [], _∷_}
 use lib.ListN.{length}
@@ -15,7 +15,7 @@ use Rattle.outcomes.specs.declared.Path.the-variants.{Searched, BadTable
 use Rattle.outcomes.specs.declared.Turn.{Turn}
 use Rattle.outcomes.specs.declared.Turn.the-variants.{Rest, Going, At, By}
 
--- 01's numbers
+-- 01, "Numbers given back", the table's first six rows: 0 Found, 1 Unreachable, 2 BudgetExceeded, 3 BadWorld, 4 TooLarge, 5 NoRoom
 abbrev pub outcomeNumber : Outcome → ℕ
 outcomeNumber Found = 0
 outcomeNumber Unreachable = 1
@@ -24,7 +24,7 @@ outcomeNumber BadWorld = 3
 outcomeNumber TooLarge = 4
 outcomeNumber NoRoom = 5
 
--- of a mob's search: "`find_path` gives the outcome number", or 8
+-- of a mob's search: "`find_path` gives the outcome number", or the table's 8 BadTable
 abbrev pub pathNumber : Path → ℕ
 pathNumber (Searched a) = outcomeNumber (a .outcome)
 pathNumber BadTable = 8
@@ -46,6 +46,18 @@ listIn explore.Searching = []
 -- the answer where no search began: "retained nodes, closed nodes (0 if no search began)", "On 1 to 5 .. its count is 0"
 abbrev pub unsearched : Outcome → Answer
 unsearched o = record { outcome = o; count = 0; retained = 0; closed = 0 }
+
+-- ---- what an answer gives
+
+-- 01: "Each enum answer has a definition that gives this paper's number and values for each of its cases. The promises use that definition." Of a search it
+-- is the outcome's number, and the values are "waypoints, retained nodes, closed nodes".
+unfoldable pub answerGiven : Answer → ℕ × List ℕ
+answerGiven a = (outcomeNumber (a .outcome), a .count ∷ a .retained ∷ a .closed ∷ [])
+
+-- of a mob's search the same; 8 has no values
+unfoldable pub pathGiven : Path → ℕ × List ℕ
+pathGiven (Searched a) = answerGiven a
+pathGiven BadTable = (pathNumber BadTable, [])
 
 -- ---- the end of a run
 

@@ -1,6 +1,6 @@
 // What a search answers (01, "Numbers given back"): without a search, or where it found no list. How a list is told is the crate `conclusion`.
 ghost use mathlib.Core.Path.{_≡_};
-ghost use Rattle.outcomes.specs.Outcomes.{outcomeNumber, unsearched, endQuiet, answerOf};
+ghost use Rattle.outcomes.specs.Outcomes.{outcomeNumber, answerGiven, unsearched, endQuiet, answerOf};
 use rooms::Counts;
 use rooms::Label;
 
@@ -52,14 +52,14 @@ pub fn number_of(outcome: Outcome) -> u64
 
 // The answer where no search began.
 pub fn without_search(outcome: Outcome) -> Answer
-    ensures { λ a. ⌜ a ≡ unsearched outcome ⌝ }
+    ensures { λ a. ⌜ answerGiven a ≡ answerGiven (unsearched outcome) ⌝ }
 {
     Answer { outcome, count: 0, retained: 0, closed: 0 }
 }
 
 // The answer of a search that found no list: nothing waits any more.
 pub fn verdict(c: Counts) -> Answer
-    ensures { λ a. ⌜ a ≡ answerOf c (endQuiet (c .dropped)) ⌝ }
+    ensures { λ a. ⌜ answerGiven a ≡ answerGiven (answerOf c (endQuiet (c .dropped))) ⌝ }
 {
     let outcome = if c.dropped == 0 { Outcome::Unreachable } else { Outcome::BudgetExceeded };
     Answer { outcome, count: 0, retained: c.retained, closed: c.closed }

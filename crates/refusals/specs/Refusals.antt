@@ -13,6 +13,7 @@ use Rattle.request.specs.Request.{validRequest, tooLarge}
 use Rattle.ends.specs.Ends.{endsGood}
 use Rattle.outcomes.specs.declared.Outcome.{Outcome}
 use Rattle.outcomes.specs.declared.Outcome.the-variants.{Unreachable, BudgetExceeded, BadWorld, TooLarge, NoRoom}
+use Rattle.outcomes.specs.Outcomes.{outcomeNumber}
 use Rattle.refusals.specs.declared.Judged.{Judged}
 use Rattle.refusals.specs.declared.Judged.the-variants.{Refused, Begins}
 
@@ -32,7 +33,12 @@ withoutSearch w cells perms shapes boxes r body nodes front out =
     (cond (eqb (r .«node_budget») 0) (some BudgetExceeded)
     none)))))
 
--- what the code answers, as that
-abbrev pub told : Judged → Option Outcome
-told (Refused o) = some o
-told Begins = none
+-- its number by 01's table; a search that begins has none yet
+abbrev pub numberIf : Option Outcome → Option ℕ
+numberIf (some o) = some (outcomeNumber o)
+numberIf none = none
+
+-- the number of what the code answers; its cases have no other values
+abbrev pub judgedNumber : Judged → Option ℕ
+judgedNumber (Refused o) = some (outcomeNumber o)
+judgedNumber Begins = none

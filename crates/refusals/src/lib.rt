@@ -1,6 +1,6 @@
 // Whether a search begins (01, "Numbers given back": "Search order"): every answer that comes before the first expansion.
 ghost use mathlib.Core.Path.{_≡_};
-ghost use Rattle.refusals.specs.Refusals.{withoutSearch, told};
+ghost use Rattle.refusals.specs.Refusals.{withoutSearch, numberIf, judgedNumber};
 use outcomes::Outcome;
 use world::Body;
 use world::Request;
@@ -25,7 +25,7 @@ pub fn judge(
     front: usize,
     out: usize,
 ) -> Judged
-    ensures { λ a. ⌜ told a ≡ withoutSearch w (now (cells .entry)) (now (perms .entry)) (now (shapes .entry)) (now (boxes .entry)) r body nodes front out ⌝ }
+    ensures { λ a. ⌜ judgedNumber a ≡ numberIf (withoutSearch w (now (cells .entry)) (now (perms .entry)) (now (shapes .entry)) (now (boxes .entry)) r body nodes front out) ⌝ }
 {
     if tables::bad_world(w, cells, shapes, boxes) {
         return Judged::Refused(Outcome::BadWorld);

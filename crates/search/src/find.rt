@@ -10,6 +10,7 @@ use world::Request;
 use world::Window;
 ghost use mathlib.Core.Path.{_≡_};
 ghost use lib.ListN.{length};
+ghost use Rattle.outcomes.specs.Outcomes.{answerGiven};
 ghost use Rattle.search.specs.FindWalkPath.{found, nodesAfter, frontAfter, outAfter};
 
 // A way from the request's start to its goal, through the world of the tables: the list is written to `out`, `nodes` and `front` are the search's rooms.
@@ -25,7 +26,7 @@ pub fn find_walk_path(
     front: &mut [u8],
     out: &mut [u8],
 ) -> Answer
-    ensures { λ a. ⌜ a ≡ found w (now (cells .entry)) (now (perms .entry)) (now (shapes .entry)) (now (boxes .entry)) r body (length (now (nodes .entry))) (length (now (front .entry))) (length (now (out .entry))) ⌝ }
+    ensures { λ a. ⌜ answerGiven a ≡ answerGiven (found w (now (cells .entry)) (now (perms .entry)) (now (shapes .entry)) (now (boxes .entry)) r body (length (now (nodes .entry))) (length (now (front .entry))) (length (now (out .entry)))) ⌝ }
     ensures { λ _. ⌜ now (nodes .exit) ≡ nodesAfter w (now (cells .entry)) (now (perms .entry)) (now (shapes .entry)) (now (boxes .entry)) r body (now (nodes .entry)) (now (front .entry)) (now (out .entry)) ⌝ }
     ensures { λ _. ⌜ now (front .exit) ≡ frontAfter w (now (cells .entry)) (now (perms .entry)) (now (shapes .entry)) (now (boxes .entry)) r body (now (nodes .entry)) (now (front .entry)) (now (out .entry)) ⌝ }
     ensures { λ _. ⌜ now (out .exit) ≡ outAfter w (now (cells .entry)) (now (perms .entry)) (now (shapes .entry)) (now (boxes .entry)) r body (now (nodes .entry)) (now (front .entry)) (now (out .entry)) ⌝ }

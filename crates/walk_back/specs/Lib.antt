@@ -1,4 +1,5 @@
--- The walk-back. What a reader must believe: WalkBack, and `listed`. What is proved of it: Claims. What the code goes by: Laws.
+-- The walk-back. What a reader must believe: WalkBack, and `listed`. What is proved of it: Claims, Unique. What the code goes by: Laws.
 pub mod WalkBack
 pub mod Laws
 pub mod Claims
+pub mod Unique

@@ -11,7 +11,7 @@ ghost use Rattle.exploration.specs.WalkBack.{isWay};
 ghost use Rattle.steps.specs.Graph.{graph};
 ghost use Rattle.rooms.specs.Records.{waypointAt};
 ghost use Rattle.listed.specs.Listed.{entriesFrom};
-ghost use Rattle.walk_back.specs.WalkBack.{walked};
+ghost use Rattle.walk_back.specs.WalkBack.{walkedNumber, walked};
 use world::Body;
 use world::Request;
 use world::Window;
@@ -58,7 +58,7 @@ pub fn walk_back(
     body: Body,
     list: &[u8],
 ) -> Walked
-    ensures { λ a. ⌜ a ≡ walked w (now (cells .entry)) (now (perms .entry)) (now (shapes .entry)) (now (boxes .entry)) r body (now (list .entry)) ⌝ }
+    ensures { λ a. ⌜ walkedNumber a ≡ walkedNumber (walked w (now (cells .entry)) (now (perms .entry)) (now (shapes .entry)) (now (boxes .entry)) r body (now (list .entry))) ⌝ }
 {
     if tables::bad_world(w, cells, shapes, boxes) {
         return Walked::BadWorld;

@@ -4,6 +4,8 @@ use mathlib.Core.Path.{sym, ap, _∙_}
 use mathlib.Core.Logic.{inl, inr, ⊎-elim}
 use borrow.Author.Needs.{needs}
 use Rattle.outcomes.specs.declared.Turn.the-variants.{Rest, Going}
+use Rattle.outcomes.specs.Outcomes.{answerGiven}
+use Rattle.outcomes.specs.Unique.{one-answer}
 use Rattle.conclusion.specs.Laws.{concludes-quiet, concludes-at, concludes-by}
 use Rattle.conclusion.proofs.conclude.Statement.{statement}
 use Rattle.conclusion.proofs.conclude.Tie as tie
@@ -42,7 +44,7 @@ returns : tie.Need-returns
 returns c =
     let a = c .before .before .before .before .before .before .before .before .before .before .before .before .before .before .args in
     let r = concludes-at (now (a .nodes)) (a .goal) (a .turn) _ (now (a .out)) _ _ _ (c .before .before .before .before .before .turn3 .given .1) (c .before .before .list-at .ensures) in
-    (r .0, (r .1, c .before .before .before .before .before .before .before .before .before .zero .ensures))
+    (ap answerGiven (r .0), (r .1, c .before .before .before .before .before .before .before .before .before .zero .ensures))
 
 same-length-3 : tie.Need-same-length-3
 same-length-3 c = c .before .before .before .before .before .before .before .before .before .zero .kept .0
@@ -54,7 +56,7 @@ returns-2 : tie.Need-returns-2
 returns-2 c =
     let a = c .before .before .before .before .before .before .before .before .before .before .before .before .before .before .args in
     let r = concludes-by (now (a .nodes)) (a .goal) (a .turn) _ (now (a .out)) _ _ _ _ (c .before .before .before .before .before .turn4 .given .1) (c .before .before .list-by .ensures) in
-    (r .0, (r .1, c .before .before .before .before .before .before .before .before .before .zero .ensures))
+    (ap answerGiven (r .0), (r .1, c .before .before .before .before .before .before .before .before .before .zero .ensures))
 
 same-length-5 : tie.Need-same-length-5
 same-length-5 c = c .before .before .before .before .zero .kept .0
@@ -63,8 +65,8 @@ returns-3 : tie.Need-returns-3
 returns-3 c =
     let a = c .before .before .before .before .before .before .before .before .before .args in
     let e = ⊎-elim (λ t. inl (t .1 .given .1 ∙ ap Rest (sym (t .3)))) (λ t. inr (t .1 .given .1 ∙ ap Going (sym (t .3)))) (c .before .match .came) in
-    let r = concludes-quiet (now (a .nodes)) (a .goal) (a .turn) (c .before .match .c) (now (a .out)) _ e (c .verdict .ensures) in
-    (r .0, (r .1, c .before .before .before .before .zero .ensures))
+    let r = concludes-quiet (now (a .nodes)) (a .goal) (a .turn) (c .before .match .c) (now (a .out)) _ e (one-answer _ _ (c .verdict .ensures)) in
+    (ap answerGiven (r .0), (r .1, c .before .before .before .before .zero .ensures))
 
 pub conclude-spec : {M : Type 1} → statement M
 conclude-spec =

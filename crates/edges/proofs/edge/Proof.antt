@@ -2,6 +2,7 @@
 use mathlib.Core.Path.{sym, _∙_}
 use borrow.Author.Tests.{not-true, not-false}
 use borrow.Author.Needs.{needs}
+use Rattle.moves.specs.Unique.{one-moving}
 use Rattle.edges.specs.Edges.{edge}
 use Rattle.edges.proofs.edge.Statement.{statement}
 use Rattle.edges.proofs.edge.Tie as tie
@@ -17,18 +18,18 @@ enum-told c = search needs
 
 returns : tie.Need-returns
 unfolding edge
-returns c = rw (sym (c .before .before .moving .ensures) ∙ c .enum-told .given .1)
+returns c = rw (sym (one-moving _ _ (c .before .before .moving .ensures)) ∙ c .enum-told .given .1)
 
 passable-requires : tie.Need-passable-requires
 passable-requires c κs = tt
 
 returns-2 : tie.Need-returns-2
 unfolding edge
-returns-2 c = rw (sym (c .before .before .before .before .before .moving .ensures) ∙ c .before .before .before .movement .given .1, sym (c .before .passable .ensures) ∙ not-true _ (c .if1 .taken))
+returns-2 c = rw (sym (one-moving _ _ (c .before .before .before .before .before .moving .ensures)) ∙ c .before .before .before .movement .given .1, sym (c .before .passable .ensures) ∙ not-true _ (c .if1 .taken))
 
 returns-3 : tie.Need-returns-3
 unfolding edge
-returns-3 c = rw (sym (c .before .before .before .before .before .moving .ensures) ∙ c .before .before .before .movement .given .1, sym (c .before .passable .ensures) ∙ not-false _ (c .if1 .left))
+returns-3 c = rw (sym (one-moving _ _ (c .before .before .before .before .before .moving .ensures)) ∙ c .before .before .before .movement .given .1, sym (c .before .passable .ensures) ∙ not-false _ (c .if1 .left))
 
 pub edge-spec : {M : Type 1} → statement M
 edge-spec =

@@ -5,8 +5,7 @@ use mathlib.Core.Option.{none, some}
 use denote.Ref.{now}
 use borrow.Author.Tests.{not-true, not-false, eq-eqb, ne-eqb}
 use lib.Dec.{eqb}
-use Rattle.outcomes.specs.declared.Outcome.the-variants.{BudgetExceeded}
-use Rattle.refusals.specs.Refusals.{withoutSearch}
+use Rattle.refusals.specs.Refusals.{withoutSearch, numberIf}
 use Rattle.refusals.specs.Laws.{room-divided, out-bad-world, out-invalid, out-too-large, out-no-room, out-bad-end, out-last}
 use Rattle.refusals.proofs.judge.Statement.{statement}
 use Rattle.refusals.proofs.judge.Tie as tie
@@ -65,7 +64,7 @@ returns-5 c =
 
 -- past all tests but the last: a search, or none where it has nothing to spend
 last : (c : tie.Else5) → let a = c .before .before .before .before .before .before .before .before .before .before .before .before .before .args in (nothing : Bool) → eqb (a .r .«node_budget») 0 ≡ nothing →
-    cond nothing (some BudgetExceeded) none ≡ withoutSearch (a .w) (now (a .cells)) (now (a .perms)) (now (a .shapes)) (now (a .boxes)) (a .r) (a .body) (a .nodes) (a .front) (a .out)
+    cond nothing (some 2) none ≡ numberIf (withoutSearch (a .w) (now (a .cells)) (now (a .perms)) (now (a .shapes)) (now (a .boxes)) (a .r) (a .body) (a .nodes) (a .front) (a .out))
 last c =
     let a = c .before .before .before .before .before .before .before .before .before .before .before .before .before .args in
     out-last (a .w) (now (a .cells)) (now (a .perms)) (now (a .shapes)) (now (a .boxes)) (a .r) (a .body) (a .nodes) (a .front) (a .out)

@@ -1,5 +1,5 @@
 -- The public call: what each way out of `judge` answers and leaves.
-use mathlib.Core.Path.{_≡_, sym}
+use mathlib.Core.Path.{_≡_, sym, ap}
 use mathlib.Core.Option.{Option}
 use mathlib.Core.List.{List}
 use Prim.Native.Nat.{ℕ}
@@ -9,6 +9,7 @@ use Rattle.world.specs.declared.Request.{Request}
 use Rattle.world.specs.declared.Window.{Window}
 use Rattle.outcomes.specs.declared.Outcome.{Outcome}
 use Rattle.outcomes.specs.declared.Answer.{Answer}
+use Rattle.outcomes.specs.Outcomes.{answerGiven}
 use Rattle.refusals.specs.Refusals.{withoutSearch}
 use Rattle.search.specs.FindWalkPath.{answerBy, nodesBy, frontBy, outBy, found, nodesAfter, frontAfter, outAfter}
 
@@ -16,9 +17,9 @@ module _ (w : Window) (cells perms shapes boxes : List ℕ) (r : Request) (body 
   pub leaves : (way : Option Outcome) → way ≡ withoutSearch w cells perms shapes boxes r body (length nodes) (length front) (length out) →
       a ≡ answerBy w cells perms shapes boxes r body way → b ≡ nodesBy w cells perms shapes boxes r body way nodes →
       x ≡ outBy w cells perms shapes boxes r body way out → g ≡ frontBy w cells perms shapes boxes r body way front →
-      (a ≡ found w cells perms shapes boxes r body (length nodes) (length front) (length out)) ×
+      (answerGiven a ≡ answerGiven (found w cells perms shapes boxes r body (length nodes) (length front) (length out))) ×
       ((b ≡ nodesAfter w cells perms shapes boxes r body nodes front out) ×
       ((g ≡ frontAfter w cells perms shapes boxes r body nodes front out) ×
       (x ≡ outAfter w cells perms shapes boxes r body nodes front out)))
   unfolding found nodesAfter frontAfter outAfter
-  leaves way e i j l k = rw (sym e) (i, (j, (k, l)))
+  leaves way e i j l k = rw (sym e) (ap answerGiven i, (j, (k, l)))

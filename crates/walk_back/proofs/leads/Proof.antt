@@ -12,6 +12,7 @@ use mir.Syntax.{w64}
 use mir.Val.{Fits}
 use Rattle.world.specs.Space.{Space, space}
 use Rattle.moves.specs.declared.answer.EdgeAnswer.{EdgeAnswer}
+use Rattle.moves.specs.Unique.{one-edge}
 use Rattle.rooms.specs.declared.WaypointRecord.{WaypointRecord}
 use Rattle.rooms.specs.Records.{waypointAt}
 use Rattle.rooms.specs.Waypoints.{samePoint}
@@ -79,7 +80,7 @@ labelled-by-requires c κs = tt
 
 returns : tie.Need-returns Inv-loop μ-loop
 returns c =
-    asked (at-goal (c .before .before .before)) (c .before .before .if2 .taken) (c .labelled-by .ensures ∙ ap (λ (e : EdgeAnswer). labelledBy e (c .before .before .before .before .before .before .get-waypoint2 .result .label)) (c .before .connector .ensures))
+    asked (at-goal (c .before .before .before)) (c .before .before .if2 .taken) (c .labelled-by .ensures ∙ ap (λ (e : EdgeAnswer). labelledBy e (c .before .before .before .before .before .before .get-waypoint2 .result .label)) (one-edge _ _ (c .before .connector .ensures)))
     ∙ sym (last-pair (c .before .before .before))
 
 returns-2 : tie.Need-returns-2 Inv-loop μ-loop

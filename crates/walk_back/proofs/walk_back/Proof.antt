@@ -6,7 +6,7 @@ use borrow.Author.Tests.{not-true, not-false}
 use denote.Ref.{now}
 use Rattle.world.specs.Space.{Space, space}
 use Rattle.walk_back.specs.declared.Walked.the-variants.{Yes, No}
-use Rattle.walk_back.specs.WalkBack.{isRouteList, walked}
+use Rattle.walk_back.specs.WalkBack.{walkedNumber, isRouteList, walked}
 use Rattle.walk_back.specs.Laws.{route-is}
 use Rattle.walk_back.proofs.walk_back.Statement.{statement}
 use Rattle.walk_back.proofs.walk_back.Tie as tie
@@ -16,7 +16,7 @@ sp s = let a = s .args in space (a .w) (now (a .cells)) (now (a .perms)) (now (a
 
 -- what is left once nothing refuses: whether the list is a route
 past : (c : tie.Else3) (route : Bool) → let s = c .before .before .before .before .before .before .before .before .before .before .before in isRouteList (sp s) (s .args .r) (s .args .body) (now (s .args .list)) ≡ route →
-    cond route Yes No ≡ walked (s .args .w) (now (s .args .cells)) (now (s .args .perms)) (now (s .args .shapes)) (now (s .args .boxes)) (s .args .r) (s .args .body) (now (s .args .list))
+    walkedNumber (cond route Yes No) ≡ walkedNumber (walked (s .args .w) (now (s .args .cells)) (now (s .args .perms)) (now (s .args .shapes)) (now (s .args .boxes)) (s .args .r) (s .args .body) (now (s .args .list)))
 unfolding walked
 past c route e = rw (sym (c .before .before .before .before .before .bad-world .ensures) ∙ c .before .before .before .before .if1 .left, sym (c .before .before .before .valid-request .ensures) ∙ not-false _ (c .before .before .if2 .left), sym (c .before .sizes-too-large .ensures) ∙ c .if3 .left, e)
 

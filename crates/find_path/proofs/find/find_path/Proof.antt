@@ -1,5 +1,6 @@
 -- `find_path::find::find_path` meets its contract. Assumes nothing.
 use denote.Ref.{now}
+use Rattle.outcomes.specs.Unique.{one-answer}
 use Rattle.find_path.specs.Laws.{agree, differ, searched, unsearched}
 use borrow.Author.Needs.{needs}
 use Rattle.find_path.proofs.find.find_path.Statement.{statement}
@@ -46,8 +47,9 @@ returns-2 : tie.Need-returns-2
 returns-2 c =
     let a = c .before .before .before .before .before .before .before .before .before .before .before .before .before .before .before .before .before .before .before .before .before .before .before .before .before .before .args in
     let fill = c .before .before .before .before .before .before .before .before .before .before .before .before .before .before .before .before .fill-permissions .ensures in
+    let answered = c .before .before .before .before .before .before .find-walk-path .ensures in
     searched (a .policy) (a .in-water) (now (a .flags)) (a .w) (now (a .cells)) (now (a .perms)) (now (a .shapes)) (now (a .boxes)) (a .start) (a .goal) (a .body) (now (a .nodes)) (now (a .front)) (now (a .out))
-        (agree (now (a .flags)) (now (a .perms)) (rw (c .before .before .before .before .before .before .before .before .before .before .before .before .enum-told2 .given .1) at (fill .0))) (fill .1) (c .before .before .before .before .before .before .before .before .before .before .before .request-of .ensures) (c .before .before .before .before .before .before .find-walk-path .ensures)
+        (agree (now (a .flags)) (now (a .perms)) (rw (c .before .before .before .before .before .before .before .before .before .before .before .before .enum-told2 .given .1) at (fill .0))) (fill .1) (c .before .before .before .before .before .before .before .before .before .before .before .request-of .ensures) (one-answer _ _ (answered .0), answered .1)
 
 pub find-path-spec : {M : Type 1} → statement M
 find-path-spec =

@@ -1,5 +1,6 @@
 -- `moves::lift::moving` meets its contract. Assumes nothing.
-use Rattle.moves.specs.Moves.{moving}
+use mathlib.Core.Path.{ap}
+use Rattle.moves.specs.Moves.{moving, movingGiven}
 use Rattle.moves.proofs.lift.moving.Statement.{statement}
 use Rattle.moves.proofs.lift.moving.Tie as tie
 
@@ -8,14 +9,14 @@ rising-requires c κs = tt
 
 returns : tie.Need-returns
 unfolding moving
-returns c = rw (c .before .if1 .taken) (c .rising .ensures)
+returns c = rw (c .before .if1 .taken) (ap movingGiven (c .rising .ensures))
 
 falling-requires : tie.Need-falling-requires
 falling-requires c κs = tt
 
 returns-2 : tie.Need-returns-2
 unfolding moving
-returns-2 c = rw (c .before .before .if1 .left, c .before .if2 .taken) (c .falling .ensures)
+returns-2 c = rw (c .before .before .if1 .left, c .before .if2 .taken) (ap movingGiven (c .falling .ensures))
 
 max-requires : tie.Need-max-requires
 max-requires c κs = tt

@@ -1,6 +1,7 @@
 -- `print::telling::tell` meets its contract. Assumes nothing.
 use denote.Ref.{now}
 use mathlib.Core.Path.{refl}
+use Rattle.outcomes.specs.Unique.{one-answer}
 use Rattle.print.specs.Print.{told, nodesOf, frontOf, outOf}
 use Rattle.print.specs.Laws.{tells}
 use borrow.Author.Needs.{needs}
@@ -60,13 +61,14 @@ same-length-3 c = search needs
 returns-3 : tie.Need-returns-3
 returns-3 c =
     let found = c .before .before .before .before .before .before .before .before in
+    let answered = found .find-walk-path .ensures in
     let fronts = found .before .before .before .before in
     let scene = fronts .before .before .before .before .before .before .answer2 .given in
     let a = fronts .before .before .before .before .before .before .before .before .before .before .before .before .before .before .before .args in
     rw (scene .1)
     (tells (now (a .cells)) (now (a .perms)) (now (a .shapes)) (now (a .boxes)) (now (a .nodes)) (now (a .front)) (now (a .out)) (scene .0 .0)
     (fronts .before .before .before .front-of .ensures) (fronts .before .before .front-of2 .ensures) (fronts .before .front-of3 .ensures) (fronts .front-of4 .ensures)
-    (found .find-walk-path .ensures) (c .told-of .ensures))
+    (one-answer _ _ (answered .0), answered .1) (c .told-of .ensures))
 
 pub tell-spec : {M : Type 1} → statement M
 tell-spec =

@@ -9,6 +9,7 @@ use denote.Ref.{now}
 use lib.ListN.{length}
 use Rattle.world.specs.Space.{Space, space}
 use Rattle.heights.specs.declared.Height.the-variants.{At}
+use Rattle.moves.specs.Unique.{one-edge}
 use Rattle.edges.specs.Edges.{edge}
 use Rattle.steps.specs.Columns.{target, ahead, columnIf}
 use Rattle.sides.specs.declared.Sides.{Sides}
@@ -94,7 +95,7 @@ loop-again c =
     let u = i .inv .2 in
     (c .before .before .before .before .step-to .kept .0 ∙ i .inv .0, c .before .before .before .before .step-to .kept .1 .0 ∙ i .inv .1,
     along-on (ahead e []) u (rest ∙ ahead-split e (stepsAfter (sp s) (s .args .task .r) (s .args .task .body) (s .args .at .point) (s .args .n) (At y)))
-        (λ vs g. went-more g (went-by e (rw (c .before .before .before .before .before .before .before .edge .ensures) at (c .before .before .before .before .step-to .ensures))
+        (λ vs g. went-more g (went-by e (rw (one-edge _ _ (c .before .before .before .before .before .before .before .edge .ensures)) at (c .before .before .before .before .step-to .ensures))
             (ready-after (s .pre .0 .0) (u .went .steps .near) (omega (arith, along-short u)) (i .inv .0) (i .inv .1)) (omega (arith, s .pre .0 .1, u .went .steps .near .more)))))
 
 pub column-spec : {M : Type 1} → statement M

@@ -14,12 +14,14 @@ use types.Run.{OneOf}
 use Rattle.world.specs.Space.{space}
 use Rattle.fields.specs.Pieces.{Bytes}
 use Rattle.steps.specs.Bounds.{steps-bounded}
-use Rattle.refusals.specs.Refusals.{told}
+use Rattle.refusals.specs.Refusals.{judgedNumber}
+use Rattle.refusals.specs.Unique.{one-way}
 use Rattle.refusals.specs.Laws.{Begun, begins}
 use Rattle.outcomes.proofs.Turn.{the-type}
 use Rattle.outcomes.specs.declared.Turn.{Turn}
 use Rattle.outcomes.specs.declared.Turn.the-variants.{Rest, Going, At, By}
 use Rattle.outcomes.specs.Outcomes.{countsOf}
+use Rattle.outcomes.specs.Unique.{one-answer}
 use Rattle.search.specs.Turns.{Bounded}
 use Rattle.search.specs.Runs.{Spun}
 use Rattle.search.specs.Laws.Steps.{ready-after}
@@ -48,7 +50,7 @@ ended (By c k l) h = tt
 
 -- what `judge` says where the search begins
 begun-by : (s : tie.After-begin Inv-loop μ-loop) → let a = s .before .before .before .before .before .before .before .before .before .before .before .before .before .before .before .args in Begun (a .w) (now (a .cells)) (now (a .perms)) (now (a .shapes)) (now (a .boxes)) (a .r) (a .body) (length (now (a .nodes))) (length (now (a .front))) (length (now (a .out)))
-begun-by s = begins _ _ _ _ _ _ _ _ _ _ (sym (s .before .before .before .before .before .before .before .judge .ensures) ∙ ap told (s .before .before .before .before .before .enum-told .given .1))
+begun-by s = begins _ _ _ _ _ _ _ _ _ _ (one-way _ none (sym (s .before .before .before .before .before .before .before .judge .ensures) ∙ ap judgedNumber (s .before .before .before .before .before .enum-told .given .1)))
 
 roomy : (s : tie.After-begin Inv-loop μ-loop) → let a = s .before .before .before .before .before .before .before .before .before .before .before .before .before .before .before .args in Roomy (a .r) (now (a .nodes)) (now (a .front)) (now (a .out))
 roomy s = let b = begun-by s in record { few = b .few-nodes; node-room = b .node-room; front-room = b .front-room; out-room = b .out-room }
@@ -68,7 +70,7 @@ without-search-requires c κs = tt
 returns : tie.Need-returns Inv-loop μ-loop
 returns c =
     let a = c .before .before .before .before .before .before .before .before .before .before .before .before .args in
-    leaves (a .w) (now (a .cells)) (now (a .perms)) (now (a .shapes)) (now (a .boxes)) (a .r) (a .body) (now (a .nodes)) (now (a .front)) (now (a .out)) (some _) (sym (ap told (c .before .before .judged .given .1)) ∙ c .before .before .before .before .judge .ensures) (c .without-search .ensures) refl refl refl
+    leaves (a .w) (now (a .cells)) (now (a .perms)) (now (a .shapes)) (now (a .boxes)) (a .r) (a .body) (now (a .nodes)) (now (a .front)) (now (a .out)) (some _) (one-way (some _) _ (sym (ap judgedNumber (c .before .before .judged .given .1)) ∙ c .before .before .before .before .judge .ensures)) (one-answer _ _ (c .without-search .ensures)) refl refl refl
 
 enum-told : tie.Need-enum-told Inv-loop μ-loop
 enum-told c = search needs
@@ -133,8 +135,8 @@ returns-2 : tie.Need-returns-2 Inv-loop μ-loop
 returns-2 c =
     let a = c .before .before .before .before .before .before .before .before .before .before .before .before .before .before .before .before .before .before .before .before .before .before .before .before .before .before .before .before .before .args in
     let e = c .before .before .before .before .conclude .ensures in
-    let s = searched (a .r) (roomy (c .before .before .before .before .before .before .before .before .before .before .before .before .before .before)) (c .before .before .before .before .before .before .before .before .before .before .before .before .before .before .before .feet-of2 .ensures) (c .before .before .before .before .before .before .before .before .before .before .before .before .before .before .begin .ensures) (a .w) (now (a .cells)) (now (a .perms)) (now (a .shapes)) (now (a .boxes)) (a .body) (c .before .before .before .before .before .before .before .before .before .before .before .before .before .before .before .before .before .before .feet-of .ensures) (spun (c .before .before .before .before .before .before .before .before)) (c .before .before .before .before .before .before .before .before .before .loop .inv .4) (c .before .before .before .before .before .before .before .before .before .loop .inv .2 ∙ c .before .before .before .before .before .before .before .before .before .before .before .before .before .before .begin .kept .0) (e .0, e .1 .0) in
-    leaves (a .w) (now (a .cells)) (now (a .perms)) (now (a .shapes)) (now (a .boxes)) (a .r) (a .body) (now (a .nodes)) (now (a .front)) (now (a .out)) none (sym (ap told (c .before .before .before .before .before .before .before .before .before .before .before .before .before .before .before .before .before .before .before .enum-told .given .1)) ∙ c .before .before .before .before .before .before .before .before .before .before .before .before .before .before .before .before .before .before .before .before .before .judge .ensures) (s .0) (s .1) (s .2) (e .1 .1 ∙ ap (λ (n : ℕ). replicate n 0) (c .before .before .before .before .before .before .before .before .before .loop .inv .3 ∙ c .before .before .before .before .before .before .before .before .before .before .before .before .before .before .begin .kept .1 .0))
+    let s = searched (a .r) (roomy (c .before .before .before .before .before .before .before .before .before .before .before .before .before .before)) (c .before .before .before .before .before .before .before .before .before .before .before .before .before .before .before .feet-of2 .ensures) (c .before .before .before .before .before .before .before .before .before .before .before .before .before .before .begin .ensures) (a .w) (now (a .cells)) (now (a .perms)) (now (a .shapes)) (now (a .boxes)) (a .body) (c .before .before .before .before .before .before .before .before .before .before .before .before .before .before .before .before .before .before .feet-of .ensures) (spun (c .before .before .before .before .before .before .before .before)) (c .before .before .before .before .before .before .before .before .before .loop .inv .4) (c .before .before .before .before .before .before .before .before .before .loop .inv .2 ∙ c .before .before .before .before .before .before .before .before .before .before .before .before .before .before .begin .kept .0) (one-answer _ _ (e .0), e .1 .0) in
+    leaves (a .w) (now (a .cells)) (now (a .perms)) (now (a .shapes)) (now (a .boxes)) (a .r) (a .body) (now (a .nodes)) (now (a .front)) (now (a .out)) none (one-way none _ (sym (ap judgedNumber (c .before .before .before .before .before .before .before .before .before .before .before .before .before .before .before .before .before .before .before .enum-told .given .1)) ∙ c .before .before .before .before .before .before .before .before .before .before .before .before .before .before .before .before .before .before .before .before .before .judge .ensures)) (s .0) (s .1) (s .2) (e .1 .1 ∙ ap (λ (n : ℕ). replicate n 0) (c .before .before .before .before .before .before .before .before .before .loop .inv .3 ∙ c .before .before .before .before .before .before .before .before .before .before .before .before .before .before .begin .kept .1 .0))
 
 pub find-walk-path-spec : {M : Type 1} → statement M
 find-walk-path-spec =

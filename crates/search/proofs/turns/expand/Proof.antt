@@ -7,6 +7,7 @@ use borrow.Author.Needs.{needs}
 use denote.Ref.{now}
 use Rattle.world.specs.Space.{Space, space}
 use Rattle.moves.specs.declared.answer.EdgeAnswer.the-variants.{To, Nowhere}
+use Rattle.moves.specs.Unique.{one-edge}
 use Rattle.edges.specs.Edges.{connector}
 use Rattle.words.specs.Words.{pointOf}
 use Rattle.rooms.specs.Waypoints.{samePoint}
@@ -79,7 +80,7 @@ returns-3 c =
     let n = closed .close .ensures .node in
     let shut = is-closed (s .pre .0) (closed .before .before .before .if1 .left) (closed .close .ensures) in
     let i : samePoint (nodeAt (now (s .args .nodes)) k .feet) (s .args .task .aim .goal) ≡ false = rw (← n) (sym (c .before .before .before .before .before .before .before .same-point .ensures) ∙ c .before .before .before .before .before .before .if2 .left) in
-    let j : To (c .before .before .way .given .0 .0) ≡ connector (sp s) (s .args .task .r) (s .args .task .body) (pointOf (nodeAt (now (s .args .nodes)) k .feet)) = rw (← n, ← (c .before .before .before .before .before .point-of .ensures)) (sym (c .before .before .way .given .1) ∙ c .before .before .before .before .connector .ensures) in
+    let j : To (c .before .before .way .given .0 .0) ≡ connector (sp s) (s .args .task .r) (s .args .task .body) (pointOf (nodeAt (now (s .args .nodes)) k .feet)) = rw (← n, ← (c .before .before .before .before .before .point-of .ensures)) (sym (c .before .before .way .given .1) ∙ one-edge _ _ (c .before .before .before .before .connector .ensures)) in
     turned-by (s .args .task .aim) (sp s) (s .args .task .r) (s .args .task .body) (s .args .c) (now (s .args .nodes)) (now (s .args .front)) (s .pre .1 .0) k (closed .before .before .before .before .before .pick .ensures) (closed .before .before .before .if1 .left) shut (c .label-of .result) (c .before .before .way .given .0 .0) i j (c .label-of .ensures)
 
 enum-told : tie.Need-enum-told
@@ -106,7 +107,7 @@ returns-4 c =
     let n = closed .close .ensures .node in
     let shut = is-closed (s .pre .0) (closed .before .before .before .if1 .left) (closed .close .ensures) in
     let i : samePoint (nodeAt (now (s .args .nodes)) k .feet) (s .args .task .aim .goal) ≡ false = rw (← n) (sym (c .before .before .before .before .before .before .before .before .before .before .before .before .same-point .ensures) ∙ c .before .before .before .before .before .before .before .before .before .before .before .if2 .left) in
-    let j : Nowhere ≡ connector (sp s) (s .args .task .r) (s .args .task .body) (pointOf (nodeAt (now (s .args .nodes)) k .feet)) = rw (← n, ← (c .before .before .before .before .before .before .before .before .before .before .point-of .ensures)) (sym (c .before .before .before .before .before .before .before .enum-told .given .1) ∙ c .before .before .before .before .before .before .before .before .before .connector .ensures) in
+    let j : Nowhere ≡ connector (sp s) (s .args .task .r) (s .args .task .body) (pointOf (nodeAt (now (s .args .nodes)) k .feet)) = rw (← n, ← (c .before .before .before .before .before .before .before .before .before .before .point-of .ensures)) (sym (c .before .before .before .before .before .before .before .enum-told .given .1) ∙ one-edge _ _ (c .before .before .before .before .before .before .before .before .before .connector .ensures)) in
     let m : c .before .before .before .before .before .before .before .before .before .before .point-of .result ≡ pointOf (nodeAt (now (s .args .nodes)) k .feet) = rw (← n) (c .before .before .before .before .before .before .before .before .before .before .point-of .ensures) in
     turned-going (s .args .task .aim) (sp s) (s .args .task .r) (s .args .task .body) (s .args .c) (now (s .args .nodes)) (now (s .args .front)) (s .pre .1 .0) k (closed .before .before .before .before .before .pick .ensures) (closed .before .before .before .if1 .left) shut (record { number = k; node = closed .close .result .node; point = c .before .before .before .before .before .before .before .before .before .before .point-of .result }) (s .pre .1 .1) i j refl n m (c .before .before .before .before .columns .ensures)
 

@@ -5,6 +5,7 @@ use mathlib.Core.List.{[]}
 use borrow.Author.Needs.{needs}
 use denote.Ref.{now}
 use Rattle.world.specs.Space.{Space, space}
+use Rattle.moves.specs.Unique.{one-edge}
 use Rattle.steps.specs.Columns.{columnIf}
 use Rattle.steps.specs.Expansion.{stepsAfter, heightsLeft, none-left, next-ahead, fewer}
 use Rattle.walk_back.specs.Laws.{Noted, noted-over, noted-all, noted-nowhere, noted-to, begun}
@@ -65,7 +66,7 @@ loop-again c =
     let s = c .before .before .before .before .before .before .before .before .before .before .before .before .before .before .before .before .before in
     let next = next-ahead (sp s) (s .args .r) (s .args .body) (s .args .from) (s .args .n) (c .before .before .before .before .before .before .before .before .before .before .before .loop .after) (s .pre .0) (c .before .before .before .before .before .before .before .before .before .before .before .before .column-centre .ensures) (c .before .before .before .before .before .before .before .before .before .next-height .ensures) _ (c .before .before .before .before .before .before .before .y .given .1) in
     rw (c .before .leads-to .ensures, c .is-level .ensures)
-    (noted-to (s .args .v) (s .args .from) (columnIf (sp s) (s .args .r) (s .args .body) (s .args .from) (s .args .n)) (s .args .looked) (c .before .before .before .before .before .before .before .before .before .before .before .loop .met) (c .before .before .before .before .before .before .before .before .before .before .before .loop .level) _ (c .before .before .before .before .before .before .before .before .before .before .before .loop .inv) (c .before .before .before .before .before .before .before .before .before .before .loop-test .taken) _ _ next _ (sym (c .before .before .before .before .before .edge .ensures) ∙ c .before .before .before .step .given .1))
+    (noted-to (s .args .v) (s .args .from) (columnIf (sp s) (s .args .r) (s .args .body) (s .args .from) (s .args .n)) (s .args .looked) (c .before .before .before .before .before .before .before .before .before .before .before .loop .met) (c .before .before .before .before .before .before .before .before .before .before .before .loop .level) _ (c .before .before .before .before .before .before .before .before .before .before .before .loop .inv) (c .before .before .before .before .before .before .before .before .before .before .loop-test .taken) _ _ next _ (sym (one-edge _ _ (c .before .before .before .before .before .edge .ensures)) ∙ c .before .before .before .step .given .1))
 
 -- ---- a turn whose edge leads nowhere
 
@@ -78,7 +79,7 @@ loop-again-2 : tie.Need-loop-again-2 Inv-loop μ-loop
 loop-again-2 c =
     let s = c .before .before .before .before .before .before .before .before .before .before .before .before .before .before in
     let next = next-ahead (sp s) (s .args .r) (s .args .body) (s .args .from) (s .args .n) (c .before .before .before .before .before .before .before .before .loop .after) (s .pre .0) (c .before .before .before .before .before .before .before .before .before .column-centre .ensures) (c .before .before .before .before .before .before .next-height .ensures) _ (c .before .before .before .before .y .given .1) in
-    noted-nowhere (s .args .v) (s .args .from) (columnIf (sp s) (s .args .r) (s .args .body) (s .args .from) (s .args .n)) (s .args .looked) (c .before .before .before .before .before .before .before .before .loop .met) (c .before .before .before .before .before .before .before .before .loop .level) _ (c .before .before .before .before .before .before .before .before .loop .inv) (c .before .before .before .before .before .before .before .loop-test .taken) _ _ next (sym (c .before .before .edge .ensures) ∙ c .enum-told2 .given .1)
+    noted-nowhere (s .args .v) (s .args .from) (columnIf (sp s) (s .args .r) (s .args .body) (s .args .from) (s .args .n)) (s .args .looked) (c .before .before .before .before .before .before .before .before .loop .met) (c .before .before .before .before .before .before .before .before .loop .level) _ (c .before .before .before .before .before .before .before .before .loop .inv) (c .before .before .before .before .before .before .before .loop-test .taken) _ _ next (sym (one-edge _ _ (c .before .before .edge .ensures)) ∙ c .enum-told2 .given .1)
 
 -- ---- the ends of the loop
 

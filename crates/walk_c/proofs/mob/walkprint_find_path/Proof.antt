@@ -1,6 +1,7 @@
 -- `walk_c::mob::walkprint_find_path` meets its contract. Assumes nothing.
 use denote.Ref.{now}
 use Rattle.outcomes.specs.Outcomes.{pathNumber}
+use Rattle.outcomes.specs.Unique.{one-path}
 use Rattle.c_answers.specs.Answers.{pathWritten}
 use Rattle.c_answers.specs.Laws.{told-and}
 use Rattle.c_records.specs.Asked.{mobIn}
@@ -9,7 +10,10 @@ use Rattle.walk_c.proofs.mob.walkprint_find_path.Tie as tie
 
 returns : tie.Need-returns
 unfolding mobIn
-returns c = told-and pathNumber pathWritten (now (c .before .before .before .before .before .before .before .before .before .before .before .before .before .before .before .before .before .before .before .before .before .before .before .before .before .before .before .before .before .before .args .answer)) (rw (c .before .before .before .before .before .before .before .before .before .before .before .before .before .before .before .before .before .mob-in .ensures) at (c .before .before .before .before .before .before .before .before .before .before .before .before .find-path .ensures)) (c .before .before .put-path .ensures)
+returns c =
+    let e = rw (c .before .before .before .before .before .before .before .before .before .before .before .before .before .before .before .before .before .mob-in .ensures) at (c .before .before .before .before .before .before .before .before .before .before .before .before .find-path .ensures) in
+    told-and pathNumber pathWritten (now (c .before .before .before .before .before .before .before .before .before .before .before .before .before .before .before .before .before .before .before .before .before .before .before .before .before .before .before .before .before .before .args .answer))
+    (one-path _ _ (e .0), e .1) (c .before .before .put-path .ensures)
 
 pub walkprint-find-path-spec : {M : Type 1} → statement M
 walkprint-find-path-spec =

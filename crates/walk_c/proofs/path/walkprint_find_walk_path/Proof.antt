@@ -2,6 +2,7 @@
 use denote.Ref.{now}
 use Rattle.outcomes.specs.declared.Answer.{Answer}
 use Rattle.outcomes.specs.Outcomes.{outcomeNumber}
+use Rattle.outcomes.specs.Unique.{one-answer}
 use Rattle.c_answers.specs.Answers.{answerWritten}
 use Rattle.c_answers.specs.Laws.{told-and}
 use Rattle.c_records.specs.Asked.{questionIn}
@@ -11,8 +12,9 @@ use Rattle.walk_c.proofs.path.walkprint_find_walk_path.Tie as tie
 returns : tie.Need-returns
 unfolding questionIn
 returns c =
+    let e = rw (c .before .before .before .before .before .before .before .before .before .before .before .before .before .before .question-in .ensures) at (c .before .before .before .before .before .before .before .before .before .before .find-walk-path .ensures) in
     told-and (λ (a : Answer). outcomeNumber (a .outcome)) answerWritten (now (c .before .before .before .before .before .before .before .before .before .before .before .before .before .before .before .before .before .before .before .before .before .before .before .before .before .before .args .answer))
-    (rw (c .before .before .before .before .before .before .before .before .before .before .before .before .before .before .question-in .ensures) at (c .before .before .before .before .before .before .before .before .before .before .find-walk-path .ensures)) (c .before .before .put-answer .ensures)
+    (one-answer _ _ (e .0), e .1) (c .before .before .put-answer .ensures)
 
 pub walkprint-find-walk-path-spec : {M : Type 1} → statement M
 walkprint-find-walk-path-spec =
