@@ -20,7 +20,7 @@ use Rattle.exploration.specs.Choose.{choose, WaitsAt, Least, Ordered}
 use Rattle.exploration.specs.Estimates.{Comparison, sooner, Before, First}
 use Rattle.exploration.specs.Laws.Budgets.{Compared, equal, parted, compare-final}
 use Rattle.exploration.specs.Laws.Choices.{chosen-least, least-chosen}
-use Rattle.exploration.specs.Laws.Endings.{found-of, found-outcome, found-route, unreachable-route, exceeded-cover, found-again}
+use Rattle.exploration.specs.Laws.Endings.{found-of, found-outcome, found-route, unreachable-route, unreachable-cover, exceeded-cover, found-again}
 use Rattle.exploration.specs.Laws.Endings.{end-of, done-ended, ended-done, done-final, enough-done}
 use Rattle.exploration.specs.Laws.Estimates.{chosen-first, first-chosen}
 use Rattle.exploration.specs.Laws.Expansions.{sound-room, sound-counted, final-sound, final-done}
@@ -40,6 +40,10 @@ module _ {P L A B : Type 0} (𝓖 : Graph P L) (𝓟 : Policy P L A B) (𝓛 : G
   -- Unreachable means that no list is a route.
   pub unreachable-has-no-route : (b : ℕ) → answer 𝓖 𝓟 b ≡ Unreachable → (t : List (P × L)) → Route 𝓖 t → ⊥
   unreachable-has-no-route b = unreachable-route 𝓖 𝓟 𝓛 𝓠 b (final 𝓖 𝓟 b) (final-sound 𝓖 𝓟 𝓛 𝓠 b)
+
+  -- And the points that it kept are all that graph steps reach: each reached point is the same as one of them.
+  pub unreachable-kept-all : (b : ℕ) → answer 𝓖 𝓟 b ≡ Unreachable → (p : P) → Reach 𝓖 p → has (λ x. 𝓖 .same x p) (points (final 𝓖 𝓟 b)) ≡ true
+  unreachable-kept-all b = unreachable-cover 𝓖 𝓟 𝓛 𝓠 b (final 𝓖 𝓟 b) (final-sound 𝓖 𝓟 𝓛 𝓠 b)
 
   -- A list K that covers every reached point and is no longer than the budget rules out BudgetExceeded.
   pub covering-budget-suffices : (b : ℕ) (K : List P) → ((p : P) → Reach 𝓖 p → has (λ x. 𝓖 .same x p) K ≡ true) → length K ≤ b → answer 𝓖 𝓟 b ≢ BudgetExceeded
