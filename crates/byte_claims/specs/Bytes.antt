@@ -13,6 +13,7 @@ use lib.Ieee.Bits.{ofBits-fits}
 use Rattle.exploration.specs.Lists.{has}
 use Rattle.exploration.specs.Graph.{Reach}
 use Rattle.world.specs.declared.Body.{Body}
+use Rattle.world.specs.declared.Point.{Point}
 use Rattle.world.specs.declared.Request.{Request}
 use Rattle.world.specs.declared.Window.{Window}
 use Rattle.world.specs.Space.{space, pointAt}
@@ -20,8 +21,6 @@ use Rattle.request.specs.Request.{validRequest}
 use Rattle.steps.specs.Graph.{graph}
 use Rattle.rooms.specs.declared.Feet.{Feet}
 use Rattle.rooms.specs.Waypoints.{samePoint}
-use Rattle.outcomes.specs.declared.Outcome.{Outcome}
-use Rattle.outcomes.specs.declared.Outcome.the-variants.{Found, Unreachable, BudgetExceeded, BadWorld, TooLarge, NoRoom}
 use Rattle.outcomes.specs.declared.Answer.{Answer}
 use Rattle.outcomes.specs.declared.Path.the-variants.{Searched, BadTable}
 use Rattle.outcomes.specs.Outcomes.{outcomeNumber}
@@ -41,7 +40,8 @@ use Rattle.print.specs.Print.{refusal, toldOf, answered, outOf, told}
 use Rattle.c_records.specs.Records.{windowIn, requestIn, bodyIn, policyIn, inWater}
 use Rattle.claims.specs.Words.{InF64, keptPoints, LowestFirst}
 use Rattle.claims.specs.Claims as claims
-use Rattle.byte_claims.specs.Requests.{point-fits, request-in-f64, mob-in-f64, Sound, scene-in-f64}
+use Rattle.byte_claims.specs.Numbers.{is-found, is-unreachable}
+use Rattle.byte_claims.specs.Requests.{point-fits, request-in-f64, mob-request-in-f64, Sound, scene-in-f64}
 
 -- ---- what is said of a call
 
@@ -64,22 +64,6 @@ module _ (w : Window) (cells perms shapes boxes : List ℕ) (r : Request) (body 
     -- "lowest estimate first, then earliest push", of a valid request.
     pub lowest-estimate-first : validRequest r body ≡ true → LowestFirst (space w cells perms shapes boxes) r body
 
-  is-found : (o : Outcome) → outcomeNumber o ≡ 0 → o ≡ Found
-  is-found Found e = refl
-  is-found Unreachable e = absurd (omega arith)
-  is-found BudgetExceeded e = absurd (omega arith)
-  is-found BadWorld e = absurd (omega arith)
-  is-found TooLarge e = absurd (omega arith)
-  is-found NoRoom e = absurd (omega arith)
-
-  is-unreachable : (o : Outcome) → outcomeNumber o ≡ 1 → o ≡ Unreachable
-  is-unreachable Found e = absurd (omega arith)
-  is-unreachable Unreachable e = refl
-  is-unreachable BudgetExceeded e = absurd (omega arith)
-  is-unreachable BadWorld e = absurd (omega arith)
-  is-unreachable TooLarge e = absurd (omega arith)
-  is-unreachable NoRoom e = absurd (omega arith)
-
   claimed : InF64 r → Claimed
   claimed f = record {
     found-reads-back = λ e. claims.found-reads-back w cells perms shapes boxes r body nodes front out f (is-found (answer .outcome) e);
@@ -90,35 +74,49 @@ module _ (w : Window) (cells perms shapes boxes : List ℕ) (r : Request) (body 
 
 -- ---- `walkprint_find_walk_path`: every argument is bytes
 
-pub through-c : (window cells perms shapes boxes request body nodes front out : List ℕ) →
-    Claimed (windowIn window) cells perms shapes boxes (requestIn request) (bodyIn body) nodes front out
-through-c window cells perms shapes boxes request body nodes front out =
-    claimed (windowIn window) cells perms shapes boxes (requestIn request) (bodyIn body) nodes front out (request-in-f64 request)
+module _ (window cells perms shapes boxes request body nodes front out : List ℕ) where
+  -- the request that its records say
+  abbrev question : Request
+  question = requestIn request
 
--- ---- `walkprint_find_path`: the jump height is an f64, by its pattern
+  question-in-f64 : InF64 question
+  question-in-f64 = request-in-f64 request
+
+  pub through-c : Claimed (windowIn window) cells perms shapes boxes question (bodyIn body) nodes front out
+  through-c = claimed (windowIn window) cells perms shapes boxes question (bodyIn body) nodes front out question-in-f64
+
+-- ---- `walkprint_find_path`: every argument is bytes but the policy, a number, and the jump height, an f64, here by its pattern
 
 module _ (bits pattern : ℕ) (flags window cells perms shapes boxes ends body nodes front out : List ℕ) where
   abbrev policy : WalkPolicy
   policy = policyIn bits (ofBits binary64 pattern)
 
+  -- the permission table that the call fills, and the two ends that its records say
   abbrev filled : List ℕ
   filled = permissionTable policy (inWater bits) flags perms
 
+  abbrev start : Point
+  start = pointAt ends 0
+
+  abbrev goal : Point
+  goal = pointAt ends 24
+
   abbrev mob : Request
-  mob = requestOf policy (pointAt ends 0) (pointAt ends 24) (bodyIn body)
+  mob = requestOf policy start goal (bodyIn body)
+
+  mob-in-f64 : InF64 mob
+  unfolding policyIn
+  mob-in-f64 = mob-request-in-f64 policy start goal (bodyIn body) (ofBits-fits binary64 pattern) (point-fits ends 0) (point-fits ends 24)
 
   pub through-c-of-a-mob : Claimed (windowIn window) cells filled shapes boxes mob (bodyIn body) nodes front out
-  unfolding policyIn
-  through-c-of-a-mob =
-      claimed (windowIn window) cells filled shapes boxes mob (bodyIn body) nodes front out
-      (mob-in-f64 policy (pointAt ends 0) (pointAt ends 24) (bodyIn body) (ofBits-fits binary64 pattern) (point-fits ends 0) (point-fits ends 24))
+  through-c-of-a-mob = claimed (windowIn window) cells filled shapes boxes mob (bodyIn body) nodes front out mob-in-f64
 
   -- in that call's own words: the search with the filled table finds, and the output that the call leaves reads back
   pub mob-found-reads-back : (a : Answer) →
-      path policy (inWater bits) flags (windowIn window) cells perms shapes boxes (pointAt ends 0) (pointAt ends 24) (bodyIn body) (length nodes) (length front) (length out) ≡ Searched a →
+      path policy (inWater bits) flags (windowIn window) cells perms shapes boxes start goal (bodyIn body) (length nodes) (length front) (length out) ≡ Searched a →
       outcomeNumber (a .outcome) ≡ 0 →
       RouteList (space (windowIn window) cells filled shapes boxes) mob (bodyIn body)
-      (take (40 * a .count) (outAfterPath policy (inWater bits) flags (windowIn window) cells perms shapes boxes (pointAt ends 0) (pointAt ends 24) (bodyIn body) nodes front out))
+      (take (40 * a .count) (outAfterPath policy (inWater bits) flags (windowIn window) cells perms shapes boxes start goal (bodyIn body) nodes front out))
   unfolding path outAfterPath unlessBad
   mob-found-reads-back a e z = go (eqb (length flags) (length perms)) e
     where
@@ -133,18 +131,18 @@ module _ (bits pattern : ℕ) (flags window cells perms shapes boxes ends body n
 -- ---- walkprint: the records of a scene, read one by one into four tables, and the rooms of its search
 
 module _ (t : Tables) (ss : List (List ℕ)) (nodes front out : List ℕ) where
-  -- the reader's answer, the tables that it leaves, what is told, and the output that is left
+  -- the reader's answer and the tables that it leaves; what is told of an answer, and the output that is left
   abbrev read : scenes.Answer Scene
   read = readAll t ss .answer
 
   abbrev left : Tables
   left = readAll t ss .tables
 
-  abbrev tells : Told
-  tells = told (left .cells) (left .perms) (left .shapes) (left .boxes) read nodes front out
+  abbrev tells : scenes.Answer Scene → Told
+  tells a = told (left .cells) (left .perms) (left .shapes) (left .boxes) a nodes front out
 
-  abbrev output : List ℕ
-  output = outOf (left .cells) (left .perms) (left .shapes) (left .boxes) read nodes front out
+  abbrev output : scenes.Answer Scene → List ℕ
+  output a = outOf (left .cells) (left .perms) (left .shapes) (left .boxes) a nodes front out
 
   -- a scene's tables are of exactly the sizes in use
   abbrev cellsOf : Scene → List ℕ
@@ -163,15 +161,14 @@ module _ (t : Tables) (ss : List (List ℕ)) (nodes front out : List ℕ) where
   of-a-scene s e = claimed (s .window) (cellsOf s) (permsOf s) (shapesOf s) (boxesOf s) (s .request) (s .body) nodes front out (rw e at (scene-in-f64 t ss))
 
   -- in its own words: where it tells 0, a scene was read, and the first 40 × waypoints bytes of the output are a route in it
-  pub told-found-reads-back : tells .number ≡ 0 →
+  pub told-found-reads-back : tells read .number ≡ 0 →
       (s : Scene) × (read ≡ given s)
-      × RouteList (space (s .window) (cellsOf s) (permsOf s) (shapesOf s) (boxesOf s)) (s .request) (s .body) (take (40 * tells .waypoints) output)
+      × RouteList (space (s .window) (cellsOf s) (permsOf s) (shapesOf s) (boxesOf s)) (s .request) (s .body) (take (40 * tells read .waypoints) (output read))
   unfolding told toldOf outOf answered refusal
   told-found-reads-back z = go read (scene-in-f64 t ss) z
     where
-      go : (a : scenes.Answer Scene) → Sound a → told (left .cells) (left .perms) (left .shapes) (left .boxes) a nodes front out .number ≡ 0 →
+      go : (a : scenes.Answer Scene) → Sound a → tells a .number ≡ 0 →
           (s : Scene) × (a ≡ given s)
-          × RouteList (space (s .window) (cellsOf s) (permsOf s) (shapesOf s) (boxesOf s)) (s .request) (s .body)
-          (take (40 * told (left .cells) (left .perms) (left .shapes) (left .boxes) a nodes front out .waypoints) (outOf (left .cells) (left .perms) (left .shapes) (left .boxes) a nodes front out))
+          × RouteList (space (s .window) (cellsOf s) (permsOf s) (shapesOf s) (boxesOf s)) (s .request) (s .body) (take (40 * tells a .waypoints) (output a))
       go (given s) f z = (s, refl, claimed (s .window) (cellsOf s) (permsOf s) (shapesOf s) (boxesOf s) (s .request) (s .body) nodes front out f .found-reads-back z)
       go (refused n k) f z = absurd (f z)

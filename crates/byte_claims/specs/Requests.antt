@@ -43,8 +43,13 @@ unfolding pointAt
 point-fits s at = record { x = field-fits s _; y = field-fits s _; z = field-fits s _ }
 
 -- a request by its two ends and its jump
-by-ends : (r : Request) → PointFits (r .start) → PointFits (r .goal) → T (fits binary64 (r .«jump_height»)) → InF64 r
+pub by-ends : (r : Request) → PointFits (r .start) → PointFits (r .goal) → T (fits binary64 (r .«jump_height»)) → InF64 r
 by-ends r s g j = record { start-x = s .x; start-y = s .y; start-z = s .z; goal-x = g .x; goal-y = g .y; goal-z = g .z; jump = j }
+
+-- of two, whichever is taken
+pub either : {A : Type 0} (P : A → Type 0) (b : Bool) (x y : A) → P x → P y → P (cond b x y)
+either P true x y f g = f
+either P false x y f g = g
 
 -- ---- a C caller's
 
@@ -54,21 +59,17 @@ request-in-f64 s = by-ends _ (point-fits s 0) (point-fits s 24) (field-fits s 64
 
 -- ---- a mob's, between two points
 
-pub mob-in-f64 : (p : WalkPolicy) (start goal : Point) (body : Body) → T (fits binary64 (p .«jump_height»)) → PointFits start → PointFits goal → InF64 (requestOf p start goal body)
+pub mob-request-in-f64 : (p : WalkPolicy) (start goal : Point) (body : Body) → T (fits binary64 (p .«jump_height»)) → PointFits start → PointFits goal → InF64 (requestOf p start goal body)
 unfolding requestOf
-mob-in-f64 p start goal body j s g = by-ends _ s g (cond-fits binary64 (p .«can_jump») _ _ j (ofInt-fits binary64 (pos 0)))
+mob-request-in-f64 p start goal body j s g = by-ends _ s g (cond-fits binary64 (p .«can_jump») _ _ j (ofInt-fits binary64 (pos 0)))
 
 -- ---- a scene's, record by record
-
-either : (b : Bool) {q r : Request} → InF64 q → InF64 r → InF64 (cond b q r)
-either true f g = f
-either false f g = g
 
 after-in-f64 : (k : ℕ) (r : Request) (s : List ℕ) → InF64 r → InF64 (requestAfter k r s)
 unfolding requestAfter
 after-in-f64 k r s f =
-    either (eqb k 1) (by-ends _ (point-fits s 8) (point-fits s 32) (f .jump))
-    (either (eqb k 2)
+    either InF64 (eqb k 1) _ _ (by-ends _ (point-fits s 8) (point-fits s 32) (f .jump))
+    (either InF64 (eqb k 2) _ _
     (record { start-x = f .start-x; start-y = f .start-y; start-z = f .start-z; goal-x = f .goal-x; goal-y = f .goal-y; goal-z = f .goal-z; jump = field-fits s 16 })
     f)
 

@@ -113,7 +113,12 @@ module _ (w : Window) (cells perms shapes boxes : List ℕ) (r : Request) (body 
       answerWith b nodes′ front′ out′ .outcome ≢ BudgetExceeded
   retained-is-enough e b nodes′ front′ out′ = calls.retained-enough w cells perms shapes boxes r body nodes front out b nodes′ front′ out′ e
 
-  -- And where there is a route, and the budget is for every such point and draws no refusal, Found is answered.
+  -- And it is the least one: every smaller budget that draws no refusal is exceeded.
+  pub fewer-are-exceeded : answer .outcome ≡ Unreachable → (b : ℕ) (nodes′ front′ out′ : List ℕ) → b < answer .retained →
+      outcomeNumber (answerWith b nodes′ front′ out′ .outcome) < 3 → answerWith b nodes′ front′ out′ .outcome ≡ BudgetExceeded
+  fewer-are-exceeded e b nodes′ front′ out′ = calls.fewer-exceeded w cells perms shapes boxes r body nodes front out b nodes′ front′ out′ e
+
+  -- Where there is a route, and the budget is for every such point and draws no refusal, Found is answered.
   pub a-route-is-found : (t : List (Feet × Label)) → IsRoute sp r body t →
       (K : List Feet) → ((p : Feet) → Reach (graph sp r body) p → has (λ x. samePoint x p) K ≡ true) → length K ≤ r .«node_budget» →
       outcomeNumber (answer .outcome) < 3 → answer .outcome ≡ Found

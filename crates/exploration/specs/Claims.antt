@@ -64,13 +64,16 @@ module _ {P L A B : Type 0} (𝓖 : Graph P L) (𝓟 : Policy P L A B) (𝓛 : G
       (final-sound 𝓖 𝓟 𝓛 𝓠 b) (final-sound 𝓖 𝓟 𝓛 𝓠 c) (final-done 𝓖 𝓟 𝓛 𝓠 c) t (found-of 𝓖 𝓟 (final 𝓖 𝓟 b) t e) in
       (u .0, found-outcome 𝓖 𝓟 (final 𝓖 𝓟 c) (u .0) (u .1))
 
-  -- Unreachable stays Unreachable under a larger budget.
-  pub unreachable-stays-unreachable : (b c : ℕ) → b ≤ c → answer 𝓖 𝓟 b ≡ Unreachable → answer 𝓖 𝓟 c ≡ Unreachable
-  unreachable-stays-unreachable b c h e = go (compare-final 𝓖 𝓟 𝓛 𝓠 b c h)
+  -- Unreachable stays Unreachable under a larger budget: the search ends in the same state.
+  pub unreachable-ends-alike : (b c : ℕ) → b ≤ c → answer 𝓖 𝓟 b ≡ Unreachable → final 𝓖 𝓟 b ≡ final 𝓖 𝓟 c
+  unreachable-ends-alike b c h e = go (compare-final 𝓖 𝓟 𝓛 𝓠 b c h)
     where
-      go : Compared 𝓖 𝓟 b (final 𝓖 𝓟 b) (final 𝓖 𝓟 c) → answer 𝓖 𝓟 c ≡ Unreachable
-      go (equal q) = rw (← q) e
+      go : Compared 𝓖 𝓟 b (final 𝓖 𝓟 b) (final 𝓖 𝓟 c) → final 𝓖 𝓟 b ≡ final 𝓖 𝓟 c
+      go (equal q) = q
       go (parted o) = absurd (omega (arith, o .lost, end-of 𝓖 𝓟 (final 𝓖 𝓟 b) e .2))
+
+  pub unreachable-stays-unreachable : (b c : ℕ) → b ≤ c → answer 𝓖 𝓟 b ≡ Unreachable → answer 𝓖 𝓟 c ≡ Unreachable
+  unreachable-stays-unreachable b c h e = rw (← unreachable-ends-alike b c h e) e
 
   -- A search ends after at most budget closings, and its count of closings is the number of closed nodes.
   pub ends-within-budget : (b : ℕ) →

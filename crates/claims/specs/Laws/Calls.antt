@@ -94,6 +94,10 @@ module _ (w : Window) (cells perms shapes boxes : List ℕ) where
     begun : answer .outcome ≡ Found → Began bad (validRequest r body) (tooLarge r body) (endsGood sp r body) nought tests × (came ≡ Found)
     begun e = on-found came bad (validRequest r body) (tooLarge r body) full (endsGood sp r body) nought (sym by-order ∙ e)
 
+    -- and of every search that began
+    began : without ≡ none → Began bad (validRequest r body) (tooLarge r body) (endsGood sp r body) nought tests
+    began n = on-found Found bad (validRequest r body) (tooLarge r body) full (endsGood sp r body) nought (ap (told Found) (sym by-tests ∙ n)) .0
+
     pub route-of : answer .outcome ≡ Found → IsRoute sp r body list
     route-of e =
         let b = begun e in let p = ends-parts sp r body (b .0 .ends) in
@@ -269,6 +273,29 @@ module _ (w : Window) (cells perms shapes boxes : List ℕ) where
         let s = of-search r body nodes front out e (o .0) (o .1) in
         let K : List Feet = points (ended sp r body) in
         not-exceeded (withBudget b r) body nodes′ front′ out′ K (search.covers-still sp r body b K (search.kept-all sp r body (s .0))) (omega (arith, points-many r body nodes front out (s .1))) x
+
+    -- and fewer are not
+    pub fewer-exceeded : answer r body nodes front out .outcome ≡ Unreachable → b < answer r body nodes front out .retained → outcomeNumber (more .outcome) < 3 → more .outcome ≡ BudgetExceeded
+    fewer-exceeded e h n = go (more .outcome) refl
+      where
+        s : (came r body nodes front out ≡ Unreachable) × (without r body nodes front out ≡ none)
+        s = searched r body nodes front out e (λ z. omega arith)
+
+        o : Began bad (validRequest r body) (tooLarge r body) (endsGood sp r body) (nought r body nodes front out) (tests r body nodes front out)
+        o = began r body nodes front out (s .1)
+
+        below : b ≤ r .«node_budget»
+        below = omega (arith, retained-within r body nodes front out)
+
+        go : (x : Outcome) → more .outcome ≡ x → more .outcome ≡ BudgetExceeded
+        go Found i = absurd (let z = search.found-again sp (withBudget b r) body (r .«node_budget») below (begun (withBudget b r) body nodes′ front′ out′ i .1) in let q : _≡_ {A = ℕ} 0 1 = cc (z, s .0) in omega arith)
+        go Unreachable i =
+            let u = of-search (withBudget b r) body nodes′ front′ out′ i (valid-budget b r body ∙ o .valid) (ends-budget b sp r body ∙ o .ends) in
+            absurd (omega (arith, search.kept-within sp r body b below (u .0), retained-is r body nodes front out (s .1)))
+        go BudgetExceeded i = i
+        go BadWorld i = let z : outcomeNumber (more .outcome) ≡ 3 = ap outcomeNumber i in absurd (omega arith)
+        go TooLarge i = let z : outcomeNumber (more .outcome) ≡ 4 = ap outcomeNumber i in absurd (omega arith)
+        go NoRoom i = let z : outcomeNumber (more .outcome) ≡ 5 = ap outcomeNumber i in absurd (omega arith)
 
     -- a larger one
     module _ (above : r .«node_budget» ≤ b) where

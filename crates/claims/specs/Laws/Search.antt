@@ -132,16 +132,22 @@ module _ (sp : Space) (r : Request) (body : Body) where
   pub covers-still : (b : ℕ) (K : List Feet) → Covers K → (p : Feet) → Reach (graph sp (withBudget b r) body) p → has (λ x. samePoint x p) K ≡ true
   covers-still b K c p h = c p (rw (graph-budget b sp r body) at h)
 
-  module _ (b : ℕ) (above : r .«node_budget» ≤ b) where
-    larger : endOf sp (withBudget b r) body ≡ answer 𝓖 𝓟 b
-    unfolding endOf ended
-    larger = ap (λ (𝓗 : Graph Feet Label). answer 𝓗 𝓟 b) (graph-budget b sp r body)
+  other : (b : ℕ) → endOf sp (withBudget b r) body ≡ answer 𝓖 𝓟 b
+  unfolding endOf ended
+  other b = ap (λ (𝓗 : Graph Feet Label). answer 𝓗 𝓟 b) (graph-budget b sp r body)
 
+  -- a smaller one that is enough, is enough for all that this one keeps
+  pub kept-within : (b : ℕ) → b ≤ r .«node_budget» → toldBy (endOf sp (withBudget b r) body) ≡ Unreachable → length (ended sp r body .nodes) ≤ b
+  kept-within b h e =
+      let alike = claims.unreachable-ends-alike 𝓖 𝓟 𝓛 𝓠 b budget h (sym (other b) ∙ told-unreachable (endOf sp (withBudget b r) body) e) in
+      rw (is-final, ← alike) (sound-room 𝓖 𝓟 (final-sound 𝓖 𝓟 𝓛 𝓠 b))
+
+  module _ (b : ℕ) (above : r .«node_budget» ≤ b) where
     pub found-again : toldBy (endOf sp r body) ≡ Found → toldBy (endOf sp (withBudget b r) body) ≡ Found
     found-again e =
         let u = claims.found-stays-found 𝓖 𝓟 𝓛 𝓠 budget b above (listIn (endOf sp r body)) (sym is-answer ∙ told-found (endOf sp r body) e) in
-        ap toldBy (larger ∙ u .1)
+        ap toldBy (other b ∙ u .1)
 
     pub unreachable-again : toldBy (endOf sp r body) ≡ Unreachable → toldBy (endOf sp (withBudget b r) body) ≡ Unreachable
     unreachable-again e =
-        ap toldBy (larger ∙ claims.unreachable-stays-unreachable 𝓖 𝓟 𝓛 𝓠 budget b above (sym is-answer ∙ told-unreachable (endOf sp r body) e))
+        ap toldBy (other b ∙ claims.unreachable-stays-unreachable 𝓖 𝓟 𝓛 𝓠 budget b above (sym is-answer ∙ told-unreachable (endOf sp r body) e))
