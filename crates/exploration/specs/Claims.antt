@@ -20,7 +20,7 @@ use Rattle.exploration.specs.Choose.{choose, WaitsAt, Least, Ordered}
 use Rattle.exploration.specs.Estimates.{Comparison, sooner, Before, First}
 use Rattle.exploration.specs.Laws.Budgets.{Compared, equal, parted, compare-final}
 use Rattle.exploration.specs.Laws.Choices.{chosen-least, least-chosen}
-use Rattle.exploration.specs.Laws.Endings.{found-of, found-outcome, found-route, unreachable-route, exceeded-cover, found-again}
+use Rattle.exploration.specs.Laws.Endings.{found-of, found-outcome, found-route, unreachable-route, unreachable-cover, exceeded-cover, found-again}
 use Rattle.exploration.specs.Laws.Endings.{end-of, done-ended, ended-done, done-final, enough-done}
 use Rattle.exploration.specs.Laws.Estimates.{chosen-first, first-chosen}
 use Rattle.exploration.specs.Laws.Expansions.{sound-room, sound-counted, final-sound, final-done}
@@ -41,6 +41,10 @@ module _ {P L A B : Type 0} (𝓖 : Graph P L) (𝓟 : Policy P L A B) (𝓛 : G
   pub unreachable-has-no-route : (b : ℕ) → answer 𝓖 𝓟 b ≡ Unreachable → (t : List (P × L)) → Route 𝓖 t → ⊥
   unreachable-has-no-route b = unreachable-route 𝓖 𝓟 𝓛 𝓠 b (final 𝓖 𝓟 b) (final-sound 𝓖 𝓟 𝓛 𝓠 b)
 
+  -- And the points that it kept are all that graph steps reach: each reached point is the same as one of them.
+  pub unreachable-kept-all : (b : ℕ) → answer 𝓖 𝓟 b ≡ Unreachable → (p : P) → Reach 𝓖 p → has (λ x. 𝓖 .same x p) (points (final 𝓖 𝓟 b)) ≡ true
+  unreachable-kept-all b = unreachable-cover 𝓖 𝓟 𝓛 𝓠 b (final 𝓖 𝓟 b) (final-sound 𝓖 𝓟 𝓛 𝓠 b)
+
   -- A list K that covers every reached point and is no longer than the budget rules out BudgetExceeded.
   pub covering-budget-suffices : (b : ℕ) (K : List P) → ((p : P) → Reach 𝓖 p → has (λ x. 𝓖 .same x p) K ≡ true) → length K ≤ b → answer 𝓖 𝓟 b ≢ BudgetExceeded
   covering-budget-suffices b K c h e = omega (arith, exceeded-cover 𝓖 𝓟 𝓛 𝓠 b (final 𝓖 𝓟 b) (final-sound 𝓖 𝓟 𝓛 𝓠 b) e K c)
@@ -60,13 +64,16 @@ module _ {P L A B : Type 0} (𝓖 : Graph P L) (𝓟 : Policy P L A B) (𝓛 : G
       (final-sound 𝓖 𝓟 𝓛 𝓠 b) (final-sound 𝓖 𝓟 𝓛 𝓠 c) (final-done 𝓖 𝓟 𝓛 𝓠 c) t (found-of 𝓖 𝓟 (final 𝓖 𝓟 b) t e) in
       (u .0, found-outcome 𝓖 𝓟 (final 𝓖 𝓟 c) (u .0) (u .1))
 
-  -- Unreachable stays Unreachable under a larger budget.
-  pub unreachable-stays-unreachable : (b c : ℕ) → b ≤ c → answer 𝓖 𝓟 b ≡ Unreachable → answer 𝓖 𝓟 c ≡ Unreachable
-  unreachable-stays-unreachable b c h e = go (compare-final 𝓖 𝓟 𝓛 𝓠 b c h)
+  -- Unreachable stays Unreachable under a larger budget: the search ends in the same state.
+  pub unreachable-ends-alike : (b c : ℕ) → b ≤ c → answer 𝓖 𝓟 b ≡ Unreachable → final 𝓖 𝓟 b ≡ final 𝓖 𝓟 c
+  unreachable-ends-alike b c h e = go (compare-final 𝓖 𝓟 𝓛 𝓠 b c h)
     where
-      go : Compared 𝓖 𝓟 b (final 𝓖 𝓟 b) (final 𝓖 𝓟 c) → answer 𝓖 𝓟 c ≡ Unreachable
-      go (equal q) = rw (← q) e
+      go : Compared 𝓖 𝓟 b (final 𝓖 𝓟 b) (final 𝓖 𝓟 c) → final 𝓖 𝓟 b ≡ final 𝓖 𝓟 c
+      go (equal q) = q
       go (parted o) = absurd (omega (arith, o .lost, end-of 𝓖 𝓟 (final 𝓖 𝓟 b) e .2))
+
+  pub unreachable-stays-unreachable : (b c : ℕ) → b ≤ c → answer 𝓖 𝓟 b ≡ Unreachable → answer 𝓖 𝓟 c ≡ Unreachable
+  unreachable-stays-unreachable b c h e = rw (← unreachable-ends-alike b c h e) e
 
   -- A search ends after at most budget closings, and its count of closings is the number of closed nodes.
   pub ends-within-budget : (b : ℕ) →

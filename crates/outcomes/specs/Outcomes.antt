@@ -29,7 +29,7 @@ abbrev pub pathNumber : Path → ℕ
 pathNumber (Searched a) = outcomeNumber (a .outcome)
 pathNumber BadTable = 8
 
--- the theory's outcome in 01's words; no search ends `Searching` (exploration's Claims, `ends-within-budget`)
+-- the theory's outcome in 01's words; no search ends `Searching` (claims, `a-search-ends`), which is told as 2 for want of another
 abbrev pub toldBy : explore.Outcome (Feet × Label) → Outcome
 toldBy (explore.Found t) = Found
 toldBy explore.Unreachable = Unreachable

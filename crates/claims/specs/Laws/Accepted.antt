@@ -49,10 +49,12 @@ module _ (w : Window) (cells perms shapes boxes : List ℕ) (r : Request) (body 
         ∙ ap (take (40 * length list)) (calls.out-of w cells perms shapes boxes r body nodes front out e)
         ∙ list-front list (drop (40 * length list) out)
 
+    pub read-back : InF64 r → answer .outcome ≡ Found → RouteList sp r body (take (40 * answer .count) after)
+    read-back f e = rw (front-is e) (route-list f list (calls.route-of w cells perms shapes boxes r body nodes front out e))
+
     pub accepted : InF64 r → answer .outcome ≡ Found → walked w cells perms shapes boxes r body (take (40 * answer .count) after) ≡ Yes
     accepted f e =
-        ap (walked w cells perms shapes boxes r body) (front-is e)
-        ∙ a-route-is-yes w cells perms shapes boxes r body (listBytes list)
+        a-route-is-yes w cells perms shapes boxes r body (take (40 * answer .count) after)
         (calls.good-world w cells perms shapes boxes r body nodes front out e)
         (calls.small-sizes w cells perms shapes boxes r body nodes front out e)
-        (route-list f list (calls.route-of w cells perms shapes boxes r body nodes front out e))
+        (read-back f e)

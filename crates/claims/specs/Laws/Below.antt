@@ -71,7 +71,7 @@ pub record Words64 (w : Feet × Label) : Type 0 where
 pub fills : (w : Feet × Label) → Words64 w → Fill waypointLayout (waypointWords (w .0) (w .1))
 fills w h = (h .point .x, (h .point .y, (h .point .z, (h .label .lift, (h .label .movement, tt)))))
 
-feet-below : (p : Point) → F64 (p .x) → F64 (p .y) → F64 (p .z) → Point64 (feetOf p)
+pub feet-below : (p : Point) → F64 (p .x) → F64 (p .y) → F64 (p .z) → Point64 (feetOf p)
 unfolding feetOf
 feet-below p x y z = record { x = bits-below (p .x) x; y = bits-below (p .y) y; z = bits-below (p .z) z }
 

@@ -2,15 +2,17 @@
 use Prim.Native.Nat.{ℕ, _+_, _*_, _≤_, _<_}
 use native.Mathlib.Omega.{arith}
 use mathlib.Core.Path.{_≡_, refl, sym, ap, _∙_}
-use mathlib.Core.Bool.{Bool, true, false}
+use mathlib.Core.Bool.{Bool, true, false, cond}
 use mathlib.Core.Option.{Option, none, some}
-use mathlib.Core.List.{List, _++_}
-use mathlib.Core.Logic.{_≢_, ⊎-elim}
+use mathlib.Core.List.{List, _++_, map}
+use mathlib.Core.Logic.{_⊎_, inl, inr, _≢_, ⊎-elim}
 use lib.Dec.{eqb}
-use lib.ListN.{length, drop}
+use lib.ListN.{length, drop, length-map}
 use borrow.Author.Tests.{eqb-true, eqb-false, ne-eqb}
 use Rattle.exploration.specs.Lists.{has, count}
 use Rattle.exploration.specs.Graph.{Reach}
+use Rattle.exploration.specs.Explore as explore
+use Rattle.exploration.specs.Explore.{points}
 use Rattle.exploration.specs.Laws.Lists.{or-false}
 use Rattle.world.specs.declared.Body.{Body}
 use Rattle.world.specs.declared.Request.{Request}
@@ -20,22 +22,28 @@ use Rattle.tables.specs.BadWorld.{badWorld}
 use Rattle.request.specs.Request.{validRequest, sizesTooLarge, tooLarge}
 use Rattle.ends.specs.Ends.{endsGood}
 use Rattle.ends.specs.Laws.{ends-parts, ends-all}
+use Rattle.words.specs.Words.{feetOf}
 use Rattle.steps.specs.Graph.{graph}
 use Rattle.rooms.specs.declared.Feet.{Feet}
 use Rattle.rooms.specs.declared.Label.{Label}
 use Rattle.rooms.specs.Lists.{listBytes}
+use Rattle.rooms.specs.Rooms.{nodeRoom}
 use Rattle.rooms.specs.Waypoints.{samePoint}
 use Rattle.outcomes.specs.declared.Outcome.{Outcome}
 use Rattle.outcomes.specs.declared.Outcome.the-variants.{Found, Unreachable, BudgetExceeded, BadWorld, TooLarge, NoRoom}
 use Rattle.outcomes.specs.declared.Answer.{Answer}
 use Rattle.outcomes.specs.Outcomes.{outcomeNumber, toldBy, listIn}
 use Rattle.refusals.specs.Refusals.{noRoom, withoutSearch}
-use Rattle.search.specs.FindWalkPath.{ended, endOf, answerBy, found, outAfter}
+use Rattle.search.specs.FindWalkPath.{ended, endOf, answerBy, found, nodesAfter, outAfter}
 use Rattle.walk_back.specs.WalkBack.{IsRoute}
-use Rattle.claims.specs.Words.{withBudget}
+use Rattle.claims.specs.Words.{withBudget, InF64, keptPoints, closedWords}
 use Rattle.claims.specs.Laws.Budget.{valid-budget, ends-budget}
 use Rattle.claims.specs.Laws.Order.{order, told, Began, on-found, on-unreachable, on-exceeded, found-stays, unreachable-stays}
 use Rattle.claims.specs.Laws.Search as search
+use Rattle.claims.specs.Laws.Fits.{space-tops}
+use Rattle.claims.specs.Laws.ReadBack.{room-back, point-held}
+use Rattle.claims.specs.Laws.Marks.{words-counted, marks-held}
+use Rattle.claims.specs.Laws.Points.{points-small}
 
 -- ---- a call
 
@@ -86,6 +94,10 @@ module _ (w : Window) (cells perms shapes boxes : List ℕ) where
     begun : answer .outcome ≡ Found → Began bad (validRequest r body) (tooLarge r body) (endsGood sp r body) nought tests × (came ≡ Found)
     begun e = on-found came bad (validRequest r body) (tooLarge r body) full (endsGood sp r body) nought (sym by-order ∙ e)
 
+    -- and of every search that began
+    began : without ≡ none → Began bad (validRequest r body) (tooLarge r body) (endsGood sp r body) nought tests
+    began n = on-found Found bad (validRequest r body) (tooLarge r body) full (endsGood sp r body) nought (ap (told Found) (sym by-tests ∙ n)) .0
+
     pub route-of : answer .outcome ≡ Found → IsRoute sp r body list
     route-of e =
         let b = begun e in let p = ends-parts sp r body (b .0 .ends) in
@@ -108,11 +120,54 @@ module _ (w : Window) (cells perms shapes boxes : List ℕ) where
 
     -- ---- Unreachable
 
-    pub none-is-route : answer .outcome ≡ Unreachable → (t : List (Feet × Label)) → IsRoute sp r body t → ⊥
-    none-is-route e t l = search.unreachable-route sp r body (on-unreachable came bad (tooLarge r body) full nought said) t (l .way)
+    of-search : answer .outcome ≡ Unreachable → validRequest r body ≡ true → endsGood sp r body ≡ true → (came ≡ Unreachable) × (without ≡ none)
+    of-search e v g =
+        let s = on-unreachable came bad (tooLarge r body) full nought (rw (v, g) at (sym by-order ∙ e)) in
+        let t : tests ≡ none = rw (v, g) (s .1) in
+        (s .0, by-tests ∙ t)
+
+    searched : answer .outcome ≡ Unreachable → answer .retained ≢ 0 → (came ≡ Unreachable) × (without ≡ none)
+    unfolding found
+    searched e z = go without refl e z
       where
-        said : told came (order bad true (tooLarge r body) full true nought) ≡ Unreachable
-        said = let v = l .valid in let g = ends-all sp r body (l .goal-in-range) (l .start-standable) (l .goal-standable) in rw (v, g) at (sym by-order ∙ e)
+        go : (o : Option Outcome) → without ≡ o → answerBy w cells perms shapes boxes r body o .outcome ≡ Unreachable → answerBy w cells perms shapes boxes r body o .retained ≢ 0 →
+            (came ≡ Unreachable) × (without ≡ none)
+        go (some o) i e z = absurd (z refl)
+        go none i e z = (e, i)
+
+    pub none-is-route : answer .outcome ≡ Unreachable → (t : List (Feet × Label)) → IsRoute sp r body t → ⊥
+    none-is-route e t l = search.unreachable-route sp r body (of-search e (l .valid) (ends-all sp r body (l .goal-in-range) (l .start-standable) (l .goal-standable)) .0) t (l .way)
+
+    -- the points of the nodes that it kept, as the node room that it leaves has them
+    retained-is : without ≡ none → answer .retained ≡ length (ended sp r body .nodes)
+    unfolding found
+    retained-is n = rw n
+
+    room-is : without ≡ none → nodesAfter w cells perms shapes boxes r body nodes front out ≡ nodeRoom nodes (ended sp r body .nodes)
+    unfolding nodesAfter
+    room-is n = rw n
+
+    points-are : InF64 r → without ≡ none → keptPoints (answer .retained) (nodesAfter w cells perms shapes boxes r body nodes front out) ≡ points (ended sp r body)
+    unfolding ended
+    points-are f n =
+        let small = points-small sp (space-tops w cells perms shapes boxes) r body f (r .«node_budget») (r .«node_budget») in
+        rw (retained-is n, room-is n) (room-back (λ x. x .feet) (λ x. x .point) (ended sp r body .nodes) _ (λ k x i. point-held x (small k x i)))
+
+    pub points-cover : InF64 r → answer .outcome ≡ Unreachable → answer .retained ≢ 0 →
+        (p : Feet) → Reach (graph sp r body) p → has (λ x. samePoint x p) (keptPoints (answer .retained) (nodesAfter w cells perms shapes boxes r body nodes front out)) ≡ true
+    points-cover f e z p h = let s = searched e z in rw (points-are f (s .1)) (search.kept-all sp r body (s .0) p h)
+
+    points-many : without ≡ none → length (points (ended sp r body)) ≡ answer .retained
+    points-many n = length-map (ended sp r body .nodes) (λ x. x .point) ∙ sym (retained-is n)
+
+    -- where none is kept no search began
+    pub none-began : answer .outcome ≡ Unreachable → answer .retained ≡ 0 → (validRequest r body ≡ false) ⊎ (endsGood sp r body ≡ false)
+    none-began e z = go (validRequest r body) refl (endsGood sp r body) refl
+      where
+        go : (v : Bool) → validRequest r body ≡ v → (g : Bool) → endsGood sp r body ≡ g → (validRequest r body ≡ false) ⊎ (endsGood sp r body ≡ false)
+        go false p g q = inl p
+        go true p false q = inr q
+        go true p true q = let s = of-search e p q in absurd (search.covers-some sp r body (points (ended sp r body)) (search.kept-all sp r body (s .0)) (points-many (s .1) ∙ z))
 
     -- ---- BudgetExceeded
 
@@ -120,7 +175,7 @@ module _ (w : Window) (cells perms shapes boxes : List ℕ) where
         answer .outcome ≢ BudgetExceeded
     not-exceeded K c h e =
         ⊎-elim (λ z. search.covers-some sp r body K c (omega (arith, eqb-true (r .«node_budget») 0 z))) (λ x. search.covered sp r body K c h x)
-        (on-exceeded came bad (validRequest r body) (tooLarge r body) full (endsGood sp r body) nought (sym by-order ∙ e))
+        (on-exceeded came bad (validRequest r body) (tooLarge r body) full (endsGood sp r body) nought (sym by-order ∙ e) .2)
 
     -- so Found is what is left, where nothing is refused
     pub found-of : (t : List (Feet × Label)) → IsRoute sp r body t →
@@ -162,13 +217,39 @@ module _ (w : Window) (cells perms shapes boxes : List ℕ) where
         go (some o) = omega arith
         go none = omega (arith, search.list-within sp r body)
 
-    pub closed-counted : without ≡ none → answer .closed ≡ count (λ n. n .closed) (ended sp r body .nodes)
+    closed-counted : without ≡ none → answer .closed ≡ count (λ n. n .closed) (ended sp r body .nodes)
     unfolding found
     closed-counted n = rw n (search.closings-counted sp r body)
 
-  -- ---- a call with a larger budget, and other rooms
+    words-are : without ≡ none → closedWords (answer .retained) (nodesAfter w cells perms shapes boxes r body nodes front out) ≡ map (λ x. cond (x .closed) 1 0) (ended sp r body .nodes)
+    unfolding ended
+    words-are n =
+        rw (retained-is n, room-is n)
+        (room-back (λ x. x .closed) (λ x. cond (x .closed) 1 0) (ended sp r body .nodes) _ (marks-held (graph sp r body) (feetOf (r .goal)) (r .«node_budget») (r .«node_budget»)))
 
-  module _ (r : Request) (body : Body) (nodes front out : List ℕ) (b : ℕ) (above : r .«node_budget» ≤ b) (nodes′ front′ out′ : List ℕ) where
+    pub closed-in-room : answer .closed ≡ count (λ c. eqb c 1) (closedWords (answer .retained) (nodesAfter w cells perms shapes boxes r body nodes front out))
+    unfolding found
+    closed-in-room = go without refl
+      where
+        go : (o : Option Outcome) → without ≡ o → answer .closed ≡ count (λ c. eqb c 1) (closedWords (answer .retained) (nodesAfter w cells perms shapes boxes r body nodes front out))
+        go (some o) i = rw i
+        go none i = closed-counted i ∙ sym (words-counted (ended sp r body .nodes)) ∙ ap (count (λ c. eqb c 1)) (sym (words-are i))
+
+    -- ---- a search that began
+
+    pub ends-below-three : without ≡ none → outcomeNumber (answer .outcome) < 3
+    unfolding found
+    ends-below-three n = rw n (go (endOf sp r body))
+      where
+        go : (x : explore.Outcome (Feet × Label)) → outcomeNumber (toldBy x) < 3
+        go (explore.Found t) = omega arith
+        go explore.Unreachable = omega arith
+        go explore.BudgetExceeded = omega arith
+        go explore.Searching = omega arith
+
+  -- ---- a call with another budget, and other rooms
+
+  module _ (r : Request) (body : Body) (nodes front out : List ℕ) (b : ℕ) (nodes′ front′ out′ : List ℕ) where
     abbrev more : Answer
     more = answer (withBudget b r) body nodes′ front′ out′
 
@@ -181,23 +262,56 @@ module _ (w : Window) (cells perms shapes boxes : List ℕ) where
     abbrev came′ : Outcome
     came′ = toldBy (endOf sp (withBudget b r) body)
 
-    still : eqb (r .«node_budget») 0 ≡ false → eqb b 0 ≡ false
-    still e = ne-eqb b 0 (λ z. eqb-false (r .«node_budget») 0 e (omega arith))
-
     more-by-order : more .outcome ≡ told came′ (order bad (validRequest r body) large′ full′ (endsGood sp r body) (eqb b 0))
     more-by-order =
         by-order (withBudget b r) body nodes′ front′ out′ ∙ (let v = valid-budget b r body in let g = ends-budget b sp r body in rw (v, g))
 
-    pub stays-found : answer r body nodes front out .outcome ≡ Found → outcomeNumber (more .outcome) < 3 → more .outcome ≡ Found
-    stays-found e h =
-        more-by-order
-        ∙ found-stays (came r body nodes front out) came′ bad (validRequest r body) (endsGood sp r body)
-        (tooLarge r body) (full r body nodes front out) (eqb (r .«node_budget») 0) large′ full′ (eqb b 0) still
-        (search.found-again sp r body b above) (sym (by-order r body nodes front out) ∙ e) (rw more-by-order at h)
+    -- as many as were kept are enough
+    pub retained-enough : answer r body nodes front out .outcome ≡ Unreachable → answer r body nodes front out .retained ≤ b → more .outcome ≢ BudgetExceeded
+    retained-enough e h x =
+        let o = on-exceeded came′ bad (validRequest r body) large′ full′ (endsGood sp r body) (eqb b 0) (sym more-by-order ∙ x) in
+        let s = of-search r body nodes front out e (o .0) (o .1) in
+        let K : List Feet = points (ended sp r body) in
+        not-exceeded (withBudget b r) body nodes′ front′ out′ K (search.covers-still sp r body b K (search.kept-all sp r body (s .0))) (omega (arith, points-many r body nodes front out (s .1))) x
 
-    pub stays-unreachable : answer r body nodes front out .outcome ≡ Unreachable → outcomeNumber (more .outcome) < 3 → more .outcome ≡ Unreachable
-    stays-unreachable e h =
-        more-by-order
-        ∙ unreachable-stays (came r body nodes front out) came′ bad (validRequest r body) (endsGood sp r body)
-        (tooLarge r body) (full r body nodes front out) (eqb (r .«node_budget») 0) large′ full′ (eqb b 0) still
-        (search.unreachable-again sp r body b above) (sym (by-order r body nodes front out) ∙ e) (rw more-by-order at h)
+    -- and fewer are not
+    pub fewer-exceeded : answer r body nodes front out .outcome ≡ Unreachable → b < answer r body nodes front out .retained → outcomeNumber (more .outcome) < 3 → more .outcome ≡ BudgetExceeded
+    fewer-exceeded e h n = go (more .outcome) refl
+      where
+        s : (came r body nodes front out ≡ Unreachable) × (without r body nodes front out ≡ none)
+        s = searched r body nodes front out e (λ z. omega arith)
+
+        o : Began bad (validRequest r body) (tooLarge r body) (endsGood sp r body) (nought r body nodes front out) (tests r body nodes front out)
+        o = began r body nodes front out (s .1)
+
+        below : b ≤ r .«node_budget»
+        below = omega (arith, retained-within r body nodes front out)
+
+        go : (x : Outcome) → more .outcome ≡ x → more .outcome ≡ BudgetExceeded
+        go Found i = absurd (let z = search.found-again sp (withBudget b r) body (r .«node_budget») below (begun (withBudget b r) body nodes′ front′ out′ i .1) in let q : _≡_ {A = ℕ} 0 1 = cc (z, s .0) in omega arith)
+        go Unreachable i =
+            let u = of-search (withBudget b r) body nodes′ front′ out′ i (valid-budget b r body ∙ o .valid) (ends-budget b sp r body ∙ o .ends) in
+            absurd (omega (arith, search.kept-within sp r body b below (u .0), retained-is r body nodes front out (s .1)))
+        go BudgetExceeded i = i
+        go BadWorld i = let z : outcomeNumber (more .outcome) ≡ 3 = ap outcomeNumber i in absurd (omega arith)
+        go TooLarge i = let z : outcomeNumber (more .outcome) ≡ 4 = ap outcomeNumber i in absurd (omega arith)
+        go NoRoom i = let z : outcomeNumber (more .outcome) ≡ 5 = ap outcomeNumber i in absurd (omega arith)
+
+    -- a larger one
+    module _ (above : r .«node_budget» ≤ b) where
+      still : eqb (r .«node_budget») 0 ≡ false → eqb b 0 ≡ false
+      still e = ne-eqb b 0 (λ z. eqb-false (r .«node_budget») 0 e (omega arith))
+
+      pub stays-found : answer r body nodes front out .outcome ≡ Found → outcomeNumber (more .outcome) < 3 → more .outcome ≡ Found
+      stays-found e h =
+          more-by-order
+          ∙ found-stays (came r body nodes front out) came′ bad (validRequest r body) (endsGood sp r body)
+          (tooLarge r body) (full r body nodes front out) (eqb (r .«node_budget») 0) large′ full′ (eqb b 0) still
+          (search.found-again sp r body b above) (sym (by-order r body nodes front out) ∙ e) (rw more-by-order at h)
+
+      pub stays-unreachable : answer r body nodes front out .outcome ≡ Unreachable → outcomeNumber (more .outcome) < 3 → more .outcome ≡ Unreachable
+      stays-unreachable e h =
+          more-by-order
+          ∙ unreachable-stays (came r body nodes front out) came′ bad (validRequest r body) (endsGood sp r body)
+          (tooLarge r body) (full r body nodes front out) (eqb (r .«node_budget») 0) large′ full′ (eqb b 0) still
+          (search.unreachable-again sp r body b above) (sym (by-order r body nodes front out) ∙ e) (rw more-by-order at h)

@@ -9,6 +9,7 @@ use lib.ListN.{drop}
 use lib.Ieee.{Float, binary64, fits, lt, le, add, neg}
 use lib.Ieee.Bits.{ofBits-fits}
 use lib.Ieee.Fits.{add-fits, sub-fits, cond-fits}
+use Rattle.exploration.specs.Laws.Lists as lists
 use Rattle.floats.specs.Floats.{E, nought, larger}
 use Rattle.cells.specs.Cells.{floorCell}
 use Rattle.regions.specs.Ranges.{gather, along}
@@ -33,6 +34,8 @@ use Rattle.edges.specs.Edges.{passable, edge, nearGoal, connector}
 use Rattle.edges.specs.Answers.{nowhere-to}
 use Rattle.steps.specs.declared.columns.Centre.{Centre}
 use Rattle.sides.specs.Sides.{lookedBy}
+use Rattle.rooms.specs.declared.Feet.{Feet}
+use Rattle.words.specs.Words.{feetOf, stepOf}
 use Rattle.steps.specs.Columns.{centre, centreOf, bandOf, target, ahead, edgesAt, columnSteps, sides, columnIf, stepsFrom}
 use Rattle.claims.specs.Words.{InF64}
 use Rattle.claims.specs.Laws.Edges.{by, rise, edge-is}
@@ -188,6 +191,12 @@ module _ (sp : Space) (r : Request) (body : Body) (topped : ToppedSpace sp) (fro
   pub steps-each : Each P (stepsFrom sp r body from)
   unfolding stepsFrom
   steps-each = each-gather (columnIf sp r body from) looked-each 0 9
+
+-- and so the words of the points that they lead to
+pub worded : (Q : Feet → Type 0) {ws : List Waypoint} → Each (λ w. Q (feetOf (w .feet))) ws → lists.Each (λ w. Q (w .0)) (map stepOf ws)
+unfolding stepOf
+worded Q end = tt
+worded Q (more p ps) = (p, worded Q ps)
 
 made-of : {a : EdgeAnswer} → MadeIf a → (w : Waypoint) → a ≡ To w → Made w
 made-of nowhere w e = nowhere-to e

@@ -4,7 +4,7 @@ use Prim.Native.Nat.{ℕ, _+_}
 use mathlib.Core.Path.{_≡_}
 use mathlib.Core.Bool.{Bool, true, false}
 use mathlib.Core.Option.{some}
-use mathlib.Core.List.{List, [], map}
+use mathlib.Core.List.{[]}
 use lib.IntN.{pos}
 use lib.Ieee.{binary64, isNan, add, mul, lt, ofBits}
 use lib.Ieee.Fits.{add-fits}
@@ -27,7 +27,7 @@ use Rattle.moves.specs.declared.answer.EdgeAnswer.the-variants.{To}
 use Rattle.edges.specs.Edges.{edge}
 use Rattle.edges.specs.Answers.{edge-feet}
 use Rattle.steps.specs.Graph.{graph}
-use Rattle.words.specs.Words.{pointOf, feetOf, stepOf}
+use Rattle.words.specs.Words.{pointOf, feetOf}
 use Rattle.rooms.specs.declared.Feet.{Feet}
 use Rattle.rooms.specs.declared.Label.{Label}
 use Rattle.rooms.specs.declared.Entry.{Entry}
@@ -38,7 +38,7 @@ use Rattle.visits.specs.Best.{opened, relaxed, best}
 use Rattle.visits.specs.Laws.Policy.{best-laws, given-is}
 use Rattle.claims.specs.Words.{InF64}
 use Rattle.claims.specs.Laws.Edges.{target-in-range}
-use Rattle.claims.specs.Laws.Fits.{Each, end, more, F64, ToppedSpace, steps-each}
+use Rattle.claims.specs.Laws.Fits.{F64, ToppedSpace, steps-each, worded}
 use Rattle.claims.specs.Laws.Nodes.{AllOf, none-there, one-more, in-place}
 use Rattle.claims.specs.Laws.InRange.{in-range-finite}
 use Rattle.claims.specs.Laws.NotNegative.{NotNegative, sized, is-number, sum-not-negative, half-more-not-negative, difference-number, distance-not-negative}
@@ -135,11 +135,6 @@ module _ (goal : Feet) (there : FiniteFeet goal) where
 
 -- ---- the search of a valid request
 
-worded : {ws : List Waypoint} → Each (λ w. FiniteFeet (feetOf (w .feet))) ws → lists.Each Reached (map stepOf ws)
-unfolding stepOf
-worded end = tt
-worded (more p ps) = (p, worded ps)
-
 -- A box's top and the request's numbers are f64s, as the tables' (`space-tops`) and every caller's are: else a pattern might not read back as its number.
 module _ (sp : Space) (topped : ToppedSpace sp) (r : Request) (body : Body) (f : InF64 r) (valid : validRequest r body ≡ true) where
   step-finite : (from to : Point) → F64 (to .x) → F64 (to .y) → F64 (to .z) → (w : Waypoint) → edge sp r body from to ≡ To w → FiniteFeet (feetOf (w .feet))
@@ -148,7 +143,7 @@ module _ (sp : Space) (topped : ToppedSpace sp) (r : Request) (body : Body) (f :
 
   steps-finite : (p : Feet) → lists.Each Reached (graph sp r body .steps p)
   unfolding graph
-  steps-finite p = worded (steps-each sp r body topped (pointOf p) (λ w. FiniteFeet (feetOf (w .feet))) (step-finite (pointOf p)))
+  steps-finite p = worded FiniteFeet (steps-each sp r body topped (pointOf p) (λ w. FiniteFeet (feetOf (w .feet))) (step-finite (pointOf p)))
 
   pub estimates-are-numbers : (b n : ℕ) →
       let s = run (graph sp r body) (best (feetOf (r .goal))) b n (begin (graph sp r body) (best (feetOf (r .goal))) b) in

@@ -45,21 +45,22 @@ module _ (x : Outcome) where
   on-found false true false false true false p = (record { good = refl; valid = refl; small = refl; ends = refl; budgeted = refl; begun = refl }, p)
 
   -- with a valid request and good ends, only the search itself says Unreachable
-  pub on-unreachable : (b l f n : Bool) → told x (order b true l f true n) ≡ Unreachable → x ≡ Unreachable
+  pub on-unreachable : (b l f n : Bool) → told x (order b true l f true n) ≡ Unreachable → (x ≡ Unreachable) × (order b true l f true n ≡ none)
   on-unreachable true l f n p = absurd (let q : _≡_ {A = ℕ} 0 1 = cc in omega arith)
   on-unreachable false true f n p = absurd (let q : _≡_ {A = ℕ} 0 1 = cc in omega arith)
   on-unreachable false false true n p = absurd (let q : _≡_ {A = ℕ} 0 1 = cc in omega arith)
   on-unreachable false false false true p = absurd (let q : _≡_ {A = ℕ} 0 1 = cc in omega arith)
-  on-unreachable false false false false p = p
+  on-unreachable false false false false p = (p, refl)
 
-  pub on-exceeded : (b v l f e n : Bool) → told x (order b v l f e n) ≡ BudgetExceeded → (n ≡ true) ⊎ (x ≡ BudgetExceeded)
+  -- BudgetExceeded is said of a valid request and good ends alone, for a budget of 0 or by the search itself
+  pub on-exceeded : (b v l f e n : Bool) → told x (order b v l f e n) ≡ BudgetExceeded → (v ≡ true) × (e ≡ true) × ((n ≡ true) ⊎ (x ≡ BudgetExceeded))
   on-exceeded true v l f e n p = absurd (let q : _≡_ {A = ℕ} 0 1 = cc in omega arith)
   on-exceeded false false l f e n p = absurd (let q : _≡_ {A = ℕ} 0 1 = cc in omega arith)
   on-exceeded false true true f e n p = absurd (let q : _≡_ {A = ℕ} 0 1 = cc in omega arith)
   on-exceeded false true false true e n p = absurd (let q : _≡_ {A = ℕ} 0 1 = cc in omega arith)
   on-exceeded false true false false false n p = absurd (let q : _≡_ {A = ℕ} 0 1 = cc in omega arith)
-  on-exceeded false true false false true true p = inl refl
-  on-exceeded false true false false true false p = inr p
+  on-exceeded false true false false true true p = (refl, refl, inl refl)
+  on-exceeded false true false false true false p = (refl, refl, inr p)
 
 -- ---- under another budget, where it draws no refusal
 

@@ -20,12 +20,10 @@ use Rattle.rooms.specs.Rooms.{Note, nodeWaits}
 use Rattle.costs.specs.Costs.{float, costBy, estimateBy, cheaper, loweredBy, lowered}
 use Rattle.visits.specs.Best.{opened, relaxed, best}
 use Rattle.visits.specs.Laws.Policy.{best-laws, given-is}
+use Rattle.claims.specs.Words.{pushOf}
 
 abbrev Nodes : Type 0
 Nodes = List (Node Feet Label Note)
-
-abbrev pub pushOf : Node Feet Label Note → ℕ
-pushOf n = n .note .entry .order
 
 -- an open node waits; what waits was pushed before the book's number, and no other node then
 record Apart (ns : Nodes) (g : ℕ) : Type 0 where

@@ -10,7 +10,7 @@ use Rattle.exploration.specs.Lists.{has, count}
 use Rattle.exploration.specs.Graph.{Graph, GraphLaws, Route, Reach, at-start}
 use Rattle.exploration.specs.Policy.{Policy, PolicyLaws}
 use Rattle.exploration.specs.Explore as explore
-use Rattle.exploration.specs.Explore.{final, answer}
+use Rattle.exploration.specs.Explore.{points, final, answer}
 use Rattle.exploration.specs.Claims as claims
 use Rattle.exploration.specs.Laws.Lists.{count-le}
 use Rattle.exploration.specs.Laws.Expansions.{sound-room, final-sound}
@@ -85,14 +85,22 @@ module _ (sp : Space) (r : Request) (body : Body) where
   pub unreachable-route : toldBy (endOf sp r body) ≡ Unreachable → (t : List (Feet × Label)) → Route 𝓖 t → ⊥
   unreachable-route e = claims.unreachable-has-no-route 𝓖 𝓟 𝓛 𝓠 budget (sym is-answer ∙ told-unreachable (endOf sp r body) e)
 
-  abbrev Covers : List Feet → Type 0
+  pub not-searching : endOf sp r body ≢ explore.Searching
+  not-searching e = claims.ends-within-budget 𝓖 𝓟 𝓛 𝓠 budget .0 (sym is-answer ∙ e)
+
+  abbrev pub Covers : List Feet → Type 0
   Covers K = (p : Feet) → Reach 𝓖 p → has (λ x. samePoint x p) K ≡ true
 
   pub covered : (K : List Feet) → Covers K → length K ≤ budget → toldBy (endOf sp r body) ≢ BudgetExceeded
   unfolding graph
   covered K c h e =
       claims.covering-budget-suffices 𝓖 𝓟 𝓛 𝓠 budget K c h
-      (sym is-answer ∙ told-exceeded (endOf sp r body) (λ s. claims.ends-within-budget 𝓖 𝓟 𝓛 𝓠 budget .0 (sym is-answer ∙ s)) e)
+      (sym is-answer ∙ told-exceeded (endOf sp r body) not-searching e)
+
+  -- after Unreachable the points that are kept cover
+  pub kept-all : toldBy (endOf sp r body) ≡ Unreachable → Covers (points (ended sp r body))
+  unfolding graph
+  kept-all e p h = rw is-final (claims.unreachable-kept-all 𝓖 𝓟 𝓛 𝓠 budget (sym is-answer ∙ told-unreachable (endOf sp r body) e) p h)
 
   -- the start is reached, so that no empty list covers
   pub covers-some : (K : List Feet) → Covers K → length K ≢ 0
@@ -119,18 +127,27 @@ module _ (sp : Space) (r : Request) (body : Body) where
   pub closings-within : ended sp r body .closings ≤ length (ended sp r body .nodes)
   closings-within = omega (arith, closings-counted, count-le (λ n. n .closed) (ended sp r body .nodes))
 
-  -- ---- and under a larger budget
+  -- ---- and under another budget
+
+  pub covers-still : (b : ℕ) (K : List Feet) → Covers K → (p : Feet) → Reach (graph sp (withBudget b r) body) p → has (λ x. samePoint x p) K ≡ true
+  covers-still b K c p h = c p (rw (graph-budget b sp r body) at h)
+
+  other : (b : ℕ) → endOf sp (withBudget b r) body ≡ answer 𝓖 𝓟 b
+  unfolding endOf ended
+  other b = ap (λ (𝓗 : Graph Feet Label). answer 𝓗 𝓟 b) (graph-budget b sp r body)
+
+  -- a smaller one that is enough, is enough for all that this one keeps
+  pub kept-within : (b : ℕ) → b ≤ r .«node_budget» → toldBy (endOf sp (withBudget b r) body) ≡ Unreachable → length (ended sp r body .nodes) ≤ b
+  kept-within b h e =
+      let alike = claims.unreachable-ends-alike 𝓖 𝓟 𝓛 𝓠 b budget h (sym (other b) ∙ told-unreachable (endOf sp (withBudget b r) body) e) in
+      rw (is-final, ← alike) (sound-room 𝓖 𝓟 (final-sound 𝓖 𝓟 𝓛 𝓠 b))
 
   module _ (b : ℕ) (above : r .«node_budget» ≤ b) where
-    larger : endOf sp (withBudget b r) body ≡ answer 𝓖 𝓟 b
-    unfolding endOf ended
-    larger = ap (λ (𝓗 : Graph Feet Label). answer 𝓗 𝓟 b) (graph-budget b sp r body)
-
     pub found-again : toldBy (endOf sp r body) ≡ Found → toldBy (endOf sp (withBudget b r) body) ≡ Found
     found-again e =
         let u = claims.found-stays-found 𝓖 𝓟 𝓛 𝓠 budget b above (listIn (endOf sp r body)) (sym is-answer ∙ told-found (endOf sp r body) e) in
-        ap toldBy (larger ∙ u .1)
+        ap toldBy (other b ∙ u .1)
 
     pub unreachable-again : toldBy (endOf sp r body) ≡ Unreachable → toldBy (endOf sp (withBudget b r) body) ≡ Unreachable
     unreachable-again e =
-        ap toldBy (larger ∙ claims.unreachable-stays-unreachable 𝓖 𝓟 𝓛 𝓠 budget b above (sym is-answer ∙ told-unreachable (endOf sp r body) e))
+        ap toldBy (other b ∙ claims.unreachable-stays-unreachable 𝓖 𝓟 𝓛 𝓠 budget b above (sym is-answer ∙ told-unreachable (endOf sp r body) e))

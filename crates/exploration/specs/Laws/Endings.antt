@@ -125,8 +125,16 @@ module _ {P L A B : Type 0} (𝓖 : Graph P L) (𝓟 : Policy P L A B) where
       no-route : {t : List (P × L)} → Route 𝓖 t → ⊥
       no-route (route {w = w} e _ l) = no-way (has-map _ _ (λ p i. 𝓛 .same-trans p start (w .0) i e) (points s) (inv .rooted none-lost)) l
 
+      -- and so the retained points are all that are reached
+      reach-known : {p : P} → Reach 𝓖 p → known 𝓖 (s .nodes) p ≡ true
+      reach-known (at-start {p = p} e) = has-map _ _ (λ q i. 𝓛 .same-trans q start p i e) (points s) (inv .rooted none-lost)
+      reach-known (by-step {p = p} w r e) = let z = stands p (reach-known r) in z .2 .1 none-lost w (𝓛 .step-same p (z .0 .point) w (z .1) e)
+
     pub unreachable-route : (b : ℕ) (s : State P L A B) → Sound 𝓖 𝓟 b s → outcome 𝓖 𝓟 s ≡ Unreachable → (t : List (P × L)) → Route 𝓖 t → ⊥
     unreachable-route b s g e t r = let z = end-of s e in no-route b s (inv-going g (z .0)) (z .1) (z .2) r
+
+    pub unreachable-cover : (b : ℕ) (s : State P L A B) → Sound 𝓖 𝓟 b s → outcome 𝓖 𝓟 s ≡ Unreachable → (p : P) → Reach 𝓖 p → known 𝓖 (s .nodes) p ≡ true
+    unreachable-cover b s g e p r = let z = end-of s e in reach-known b s (inv-going g (z .0)) (z .1) (z .2) r
 
     -- ---- reached points
 
