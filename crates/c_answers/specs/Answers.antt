@@ -1,5 +1,5 @@
 -- The bytes that a search's answer leaves in the slice that a caller lends for it, and the number of an edge.
-use Prim.Native.Nat.{ℕ}
+use Prim.Native.Nat.{ℕ, _+_}
 use mathlib.Core.List.{List, [], _∷_}
 use Rattle.fields.specs.Records.{withRecord}
 use Rattle.moves.specs.declared.answer.EdgeAnswer.{EdgeAnswer}
@@ -19,7 +19,7 @@ abbrev pub pathWritten : Path → List ℕ → List ℕ
 pathWritten (Searched a) old = answerWritten a old
 pathWritten BadTable old = old
 
--- an edge: its movement's number, or 4 where there is none
+-- an edge, in numbers of our own: 130 Walk, 131 Step, 132 Jump, 133 Drop, or 110 where there is none
 abbrev pub edgeNumber : EdgeAnswer → ℕ
-edgeNumber (To w) = movementNumber (w .movement)
-edgeNumber Nowhere = 4
+edgeNumber (To w) = 130 + movementNumber (w .movement)
+edgeNumber Nowhere = 110
