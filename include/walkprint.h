@@ -15,9 +15,11 @@
  *
  * Records are little-endian and have no gaps. On a little-endian machine, which
  * x86-64 and Arm are, they are the structs below, so `(const uint8_t *)&r` with
- * `sizeof r` is a record. Where a record is shorter than its struct, each field
- * that does not fit whole reads as 0; what stands behind it is not read. Of
- * floats, every NaN pattern is the one NaN.
+ * `sizeof r` is a record. What stands behind a record is not read. Where a
+ * window, a request, two ends or a body is shorter than its struct, the request
+ * is an invalid one, answered in its place in the call's order: 1, and 110 of
+ * walkprint_walk_back. (3 comes before that; for it the fields that a window
+ * does not have read as 0.) Of floats, every NaN pattern is the one NaN.
  */
 #ifndef WALKPRINT_H
 #define WALKPRINT_H
@@ -29,10 +31,27 @@
 extern "C" {
 #endif
 
+/* ---- The version ---------------------------------------------------------- */
+
+#define WALKPRINT_VERSION_MAJOR 0
+#define WALKPRINT_VERSION_MINOR 1
+#define WALKPRINT_VERSION_PATCH 0
+#define WALKPRINT_VERSION (WALKPRINT_VERSION_MAJOR * 1000000 + WALKPRINT_VERSION_MINOR * 1000 + WALKPRINT_VERSION_PATCH)
+
+/* The WALKPRINT_VERSION that the library was built as: compare it with this header's. */
+uint64_t walkprint_version(void);
+
 /* ---- Numbers given back --------------------------------------------------- */
 
+/*
+ * 0 to 13 belong to the papers that walkprint is built to (README.md): 01's are
+ * 0 to 9, and further ones are 02's. An answer for which they have no number
+ * has one of this interface's own, from 100 on. Each of those stands once in
+ * this header, whatever the call.
+ */
 enum {
   WALKPRINT_FOUND = 0,           /* the list is written */
+  WALKPRINT_ROUTE = 0,           /* walk-back: yes, the list is a route */
   WALKPRINT_UNREACHABLE = 1,     /* invalid request, bad endpoint, or no route exists, whatever the budget */
   WALKPRINT_BUDGET_EXCEEDED = 2, /* budget 0, or the search ended after a new point was dropped */
   WALKPRINT_BAD_WORLD = 3,       /* a size above 256, a table of a wrong length, or a shape or box off its rule */
@@ -42,17 +61,19 @@ enum {
   WALKPRINT_BAD_SCENE = 7,       /* the first bad record, counted from 0 */
   WALKPRINT_BAD_TABLE = 8,       /* flag and permission tables differ in length */
   WALKPRINT_BAD_NUMBER = 9,      /* square root of a refused number */
-  WALKPRINT_YES = 10,            /* walk-back: the list is a route */
-  WALKPRINT_NO = 11              /* walk-back: it is none */
+  WALKPRINT_NO = 110,            /* walk-back: the list is no route; edge: there is none */
+  WALKPRINT_EDGE_WALK = 130,     /* an edge, by its movement */
+  WALKPRINT_EDGE_STEP = 131,
+  WALKPRINT_EDGE_JUMP = 132,
+  WALKPRINT_EDGE_DROP = 133
 };
 
-/* Kinds of movement, in waypoint records and as answers of walkprint_edge. */
+/* Kinds of movement in waypoint and node records. */
 enum {
   WALKPRINT_WALK = 0,
   WALKPRINT_STEP = 1,
   WALKPRINT_JUMP = 2,
-  WALKPRINT_DROP = 3,
-  WALKPRINT_NO_EDGE = 4 /* an answer only */
+  WALKPRINT_DROP = 3
 };
 
 /* The parent of the start's node record. */
@@ -232,8 +253,8 @@ uint64_t walkprint_find_path(
 
 /*
  * Whether a list of waypoint records is a route of the request: 3; an invalid
- * request (11); 4, the budget not read; then 10 exactly for a route. An empty
- * list, a partial record or a movement above 3 is 11. Writes nothing.
+ * request (110); 4, the budget not read; then 0 exactly for a route. An empty
+ * list, a partial record or a movement above 3 is 110. Writes nothing.
  */
 uint64_t walkprint_walk_back(
     const uint8_t *window, size_t window_length,
@@ -246,12 +267,15 @@ uint64_t walkprint_walk_back(
     const uint8_t *list, size_t list_length);
 
 /*
- * The kind of movement of the edge from one point to another, or 4 where there
- * is none. The request's start and max_range bound it; its budget is not read.
- * The tables are not judged: a cell that they do not have is unknown. Nor are
- * the request and the body, and the time grows with the cells that the body
- * sweeps: with a width of 1e6 that is a million million. Ask with sizes that
- * are not too large (number 4). Writes nothing.
+ * The edge from one point to another: 3; an invalid request (1); 4, the budget
+ * not read; then 130 to 133 by its movement, or 110 where there is none. Writes
+ * nothing.
+ *
+ * The points are not judged: NaN and infinities too are answered. An edge's
+ * target, and `from` raised by the edge's lift, are in range of the request's
+ * start, else it is 110 before a cell is looked at. So the way is at most
+ * 2 * max_range long in x and in z. Only a Step or a Jump can begin further
+ * down, and it ends at the first cell outside the window, which is solid.
  */
 uint64_t walkprint_edge(
     const uint8_t *window, size_t window_length,

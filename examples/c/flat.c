@@ -51,6 +51,6 @@ int main(void) {
   const uint64_t walked = walkprint_walk_back(
       BYTES(window), BYTES(cells), BYTES(permissions), BYTES(shapes), BYTES(boxes),
       BYTES(request), BYTES(body), (const uint8_t *)out, answer.count * sizeof out[0]);
-  printf("walk-back: %s\n", walked == WALKPRINT_YES ? "a route" : "no route");
-  return number == WALKPRINT_FOUND && walked == WALKPRINT_YES ? 0 : 1;
+  printf("walk-back: %s\n", walked == WALKPRINT_ROUTE ? "a route" : "no route");
+  return number == WALKPRINT_FOUND && walked == WALKPRINT_ROUTE ? 0 : 1;
 }

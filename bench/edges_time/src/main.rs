@@ -12,12 +12,14 @@ use original::Checks;
 use walkprint::raw::{self, Asked};
 
 const ROUNDS: usize = 101;
-/// No movement: there is no edge.
-const NONE: u64 = 4;
+/// An edge's number is its movement's and so much.
+const EDGE: u64 = 130;
+/// There is no edge.
+const NONE: u64 = 110;
 
 type Pair = ([f64; 3], [f64; 3]);
 
-/// The movement's number of every pair's edge, and the nanoseconds a pair.
+/// The number of every pair's edge, and the nanoseconds a pair.
 fn timed(pairs: &[Pair], mut edge: impl FnMut(Pair) -> u64) -> (Vec<u64>, f64) {
     let begin = Instant::now();
     let answers = pairs.iter().map(|&pair| black_box(edge(pair))).collect();
@@ -44,7 +46,7 @@ fn compare(name: &str) -> bool {
         ours.push(time);
         let (original, time) = timed(&pairs, |(from, to)| {
             checks.forget();
-            checks.edge(from, to).map_or(NONE, |point| point.movement)
+            checks.edge(from, to).map_or(NONE, |point| EDGE + point.movement)
         });
         theirs.push(time);
         if proved != original {

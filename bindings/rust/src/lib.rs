@@ -22,9 +22,12 @@ pub enum Outcome {
     BudgetExceeded = 2,
 }
 
-/// A refusal. A bad scene comes with its first bad record, counted from 0.
+/// A refusal. An invalid request is one of an edge alone: a search answers it
+/// with `Unreachable`, the walk-back with no. A bad scene comes with its first
+/// bad record, counted from 0.
 #[derive(Clone, Copy, Debug, PartialEq, Eq)]
 pub enum Error {
+    InvalidRequest,
     BadWorld,
     TooLarge,
     NoRoom,
@@ -38,6 +41,7 @@ impl Error {
     /// The interface's number.
     pub fn number(self) -> u64 {
         match self {
+            Self::InvalidRequest => 1,
             Self::BadWorld => 3,
             Self::TooLarge => 4,
             Self::NoRoom => 5,
@@ -140,16 +144,20 @@ pub fn find_path(
 /// Whether a list of waypoint records is a route.
 pub fn walk_back(t: &Tables, request: &Request, body: &Body, list: &[u8]) -> Result<bool, Error> {
     match in_bytes(t, &request.bytes(), body, |asked| raw::walk_back(asked, list)) {
-        10 => Ok(true),
-        11 => Ok(false),
+        0 => Ok(true),
+        110 => Ok(false),
         number => Err(refusal(number, 0)),
     }
 }
 
-/// How the edge from one point to another moves, where there is one. Neither the request nor the body is judged, and the time grows with the cells that the
-/// body sweeps: ask with sizes that a search would not refuse as too large.
-pub fn edge(t: &Tables, request: &Request, body: &Body, from: Point, to: Point) -> Option<Movement> {
-    Movement::numbered(in_bytes(t, &request.bytes(), body, |asked| raw::edge(asked, from, to)))
+/// How the edge from one point to another moves, where there is one. The
+/// points may be any numbers.
+pub fn edge(t: &Tables, request: &Request, body: &Body, from: Point, to: Point) -> Result<Option<Movement>, Error> {
+    match in_bytes(t, &request.bytes(), body, |asked| raw::edge(asked, from, to)) {
+        110 => Ok(None),
+        number @ 130..=133 => Ok(Movement::numbered(number - 130)),
+        number => Err(refusal(number, 0)),
+    }
 }
 
 /// Reads a whole scene into four tables, each of at least its size in
@@ -189,6 +197,12 @@ pub fn square_root(x: f64) -> f64 {
     raw::square_root(x)
 }
 
+/// The version of the library: 1,000,000 for each major, 1,000 for each minor,
+/// 1 for each patch. It is this crate's own.
+pub fn version() -> u64 {
+    raw::version()
+}
+
 /// The number that a call writes into eight bytes, or its refusal.
 fn float(call: impl FnOnce(&mut [u8]) -> u64) -> Result<f64, Error> {
     let mut bytes = [0; 8];
@@ -210,9 +224,10 @@ fn answered(number: u64, answer: &[u8]) -> Result<Answer, Error> {
     Ok(Answer { outcome, count: count(1), retained: count(2), closed: count(3) })
 }
 
-/// The refusal with a number from 3 to 9; no call gives another.
+/// The refusal with a number; no call gives another.
 fn refusal(number: u64, record: u64) -> Error {
     match number {
+        1 => Error::InvalidRequest,
         3 => Error::BadWorld,
         4 => Error::TooLarge,
         5 => Error::NoRoom,

@@ -7,7 +7,8 @@
 //! shares a byte with another. Rust's slices are so by themselves, so these
 //! functions are safe.
 
-/// What every search and question is handed.
+/// What every search and question is handed. Where a record is shorter than its
+/// struct, the request is an invalid one.
 #[derive(Clone, Copy, Debug)]
 pub struct Asked<'a> {
     pub window: &'a [u8],
@@ -81,12 +82,14 @@ pub fn find_path(policy: u64, jump_height: f64, flags: &[u8], asked: &Asked, per
     }
 }
 
+/// 0 for a route, 110 for none, 3 or 4.
 #[inline]
 pub fn walk_back(asked: &Asked, list: &[u8]) -> u64 {
     let [cells, permissions, shapes, boxes] = asked.tables;
     call!(walkprint_walk_back(asked.window, cells, permissions, shapes, boxes, asked.request, asked.body, list;;))
 }
 
+/// 130 Walk, 131 Step, 132 Jump, 133 Drop, 110 for none, 1, 3 or 4.
 #[inline]
 pub fn edge(asked: &Asked, from: [f64; 3], to: [f64; 3]) -> u64 {
     let [cells, permissions, shapes, boxes] = asked.tables;
@@ -112,6 +115,10 @@ pub fn root(x: f64, root: &mut [u8]) -> u64 {
 
 pub fn square_root(x: f64) -> f64 {
     unsafe { walkprint_square_root(x) }
+}
+
+pub fn version() -> u64 {
+    unsafe { walkprint_version() }
 }
 
 unsafe extern "C" {
@@ -231,4 +238,6 @@ unsafe extern "C" {
     fn walkprint_root(x: f64, root: *mut u8, root_length: usize) -> u64;
 
     fn walkprint_square_root(x: f64) -> f64;
+
+    fn walkprint_version() -> u64;
 }

@@ -2,7 +2,7 @@
 //! pattern: exactly long, too long and one byte short, every byte compared.
 
 use walkprint::{
-    Answer, Body, Error, Movement, Outcome, PATH_NODE_BUDGET, Policy, Request, Rooms, SCENE_TABLES, Tables, Waypoint, Window,
+    Answer, Body, Error, Movement, Outcome, PATH_NODE_BUDGET, Policy, Request, Rooms, SCENE_TABLES, Tables, Waypoint, Window, raw,
 };
 
 const WINDOW: Window = Window { origin: [-2, 0, -2], sizes: [7, 4, 5] };
@@ -167,9 +167,53 @@ fn a_mob_fills_its_permissions() {
 #[test]
 fn edges() {
     let t = flat();
-    let edge = |to| walkprint::edge(&tables(&t), &REQUEST, &BODY, [0.5, 1.0, 0.5], to);
-    assert_eq!(edge([1.5, 1.0, 0.5]), Some(Movement::Walk));
-    assert_eq!(edge([1.5, 2.0, 0.5]), None);
+    let edge = |from, to| walkprint::edge(&tables(&t), &REQUEST, &BODY, from, to);
+    let from = [0.5, 1.0, 0.5];
+    assert_eq!(edge(from, [1.5, 1.0, 0.5]), Ok(Some(Movement::Walk)));
+    assert_eq!(edge(from, [1.5, 2.0, 0.5]), Ok(None));
+    // Neither end of an edge need be a number, or near.
+    for far in [f64::NAN, f64::INFINITY, f64::NEG_INFINITY, 1.0e9, -1.0e9, 1.0e300, -1.0e300] {
+        for axis in 0..3 {
+            let mut point = from;
+            point[axis] = far;
+            assert_eq!(edge(from, point), Ok(None));
+            assert_eq!(edge(point, from), Ok(None));
+        }
+    }
+}
+
+/// Every movement: a floor with a block on it, from and to which one jumps,
+/// steps and drops.
+#[test]
+fn an_edge_has_the_number_of_its_movement() {
+    let mut t = flat();
+    // The cell (1, 1, 0), one above the floor, is a cube too.
+    let above = 8 * (35 + 7 * 2 + 3);
+    t[0].copy_within(0..8, above);
+    let (low, high) = ([0.5, 1.0, 0.5], [1.5, 2.0, 0.5]);
+    let number = |request: &Request, body: &Body, from, to| walkprint::edge(&tables(&t), request, body, from, to);
+    let jumper = Request { jump_height: 1.25, ..REQUEST };
+    assert_eq!(number(&jumper, &BODY, low, high), Ok(Some(Movement::Jump)));
+    let stepper = Body { step_height: 1.0, ..BODY };
+    assert_eq!(number(&Request { step_height: 1.0, ..REQUEST }, &stepper, low, high), Ok(Some(Movement::Step)));
+    assert_eq!(number(&REQUEST, &BODY, high, low), Ok(Some(Movement::Drop)));
+    assert_eq!(number(&REQUEST, &BODY, low, high), Ok(None));
+}
+
+#[test]
+fn an_edge_is_judged() {
+    let t = flat();
+    let (from, to) = ([0.5, 1.0, 0.5], [1.5, 1.0, 0.5]);
+    let edge = |t: &Tables, request: &Request, body: &Body| walkprint::edge(t, request, body, from, to);
+    let large = Tables { window: Window { origin: [0; 3], sizes: [257, 0, 0] }, cells: &[], ..tables(&t) };
+    let (wide, beyond) = (Body { width: 1.0e9, ..BODY }, Body { width: 1.0e300, ..BODY });
+    let endless = Request { max_range: f64::INFINITY, ..REQUEST };
+    // 3 comes first, then an invalid request, then 4; the budget is not read.
+    assert_eq!(edge(&large, &endless, &wide), Err(Error::BadWorld));
+    assert_eq!(edge(&tables(&t), &endless, &wide), Err(Error::InvalidRequest));
+    assert_eq!(edge(&tables(&t), &REQUEST, &beyond), Err(Error::InvalidRequest));
+    assert_eq!(edge(&tables(&t), &REQUEST, &wide), Err(Error::TooLarge));
+    assert_eq!(edge(&tables(&t), &Request { node_budget: u64::MAX, ..REQUEST }, &BODY), Ok(Some(Movement::Walk)));
 }
 
 /// The flat scene's records.
@@ -249,4 +293,98 @@ fn numbers() {
     assert_eq!(walkprint::jump_apex(0.0, 0.08), Ok(0.0));
     assert!((walkprint::jump_apex(0.42, 0.08).unwrap() - 1.25).abs() < 0.01);
     assert_eq!(walkprint::jump_apex(f32::INFINITY, 0.08), Err(Error::EndlessJump));
+}
+
+/// The numbers of a search, a walk-back of one record of zeros, and an edge that
+/// are handed records of so many bytes, over the flat tables a layer lower, so
+/// that a request of zeros would be answered.
+fn cut(window: usize, request: usize, body: usize) -> [u64; 3] {
+    let t = flat();
+    let [cells, permissions, shapes, boxes] = &t;
+    let words = |x: &[i32]| x.iter().flat_map(|n| n.to_le_bytes()).collect::<Vec<u8>>();
+    let floats = |x: &[f64]| x.iter().flat_map(|n| n.to_le_bytes()).collect::<Vec<u8>>();
+    let asked = raw::Asked {
+        window: &words(&[-2, -1, -2, 7, 4, 5, 9, 9])[..window],
+        tables: [cells, permissions, shapes, boxes],
+        request: &[0; 96][..request],
+        body: &floats(&[0.625, 1.75, 0.5, 9.0])[..body],
+    };
+    let (mut out, mut answer) = (pattern(40), [0; 32]);
+    let lent = raw::Lent { nodes: &mut [], front: &mut [], out: &mut out, answer: &mut answer };
+    let search = raw::find_walk_path(&asked, lent);
+    assert_eq!(out, pattern(40));
+    assert_eq!(answer, [search.to_le_bytes(), [0; 8], [0; 8], [0; 8]].concat()[..]);
+    [search, raw::walk_back(&asked, &[0; 40]), raw::edge(&asked, [0.0; 3], [0.0; 3])]
+}
+
+#[test]
+fn a_record_that_is_cut_short_makes_an_invalid_request() {
+    // Whole, and longer: budget 0, a route of one point, and an edge from it to itself.
+    for (window, request, body) in [(24, 88, 24), (25, 95, 31), (32, 96, 32)] {
+        assert_eq!(cut(window, request, body), [2, 0, 130]);
+    }
+    for short in 0..88 {
+        assert_eq!(cut(24, short, 24), [1, 110, 1]);
+    }
+    for short in 0..24 {
+        assert_eq!(cut(24, 88, short), [1, 110, 1]);
+        // Without its last size the window is none for these cells: 3 comes first.
+        assert_eq!(cut(short, 0, 0), [3, 3, 3]);
+    }
+}
+
+#[test]
+fn a_window_of_no_bytes_is_empty() {
+    let body: Vec<u8> = [0.625f64, 1.75, 0.5].iter().flat_map(|n| n.to_le_bytes()).collect();
+    let asked = raw::Asked { window: &[], tables: [&[]; 4], request: &[0; 88], body: &body };
+    assert_eq!(raw::walk_back(&asked, &[0; 40]), 110);
+    assert_eq!(raw::edge(&asked, [0.0; 3], [0.0; 3]), 1);
+}
+
+/// A mob's search with ends of so many bytes: 8 first, then the permissions are
+/// filled, then 3, then 1.
+#[test]
+fn ends_that_are_cut_short_make_an_invalid_request() {
+    let t = flat();
+    let window: Vec<u8> = [-2i32, 0, -2, 7, 4, 5].iter().flat_map(|n| n.to_le_bytes()).collect();
+    let body: Vec<u8> = [0.625f64, 1.75, 0.5].iter().flat_map(|n| n.to_le_bytes()).collect();
+    let ends: Vec<u8> = [REQUEST.start, REQUEST.goal].concat().iter().flat_map(|n| n.to_le_bytes()).collect();
+    let mob = |flags: &[u8], [w, e, b]: [usize; 3]| {
+        let asked = raw::Asked {
+            window: &window[..w],
+            tables: [&t[0], &[], &t[2], &t[3]],
+            request: &ends[..e],
+            body: &body[..b],
+        };
+        let mut permissions = [9, 9];
+        let [mut nodes, mut front, mut out] = [56, 24, 40].map(|n| pattern(n * (PATH_NODE_BUDGET + 1)));
+        let lent = raw::Lent { nodes: &mut nodes, front: &mut front, out: &mut out, answer: &mut [] };
+        let number = raw::find_path(0, 0.0, flags, &asked, &mut permissions, lent);
+        if number != 0 {
+            assert!(untouched(&[nodes, front, out]));
+        }
+        (number, permissions)
+    };
+    assert_eq!(mob(&[0, 0], [24, 48, 24]), (0, [7, 7]));
+    for short in 0..48 {
+        assert_eq!(mob(&[0, 0], [24, short, 24]), (1, [7, 7]));
+        assert_eq!(mob(&[0], [24, short, 24]), (8, [9, 9]));
+    }
+    for short in 0..24 {
+        assert_eq!(mob(&[0, 0], [24, 48, short]), (1, [7, 7]));
+        assert_eq!(mob(&[0, 0], [short, 48, 24]), (3, [7, 7]));
+    }
+}
+
+/// The header's number, this crate's own and the library's are one.
+#[test]
+fn one_version() {
+    let header = include_str!("../../../include/walkprint.h");
+    let part = |name: &str| -> u64 {
+        let line = header.lines().find_map(|line| line.strip_prefix(&format!("#define WALKPRINT_VERSION_{name} ")));
+        line.expect("the header has it").parse().expect("a number")
+    };
+    let parts = ["MAJOR", "MINOR", "PATCH"].map(part);
+    assert_eq!(parts.map(|n| n.to_string()).join("."), env!("CARGO_PKG_VERSION"));
+    assert_eq!(walkprint::version(), parts[0] * 1_000_000 + parts[1] * 1_000 + parts[2]);
 }

@@ -4,7 +4,7 @@ use mathlib.Core.List.{List, [], _∷_}
 use Rattle.fields.specs.Records.{withRecord}
 use Rattle.moves.specs.declared.answer.EdgeAnswer.{EdgeAnswer}
 use Rattle.moves.specs.declared.answer.EdgeAnswer.the-variants.{To, Nowhere}
-use Rattle.moves.specs.Moves.{movementNumber}
+use Rattle.moves.specs.Moves.{movedNumber, noneNumber}
 use Rattle.outcomes.specs.declared.Answer.{Answer}
 use Rattle.outcomes.specs.Outcomes.{outcomeNumber}
 use Rattle.outcomes.specs.declared.Path.{Path}
@@ -19,7 +19,7 @@ abbrev pub pathWritten : Path → List ℕ → List ℕ
 pathWritten (Searched a) old = answerWritten a old
 pathWritten BadTable old = old
 
--- an edge: its movement's number, or 4 where there is none
+-- an edge, in the numbers of `moves`: 130 Walk, 131 Step, 132 Jump, 133 Drop, or 110 where there is none
 abbrev pub edgeNumber : EdgeAnswer → ℕ
-edgeNumber (To w) = movementNumber (w .movement)
-edgeNumber Nowhere = 4
+edgeNumber (To w) = movedNumber (w .movement)
+edgeNumber Nowhere = noneNumber

@@ -31,15 +31,15 @@ pub fn put_path(p: Path, answer: &mut [u8]) -> u64
     }
 }
 
-// The number of an edge's movement, 0 to 3, or 4 where there is no edge.
+// The number of an edge: 130 Walk, 131 Step, 132 Jump, 133 Drop, or 110 where there is none.
 pub fn edge_number(a: EdgeAnswer) -> u64
     ensures { λ r. ⌜ r ≡ edgeNumber a ⌝ }
 {
     match a {
         EdgeAnswer::To(w) => {
             let movement = w.movement;
-            moves::movement_number(movement)
+            130 + moves::movement_number(movement)
         }
-        EdgeAnswer::Nowhere => 4,
+        EdgeAnswer::Nowhere => 110,
     }
 }

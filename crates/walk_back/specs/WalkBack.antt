@@ -1,7 +1,7 @@
 -- The walk-back's answer (01, Modules 5, and The graph, "Route"). Definitions only.
 use Prim.Native.Nat.{ℕ, _%_}
 use mathlib.Core.Path.{_≡_}
-use mathlib.Core.Bool.{Bool, true, not, _&&_, cond}
+use mathlib.Core.Bool.{Bool, true, _&&_, cond}
 use mathlib.Core.List.{List}
 use lib.Dec.{eqb}
 use lib.ListN.{length}
@@ -11,8 +11,8 @@ use Rattle.world.specs.declared.Body.{Body}
 use Rattle.world.specs.declared.Request.{Request}
 use Rattle.world.specs.declared.Window.{Window}
 use Rattle.world.specs.Space.{Space, space}
-use Rattle.tables.specs.BadWorld.{badWorld}
-use Rattle.request.specs.Request.{validRequest, sizesTooLarge}
+use Rattle.request.specs.Request.{validRequest}
+use Rattle.questions.specs.Questions.{judged}
 use Rattle.places.specs.Places.{inRange, standable}
 use Rattle.ends.specs.Ends.{endsGood}
 use Rattle.rooms.specs.declared.Feet.{Feet}
@@ -22,12 +22,12 @@ use Rattle.walk_back.specs.declared.Walked.{Walked}
 use Rattle.walk_back.specs.declared.Walked.the-variants.{Yes, No, BadWorld, TooLarge}
 use Rattle.listed.specs.Listed.{waypoints}
 
--- 01's numbers, and two of our own for yes and no
+-- 01's numbers; yes is 0, and no, for which 01 has none, is a number of our own
 abbrev pub walkedNumber : Walked → ℕ
 walkedNumber BadWorld = 3
 walkedNumber TooLarge = 4
-walkedNumber Yes = 10
-walkedNumber No = 11
+walkedNumber Yes = 0
+walkedNumber No = 110
 
 module _ (sp : Space) (r : Request) (body : Body) where
   -- The test of a list: no partial record, good ends, and from the start by graph steps to the goal, the last pair allowed to be a connector. An empty list
@@ -53,7 +53,4 @@ module _ (sp : Space) (r : Request) (body : Body) where
 -- "3; `valid_request` (else no); 4, the budget not read; then yes exactly for a list that is a route."
 unfoldable pub walked : Window → List ℕ → List ℕ → List ℕ → List ℕ → Request → Body → List ℕ → Walked
 walked w cells perms shapes boxes r body list =
-    cond (badWorld w cells shapes boxes) BadWorld
-    (cond (not (validRequest r body)) No
-    (cond (sizesTooLarge r body) TooLarge
-    (cond (isRouteList (space w cells perms shapes boxes) r body list) Yes No)))
+    judged w cells shapes boxes r body BadWorld No TooLarge (cond (isRouteList (space w cells perms shapes boxes) r body list) Yes No)

@@ -12,6 +12,7 @@ ghost use Rattle.steps.specs.Graph.{graph};
 ghost use Rattle.rooms.specs.Records.{waypointAt};
 ghost use Rattle.listed.specs.Listed.{entriesFrom};
 ghost use Rattle.walk_back.specs.WalkBack.{walkedNumber, walked};
+use questions::Judgement;
 use world::Body;
 use world::Request;
 use world::Window;
@@ -60,20 +61,18 @@ pub fn walk_back(
 ) -> Walked
     ensures { λ a. ⌜ walkedNumber a ≡ walkedNumber (walked w (now (cells .entry)) (now (perms .entry)) (now (shapes .entry)) (now (boxes .entry)) r body (now (list .entry))) ⌝ }
 {
-    if tables::bad_world(w, cells, shapes, boxes) {
-        return Walked::BadWorld;
+    match questions::judge(w, cells, shapes, boxes, r, body) {
+        Judgement::BadWorld => Walked::BadWorld,
+        Judgement::Invalid => Walked::No,
+        Judgement::TooLarge => Walked::TooLarge,
+        Judgement::Good => {
+            if listed::begins_at(r.start, list)
+                && ends::ends_good(w, cells, perms, shapes, boxes, r, body)
+                && leads(w, cells, perms, shapes, boxes, r, body, list)
+            {
+                return Walked::Yes;
+            }
+            Walked::No
+        }
     }
-    if !request::valid_request(r, body) {
-        return Walked::No;
-    }
-    if request::sizes_too_large(r, body) {
-        return Walked::TooLarge;
-    }
-    if listed::begins_at(r.start, list)
-        && ends::ends_good(w, cells, perms, shapes, boxes, r, body)
-        && leads(w, cells, perms, shapes, boxes, r, body, list)
-    {
-        return Walked::Yes;
-    }
-    Walked::No
 }

@@ -1,14 +1,18 @@
-// One edge of the graph (01, The graph), for comparing and timing.
+// One edge of the graph (01, The graph), judged as the walk-back judges: for comparing and timing.
 ghost use mathlib.Core.Path.{_≡_};
 ghost use Rattle.world.specs.Space.{space};
 ghost use Rattle.edges.specs.Edges.{edge};
-ghost use Rattle.c_records.specs.Records.{windowIn, requestIn, bodyIn};
+ghost use Rattle.questions.specs.Questions.{judged};
+ghost use Rattle.c_records.specs.Records.{windowIn, bodyIn};
+ghost use Rattle.c_records.specs.Asked.{asked};
 ghost use Rattle.c_answers.specs.Answers.{edgeNumber};
 use c_answers::edge_number;
 use c_records::question_in;
+use questions::Judgement;
 use world::Point;
 
-// The movement's number of the edge from one point to another, 0 to 3, or 4 where there is none.
+// 3 BadWorld; 1 for an invalid request; 4 TooLarge, the budget not read; then the number of the edge from one point to another: 130 Walk, 131 Step, 132 Jump,
+// 133 Drop, or 110 where there is none.
 #[no_mangle]
 pub extern "C" fn walkprint_edge(
     window: &[u8],
@@ -25,19 +29,26 @@ pub extern "C" fn walkprint_edge(
     to_y: f64,
     to_z: f64,
 ) -> u64
-    ensures { λ r. ⌜ r ≡ edgeNumber (edge (space (windowIn (now (window .entry))) (now (cells .entry)) (now (permissions .entry)) (now (shapes .entry)) (now (boxes .entry))) (requestIn (now (request .entry))) (bodyIn (now (body .entry))) (record { x = «from_x»; y = «from_y»; z = «from_z» }) (record { x = «to_x»; y = «to_y»; z = «to_z» })) ⌝ }
+    ensures { λ r. ⌜ r ≡ judged (windowIn (now (window .entry))) (now (cells .entry)) (now (shapes .entry)) (now (boxes .entry)) (asked (now (window .entry)) (now (request .entry)) (now (body .entry))) (bodyIn (now (body .entry))) 3 1 4 (edgeNumber (edge (space (windowIn (now (window .entry))) (now (cells .entry)) (now (permissions .entry)) (now (shapes .entry)) (now (boxes .entry))) (asked (now (window .entry)) (now (request .entry)) (now (body .entry))) (bodyIn (now (body .entry))) (record { x = «from_x»; y = «from_y»; z = «from_z» }) (record { x = «to_x»; y = «to_y»; z = «to_z» }))) ⌝ }
 {
     let q = question_in(window, request, body);
-    let from = Point {
-        x: from_x,
-        y: from_y,
-        z: from_z,
-    };
-    let to = Point {
-        x: to_x,
-        y: to_y,
-        z: to_z,
-    };
-    let a = edges::edge(q.window, cells, permissions, shapes, boxes, q.request, q.body, from, to);
-    edge_number(a)
+    match questions::judge(q.window, cells, shapes, boxes, q.request, q.body) {
+        Judgement::BadWorld => 3,
+        Judgement::Invalid => 1,
+        Judgement::TooLarge => 4,
+        Judgement::Good => {
+            let from = Point {
+                x: from_x,
+                y: from_y,
+                z: from_z,
+            };
+            let to = Point {
+                x: to_x,
+                y: to_y,
+                z: to_z,
+            };
+            let a = edges::edge(q.window, cells, permissions, shapes, boxes, q.request, q.body, from, to);
+            edge_number(a)
+        }
+    }
 }

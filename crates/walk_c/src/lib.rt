@@ -8,4 +8,5 @@ pub mod mob;
 pub mod path;
 pub mod roots;
 pub mod scenes;
+pub mod version;
 pub mod walked;

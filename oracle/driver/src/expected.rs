@@ -28,6 +28,20 @@ pub fn judge(call: &Call) -> Judged {
     Judged::Answered(original::find_walk_path(&scene))
 }
 
+/// What a question of a world, which keeps no nodes, is refused by: "3;
+/// `valid_request` (else 1); 4, the budget not read".
+pub fn refused(call: &Call) -> Option<u64> {
+    let mut unread = call.clone();
+    unread.request.node_budget = 0;
+    if scene::bad_world(&unread.tables) {
+        return Some(3);
+    }
+    if !original::valid_request(&unread.scene()) {
+        return Some(1);
+    }
+    scene::too_large(&unread.request, &unread.body).then_some(4)
+}
+
 /// The bytes of the rooms that a budget needs: nodes, frontier, output.
 pub fn needed(budget: u64) -> [usize; 3] {
     let budget = budget as usize;

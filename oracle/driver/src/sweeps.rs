@@ -9,6 +9,7 @@ use crate::counts::Counts;
 use crate::differ::differ;
 use crate::expected::{Expected, judge, needed};
 use crate::runner::{Makers, Mismatch, smallest};
+use crate::walkback::YES;
 
 /// Scenes that reach more points are passed over.
 const MOST: usize = 100;
@@ -70,7 +71,7 @@ fn one_budget(
     call.request.node_budget = budget;
     let answer = differ(&call, &judge(&call), needed(budget), seed + budget)?;
     counts.search(&answer);
-    if answer.number == 0 && call.walk_back(&answer.list) != 10 {
+    if answer.number == 0 && call.walk_back(&answer.list) != YES {
         return Err("a found list is no route".to_string());
     }
     if let Some(broken) = broken(&answer, budget, reach, before) {

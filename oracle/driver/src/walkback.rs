@@ -14,9 +14,9 @@ use crate::runner::{Makers, Mismatch, smallest};
 use crate::scenes::answered;
 use crate::tables::edited;
 
-/// The answers of ours that are no numbers of 01.
-const YES: u64 = 10;
-const NO: u64 = 11;
+/// Yes, and the number of our own for no.
+pub const YES: u64 = 0;
+pub const NO: u64 = 110;
 
 pub fn one_scene(makers: &Makers, number: u64, counts: &mut Counts) -> Result<(), Mismatch> {
     let Some((records, scene)) = makers.scene(number, counts) else {
@@ -35,7 +35,7 @@ pub fn one_scene(makers: &Makers, number: u64, counts: &mut Counts) -> Result<()
 }
 
 /// What the oracle says of a list: 3, 4, yes or no.
-fn must(call: &Call, list: &[u8]) -> u64 {
+pub fn must(call: &Call, list: &[u8]) -> u64 {
     if scene::bad_world(&call.tables) {
         return 3;
     }

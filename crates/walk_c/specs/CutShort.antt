@@ -1,0 +1,83 @@
+-- What the calls answer where a record is shorter than its struct: in 01's order 3 where the world is bad, for which the missing fields of a window read as 0, and
+-- else what an invalid request is answered with: 1, and 110, no, of the walk-back.
+use Prim.Native.Nat.{ℕ}
+use mathlib.Core.Path.{_≡_, refl, sym, ap}
+use mathlib.Core.Bool.{Bool, true, false, cond}
+use mathlib.Core.List.{List}
+use mathlib.Core.Option.{Option}
+use lib.Dec.{eqb}
+use lib.ListN.{length}
+use Rattle.world.specs.declared.Body.{Body}
+use Rattle.world.specs.declared.Point.{Point}
+use Rattle.world.specs.declared.Request.{Request}
+use Rattle.world.specs.declared.Window.{Window}
+use Rattle.policy.specs.declared.policy.WalkPolicy.{WalkPolicy}
+use Rattle.policy.specs.Permission.{permissionTable}
+use Rattle.tables.specs.BadWorld.{badWorld}
+use Rattle.request.specs.Request.{validRequest}
+use Rattle.questions.specs.Questions.{judged}
+use Rattle.outcomes.specs.declared.Outcome.{Outcome}
+use Rattle.outcomes.specs.Outcomes.{outcomeNumber, pathNumber}
+use Rattle.refusals.specs.Laws.{out-bad-world, out-invalid}
+use Rattle.search.specs.FindWalkPath.{answerBy, found}
+use Rattle.mob_request.specs.Asked.{requestOf}
+use Rattle.find_path.specs.FindPath.{unlessBad, path}
+use Rattle.outcomes.specs.declared.Path.the-variants.{Searched, BadTable}
+use Rattle.walk_back.specs.declared.Walked.the-variants.{BadWorld, No}
+use Rattle.walk_back.specs.WalkBack.{walked, walkedNumber}
+use Rattle.c_records.specs.Records.{windowIn, bodyIn}
+use Rattle.c_records.specs.Asked.{asked, startAsked, goalAsked}
+use Rattle.c_records.specs.Laws.{CutShort, cut-short-is-invalid, mob-cut-short-is-invalid}
+
+-- ---- what an invalid request is answered with
+
+module _ (w : Window) (cells perms shapes boxes : List ℕ) (r : Request) (body : Body) (invalid : validRequest r body ≡ false) where
+  search-invalid : (nodes front out : ℕ) → outcomeNumber (found w cells perms shapes boxes r body nodes front out .outcome) ≡ cond (badWorld w cells shapes boxes) 3 1
+  unfolding found
+  search-invalid nodes front out = go (badWorld w cells shapes boxes) refl
+    where
+      number : Option Outcome → ℕ
+      number o = outcomeNumber (answerBy w cells perms shapes boxes r body o .outcome)
+
+      go : (b : Bool) → badWorld w cells shapes boxes ≡ b → outcomeNumber (found w cells perms shapes boxes r body nodes front out .outcome) ≡ cond b 3 1
+      go true e = ap number (sym (out-bad-world w cells perms shapes boxes r body nodes front out e))
+      go false e = ap number (sym (out-invalid w cells perms shapes boxes r body nodes front out e invalid))
+
+  walk-back-invalid : (list : List ℕ) → walkedNumber (walked w cells perms shapes boxes r body list) ≡ cond (badWorld w cells shapes boxes) 3 110
+  unfolding walked
+  walk-back-invalid list = rw invalid (go (badWorld w cells shapes boxes))
+    where
+      go : (b : Bool) → walkedNumber (cond b BadWorld No) ≡ cond b 3 110
+      go true = refl
+      go false = refl
+
+-- ---- the calls
+
+module _ (window cells perms shapes boxes request body : List ℕ) (short : CutShort window request 88 body) where
+  pub search-cut-short : (nodes front out : ℕ) → outcomeNumber (found (windowIn window) cells perms shapes boxes (asked window request body) (bodyIn body) nodes front out .outcome) ≡ cond (badWorld (windowIn window) cells shapes boxes) 3 1
+  search-cut-short = search-invalid (windowIn window) cells perms shapes boxes (asked window request body) (bodyIn body) (cut-short-is-invalid window request body (bodyIn body) short)
+
+  pub walk-back-cut-short : (list : List ℕ) → walkedNumber (walked (windowIn window) cells perms shapes boxes (asked window request body) (bodyIn body) list) ≡ cond (badWorld (windowIn window) cells shapes boxes) 3 110
+  walk-back-cut-short = walk-back-invalid (windowIn window) cells perms shapes boxes (asked window request body) (bodyIn body) (cut-short-is-invalid window request body (bodyIn body) short)
+
+  pub edge-cut-short : (edge : ℕ) → judged (windowIn window) cells shapes boxes (asked window request body) (bodyIn body) 3 1 4 edge ≡ cond (badWorld (windowIn window) cells shapes boxes) 3 1
+  edge-cut-short edge = rw (cut-short-is-invalid window request body (bodyIn body) short)
+
+-- a mob's search: 8 first
+module _ (p : WalkPolicy) (wet : Bool) (flags window cells perms shapes boxes ends body : List ℕ) (short : CutShort window ends 48 body) where
+  pub mob-cut-short : (nodes front out : ℕ) → pathNumber (path p wet flags (windowIn window) cells perms shapes boxes (startAsked window ends body) (goalAsked window ends body) (bodyIn body) nodes front out) ≡ cond (eqb (length flags) (length perms)) (cond (badWorld (windowIn window) cells shapes boxes) 3 1) 8
+  unfolding path unlessBad
+  mob-cut-short nodes front out = go (eqb (length flags) (length perms))
+    where
+      start : Point
+      start = startAsked window ends body
+
+      goal : Point
+      goal = goalAsked window ends body
+
+      searched : outcomeNumber (found (windowIn window) cells (permissionTable p wet flags perms) shapes boxes (requestOf p start goal (bodyIn body)) (bodyIn body) nodes front out .outcome) ≡ cond (badWorld (windowIn window) cells shapes boxes) 3 1
+      searched = search-invalid (windowIn window) cells (permissionTable p wet flags perms) shapes boxes (requestOf p start goal (bodyIn body)) (bodyIn body) (mob-cut-short-is-invalid p window ends body (bodyIn body) short) nodes front out
+
+      go : (b : Bool) → pathNumber (cond b (Searched (found (windowIn window) cells (permissionTable p wet flags perms) shapes boxes (requestOf p start goal (bodyIn body)) (bodyIn body) nodes front out)) BadTable) ≡ cond b (cond (badWorld (windowIn window) cells shapes boxes) 3 1) 8
+      go true = searched
+      go false = refl
