@@ -1,5 +1,5 @@
--- No box top of a world is -0.0, whatever its tables hold, because a cell's position is never -0.0. So tops that are equal as numbers are one float, and it is all one
--- whether they are sorted by number or by the total order of floats.
+-- No box top of a world is -0.0, whatever its tables hold, because a cell's position is never -0.0. So tops that are equal as numbers are one float, and it is
+-- all one whether they are sorted by number or by the total order of floats.
 use Prim.Native.Nat.{ℕ, zero, suc, _+_, _*_}
 use mathlib.Core.Path.{_≡_, refl, sym, ap, _∙_}
 use mathlib.Core.Bool.{Bool, true, false, cond}

@@ -88,7 +88,7 @@ module _ {P L A B : Type 0} (𝓖 : Graph P L) (𝓟 : Policy P L A B) (𝓛 : G
       k = sound-counted 𝓖 𝓟 (final-sound 𝓖 𝓟 𝓛 𝓠 b)
 
   -- However the expansions are divided into lots: lots that together are as many as the budget end the search, and whenever lots end it, it is in the state
-  -- in which the whole search ends.
+  -- in which the whole search ends. (For No. 10 of 02.)
   pub every-division-ends-alike : (b : ℕ) (lots : List ℕ) → (b ≤ total lots → outcome 𝓖 𝓟 (runs 𝓖 𝓟 b lots (begin 𝓖 𝓟 b)) ≢ Searching)
       × (outcome 𝓖 𝓟 (runs 𝓖 𝓟 b lots (begin 𝓖 𝓟 b)) ≢ Searching → runs 𝓖 𝓟 b lots (begin 𝓖 𝓟 b) ≡ final 𝓖 𝓟 b)
   every-division-ends-alike b lots = rw (runs-run 𝓖 𝓟 b lots (begin 𝓖 𝓟 b)) (
@@ -96,7 +96,7 @@ module _ {P L A B : Type 0} (𝓖 : Graph P L) (𝓟 : Policy P L A B) (𝓛 : G
     λ n. done-final 𝓖 𝓟 𝓛 𝓠 b (total lots) (ended-done 𝓖 𝓟 _ n),
   )
 
--- ---- two policies over one graph
+-- ---- two policies over one graph (for No. 12 of 02)
 
 -- both found a list, or both are unreachable
 pub data Agree {W : Type 0} : Outcome W → Outcome W → Type 0 where
@@ -120,7 +120,7 @@ module _ {P L A B C D : Type 0} (𝓖 : Graph P L) (𝓛 : GraphLaws 𝓖) (𝓟
       go BudgetExceeded y e f p q = absurd (p refl)
       go Searching y e f p q = absurd (ends-within-budget 𝓖 𝓟 𝓛 𝓠 b .0 e)
 
--- ---- two guides by turns
+-- ---- two guides by turns (for No. 11 of 02)
 
 module _ {P L A B Q M C D : Type 0} (𝓖 : Graph P L) (𝓗 : Graph Q M) (𝓟 : Policy P L A B) (𝓡 : Policy Q M C D)
     (𝓛 : GraphLaws 𝓖) (𝓜 : GraphLaws 𝓗) (𝓠 : PolicyLaws 𝓟) (𝓢 : PolicyLaws 𝓡) where

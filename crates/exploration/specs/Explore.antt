@@ -149,7 +149,7 @@ module _ {P L A B : Type 0} (𝓖 : Graph P L) (𝓟 : Policy P L A B) where
   run b zero s = s
   run b (suc n) s = run b n (advance b s)
 
-  -- expansions divided into lots, one lot a call
+  -- expansions divided into lots, one lot a call (for No. 10 of 02)
   abbrev pub runs : ℕ → List ℕ → State P L A B → State P L A B
   runs b [] s = s
   runs b (n ∷ ns) s = runs b ns (run b n s)

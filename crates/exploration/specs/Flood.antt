@@ -1,4 +1,5 @@
--- The plainest policy: expand points in discovery order, with no costs. A node's note is whether it waits; nothing is re-parented.
+-- The plainest policy: expand points in discovery order, with no costs. A node's note is whether it waits; nothing is re-parented. For No. 12 of 02 and the
+-- worked example: nothing that 01 asks for rests on it.
 use mathlib.Core.Path.{refl}
 use mathlib.Core.Bool.{Bool, true, false}
 use mathlib.Core.Option.{none}

@@ -1,5 +1,5 @@
 -- Two guides that search by turns, each with its own graph, policy, budget and state: one expansion each, the first guide first, while both are searching;
--- when one ends the other goes on.
+-- when one ends the other goes on. For No. 11 of 02: nothing that 01 asks for rests on it.
 use mathlib.Core.Path.{_≡_}
 use mathlib.Core.Bool.{Bool, true, false}
 use mathlib.Core.Option.{Option, none, some}

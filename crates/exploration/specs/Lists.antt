@@ -5,6 +5,7 @@ use Prim.Native.Nat.{ℕ, zero, suc, _+_}
 -- the element at a place, counted from 0
 pub use lib.ListN.{getElem? as nth}
 
+-- the sum of lots (for No. 10 of 02)
 abbrev pub total : List ℕ → ℕ
 total [] = zero
 total (n ∷ ns) = n + total ns

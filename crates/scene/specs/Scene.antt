@@ -25,7 +25,8 @@ cellsAfter k w s t = cond (eqb k 3) (unfilled (cellCount (windowOf s)) t) (cond 
 unfoldable pub permsAfter : ℕ → List ℕ → List ℕ → List ℕ
 permsAfter k s t = cond (eqb k 5) (set t (numberOf s) (permissionOf s)) t
 
--- kind 4: "Unnamed lower shapes are empty; a first box is the sum of the counts before it", which is how many boxes there were
+-- kind 4: "Unnamed lower shapes are empty; a first box is the sum of the counts before it", which is how many boxes there were (`first-boxes-are-sums` of
+-- scene_good)
 unfoldable pub shapesAfter : ℕ → Counts → List ℕ → List ℕ → List ℕ
 shapesAfter k c s t = cond (eqb k 4) (withShape (c .shapes) (numberOf s) (c .boxes) (countAfter c (numberOf s)) t) t
 

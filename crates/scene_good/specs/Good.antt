@@ -1,5 +1,5 @@
--- A read scene's tables are never a BadWorld: what the records leave, at the sizes in use, is by every rule of `tables`; and the first box of each shape is the sum
--- of the counts before it. The records are bytes.
+-- A read scene's tables are never a BadWorld: what the records leave, at the sizes in use, is by every rule of `tables`; and the first box of each shape is the
+-- sum of the counts before it. The records are bytes.
 use Prim.Native.Nat.{ℕ, _+_, _-_, _*_, _/_, _^_, _≤_, _<_}
 use native.Mathlib.Omega.{arith}
 use mathlib.Core.Path.{_≡_, refl, sym, ap, _∙_}

@@ -11,7 +11,7 @@ use Rattle.rooms.specs.declared.Feet.{Feet}
 use Rattle.rooms.specs.declared.Label.{Label}
 use Rattle.rooms.specs.Waypoints.{canonicalWord}
 
--- a point is read with -0.0 as 0
+-- a point is read with -0.0 as 0, which changes neither its steps nor its connector (`steps-by-bits`, `connector-by-bits` of arrival)
 unfoldable pub coordinate : ℕ → Float
 coordinate n = ofBits binary64 (canonicalWord n)
 
