@@ -275,7 +275,9 @@ uint64_t walkprint_walk_back(
  * target, and `from` raised by the edge's lift, are in range of the request's
  * start, else it is 110 before a cell is looked at. So the way is at most
  * 2 * max_range long in x and in z. Only a Step or a Jump can begin further
- * down, and it ends at the first cell outside the window, which is solid.
+ * down, and it ends at the first cell outside the window, which is solid. An
+ * edge of the graph is at most 1.5 long in x and in z, and takes microseconds;
+ * across a whole range, over shapes of many boxes, it can be a minute and more.
  */
 uint64_t walkprint_edge(
     const uint8_t *window, size_t window_length,

@@ -180,6 +180,16 @@ fn edges() {
             assert_eq!(edge(point, from), Ok(None));
         }
     }
+    // However far down a step or a jump begins, its way ends with the window.
+    let steep = Request { step_height: 1.0e300, jump_height: 1.0e9, ..REQUEST };
+    for width in [0.625, 8.0, 1.0e-300] {
+        for y in [-1.0, -1.0e9, -1.0e300] {
+            for (x, step_height) in [(0.5, 0.5), (0.5, 1.0e300), (1.0, 0.5), (1.0, 1.0e300)] {
+                let body = Body { width, step_height, ..BODY };
+                assert_eq!(walkprint::edge(&tables(&t), &steep, &body, [x, y, 0.5], [1.5, 1.0, 0.5]), Ok(None));
+            }
+        }
+    }
 }
 
 /// Every movement: a floor with a block on it, from and to which one jumps,

@@ -16,7 +16,7 @@ use Rattle.world.specs.declared.Body.{Body}
 use Rattle.world.specs.declared.Point.{Point}
 use Rattle.world.specs.declared.Request.{Request}
 use Rattle.world.specs.declared.Window.{Window}
-use Rattle.world.specs.Space.{space, pointAt}
+use Rattle.world.specs.Space.{space}
 use Rattle.request.specs.Request.{validRequest}
 use Rattle.steps.specs.Graph.{graph}
 use Rattle.rooms.specs.declared.Feet.{Feet}
@@ -37,11 +37,12 @@ use Rattle.scene_state.specs.Answers.{given, refused}
 use Rattle.scene.specs.Scene.{Tables, readAll}
 use Rattle.print_lines.specs.declared.Told.{Told}
 use Rattle.print.specs.Print.{refusal, toldOf, answered, outOf, told}
-use Rattle.c_records.specs.Records.{windowIn, requestIn, bodyIn, policyIn, inWater}
+use Rattle.c_records.specs.Records.{windowIn, bodyIn, policyIn, inWater}
+use Rattle.c_records.specs.Asked.{asked, startAsked, goalAsked}
 use Rattle.claims.specs.Words.{InF64, keptPoints, LowestFirst}
 use Rattle.claims.specs.Claims as claims
 use Rattle.byte_claims.specs.Numbers.{is-found, is-unreachable}
-use Rattle.byte_claims.specs.Requests.{point-fits, request-in-f64, mob-request-in-f64, Sound, scene-in-f64}
+use Rattle.byte_claims.specs.Requests.{asked-in-f64, end-fits, mob-request-in-f64, Sound, scene-in-f64}
 
 -- ---- what is said of a call
 
@@ -75,12 +76,12 @@ module _ (w : Window) (cells perms shapes boxes : List ℕ) (r : Request) (body 
 -- ---- `walkprint_find_walk_path`: every argument is bytes
 
 module _ (window cells perms shapes boxes request body nodes front out : List ℕ) where
-  -- the request that its records say
+  -- the request that its records ask
   abbrev question : Request
-  question = requestIn request
+  question = asked window request body
 
   question-in-f64 : InF64 question
-  question-in-f64 = request-in-f64 request
+  question-in-f64 = asked-in-f64 window request body
 
   pub through-c : Claimed (windowIn window) cells perms shapes boxes question (bodyIn body) nodes front out
   through-c = claimed (windowIn window) cells perms shapes boxes question (bodyIn body) nodes front out question-in-f64
@@ -91,22 +92,22 @@ module _ (bits pattern : ℕ) (flags window cells perms shapes boxes ends body n
   abbrev policy : WalkPolicy
   policy = policyIn bits (ofBits binary64 pattern)
 
-  -- the permission table that the call fills, and the two ends that its records say
+  -- the permission table that the call fills, and the two ends that its records ask
   abbrev filled : List ℕ
   filled = permissionTable policy (inWater bits) flags perms
 
   abbrev start : Point
-  start = pointAt ends 0
+  start = startAsked window ends body
 
   abbrev goal : Point
-  goal = pointAt ends 24
+  goal = goalAsked window ends body
 
   abbrev mob : Request
   mob = requestOf policy start goal (bodyIn body)
 
   mob-in-f64 : InF64 mob
   unfolding policyIn
-  mob-in-f64 = mob-request-in-f64 policy start goal (bodyIn body) (ofBits-fits binary64 pattern) (point-fits ends 0) (point-fits ends 24)
+  mob-in-f64 = mob-request-in-f64 policy start goal (bodyIn body) (ofBits-fits binary64 pattern) (end-fits _ ends 0) (end-fits _ ends 24)
 
   pub through-c-of-a-mob : Claimed (windowIn window) cells filled shapes boxes mob (bodyIn body) nodes front out
   through-c-of-a-mob = claimed (windowIn window) cells filled shapes boxes mob (bodyIn body) nodes front out mob-in-f64

@@ -25,6 +25,7 @@ use Rattle.scene_state.specs.Answers.{Answer, given, refused, begun, ended}
 use Rattle.scene_step.specs.Next.{requestAfter, next, goodIn}
 use Rattle.scene.specs.Scene.{Tables, tablesRead, Read, readFrom, onward, readAll}
 use Rattle.c_records.specs.Records.{requestIn}
+use Rattle.c_records.specs.Asked.{allWhole, noPoint, noRequest, asked, endIn}
 use Rattle.claims.specs.Words.{InF64}
 
 -- ---- the f64s of bytes
@@ -53,9 +54,22 @@ either P false x y f g = g
 
 -- ---- a C caller's
 
-pub request-in-f64 : (s : List ℕ) → InF64 (requestIn s)
+request-in-f64 : (s : List ℕ) → InF64 (requestIn s)
 unfolding requestIn
 request-in-f64 s = by-ends _ (point-fits s 0) (point-fits s 24) (field-fits s 64)
+
+-- NaN is an f64 too, and so it is of records that are cut short
+nowhere-fits : PointFits noPoint
+unfolding noPoint
+nowhere-fits = record { x = tt; y = tt; z = tt }
+
+pub asked-in-f64 : (window request body : List ℕ) → InF64 (asked window request body)
+unfolding asked noRequest nought
+asked-in-f64 window request body = either InF64 (allWhole window request 88 body) _ _ (request-in-f64 request) (by-ends _ nowhere-fits nowhere-fits tt)
+
+pub end-fits : (whole : Bool) (ends : List ℕ) (at : ℕ) → PointFits (endIn whole ends at)
+unfolding endIn
+end-fits whole ends at = either PointFits whole _ _ (point-fits ends at) nowhere-fits
 
 -- ---- a mob's, between two points
 

@@ -1,4 +1,5 @@
--- The records that a call from another language is handed (01, "Tables, little-endian records"): what stands where. A field past a record's end is 0.
+-- The records that a call from another language is handed (01, "Tables, little-endian records"): what stands where. A field past a record's end is 0; what is
+-- asked by a record that is cut short is said in Asked.
 use Prim.Native.Nat.{ℕ}
 use mathlib.Core.Bool.{Bool}
 use mathlib.Core.List.{List}

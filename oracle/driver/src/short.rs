@@ -103,7 +103,10 @@ impl Handed {
     }
 
     fn lengths(&self) -> String {
-        format!("records of {:?} bytes", self.records.each_ref().map(Vec::len))
+        format!(
+            "records of {:?} bytes",
+            self.records.each_ref().map(Vec::len)
+        )
     }
 }
 
