@@ -39,7 +39,7 @@ pub record PointFits (p : Point) : Type 0 where
   pub y : T (fits binary64 (p .y))
   pub z : T (fits binary64 (p .z))
 
-pub point-fits : (s : List ℕ) (at : ℕ) → PointFits (pointAt s at)
+point-fits : (s : List ℕ) (at : ℕ) → PointFits (pointAt s at)
 unfolding pointAt
 point-fits s at = record { x = field-fits s _; y = field-fits s _; z = field-fits s _ }
 
@@ -64,8 +64,8 @@ unfolding noPoint
 nowhere-fits = record { x = tt; y = tt; z = tt }
 
 pub asked-in-f64 : (window request body : List ℕ) → InF64 (asked window request body)
-unfolding asked noRequest nought
-asked-in-f64 window request body = either InF64 (allWhole window request 88 body) _ _ (request-in-f64 request) (by-ends _ nowhere-fits nowhere-fits tt)
+unfolding asked noRequest
+asked-in-f64 window request body = either InF64 (allWhole window request 88 body) _ _ (request-in-f64 request) (by-ends _ nowhere-fits nowhere-fits (ofBits-fits binary64 0))
 
 pub end-fits : (whole : Bool) (ends : List ℕ) (at : ℕ) → PointFits (endIn whole ends at)
 unfolding endIn
