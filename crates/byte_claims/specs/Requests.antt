@@ -73,7 +73,8 @@ end-fits whole ends at = either PointFits whole _ _ (point-fits ends at) nowhere
 
 -- ---- a mob's, between two points
 
-pub mob-request-in-f64 : (p : WalkPolicy) (start goal : Point) (body : Body) → T (fits binary64 (p .«jump_height»)) → PointFits start → PointFits goal → InF64 (requestOf p start goal body)
+pub mob-request-in-f64 : (p : WalkPolicy) (start goal : Point) (body : Body) → T (fits binary64 (p .«jump_height»)) → PointFits start → PointFits goal →
+    InF64 (requestOf p start goal body)
 unfolding requestOf
 mob-request-in-f64 p start goal body j s g = by-ends _ s g (cond-fits binary64 (p .«can_jump») _ _ j (ofInt-fits binary64 (pos 0)))
 
@@ -89,7 +90,9 @@ after-in-f64 k r s f =
 
 empty-in-f64 : InF64 (empty .request)
 unfolding empty
-empty-in-f64 = by-ends _ (record { x = ofBits-fits binary64 0; y = ofBits-fits binary64 0; z = ofBits-fits binary64 0 }) (record { x = ofBits-fits binary64 0; y = ofBits-fits binary64 0; z = ofBits-fits binary64 0 }) (ofBits-fits binary64 0)
+empty-in-f64 =
+    let zero = ofBits-fits binary64 0 in
+    record { start-x = zero; start-y = zero; start-z = zero; goal-x = zero; goal-y = zero; goal-z = zero; jump = zero }
 
 -- the reader's answer: a scene whose request is one, or a refusal with a number of its own
 abbrev pub Sound : Answer Scene → Type 0
@@ -107,7 +110,9 @@ ended-sound r f = go (ltb (r .kind) 3)
 from-sound : (r : Reading) (t : Tables) (ss : List (List ℕ)) → InF64 (r .request) → Sound (readFrom r t ss .answer)
 unfolding readFrom next
 from-sound r t [] f = ended-sound r f
-from-sound r t (s ∷ ss) f = go (readFrom (next (kindOf s) r s) (tablesRead r s t) ss) (goodIn r s) (from-sound (next (kindOf s) r s) (tablesRead r s t) ss (after-in-f64 (kindOf s) (r .request) s f))
+from-sound r t (s ∷ ss) f =
+    go (readFrom (next (kindOf s) r s) (tablesRead r s t) ss) (goodIn r s)
+    (from-sound (next (kindOf s) r s) (tablesRead r s t) ss (after-in-f64 (kindOf s) (r .request) s f))
   where
     go : (x : Read) (b : Bool) → Sound (x .answer) → Sound (cond b x (record { answer = refused 7 (r .number); tables = t }) .answer)
     go x true h = h

@@ -68,6 +68,10 @@ module _ (w : Window) (cells perms shapes boxes : List ℕ) where
     abbrev pub list : List (Feet × Label)
     list = listIn (endOf sp r body)
 
+    -- what it leaves in the node room
+    abbrev room : List ℕ
+    room = nodesAfter w cells perms shapes boxes r body nodes front out
+
     abbrev full : Bool
     full = noRoom (r .«node_budget») (length nodes) (length front) (length out)
 
@@ -120,6 +124,7 @@ module _ (w : Window) (cells perms shapes boxes : List ℕ) where
 
     -- ---- Unreachable
 
+    -- with a valid request and good ends, or where nodes were kept, it is the search that says so
     of-search : answer .outcome ≡ Unreachable → validRequest r body ≡ true → endsGood sp r body ≡ true → (came ≡ Unreachable) × (without ≡ none)
     of-search e v g =
         let s = on-unreachable came bad (tooLarge r body) full nought (rw (v, g) at (sym by-order ∙ e)) in
@@ -130,31 +135,32 @@ module _ (w : Window) (cells perms shapes boxes : List ℕ) where
     unfolding found
     searched e z = go without refl e z
       where
-        go : (o : Option Outcome) → without ≡ o → answerBy w cells perms shapes boxes r body o .outcome ≡ Unreachable → answerBy w cells perms shapes boxes r body o .retained ≢ 0 →
-            (came ≡ Unreachable) × (without ≡ none)
+        go : (o : Option Outcome) → without ≡ o → let a = answerBy w cells perms shapes boxes r body o in a .outcome ≡ Unreachable → a .retained ≢ 0 → (came ≡ Unreachable) × (without ≡ none)
         go (some o) i e z = absurd (z refl)
         go none i e z = (e, i)
 
     pub none-is-route : answer .outcome ≡ Unreachable → (t : List (Feet × Label)) → IsRoute sp r body t → ⊥
-    none-is-route e t l = search.unreachable-route sp r body (of-search e (l .valid) (ends-all sp r body (l .goal-in-range) (l .start-standable) (l .goal-standable)) .0) t (l .way)
+    none-is-route e t l =
+        let g = ends-all sp r body (l .goal-in-range) (l .start-standable) (l .goal-standable) in
+        search.unreachable-route sp r body (of-search e (l .valid) g .0) t (l .way)
 
-    -- the points of the nodes that it kept, as the node room that it leaves has them
+    -- the points of the nodes that it kept are those of the node room that it leaves, and cover
     retained-is : without ≡ none → answer .retained ≡ length (ended sp r body .nodes)
     unfolding found
     retained-is n = rw n
 
-    room-is : without ≡ none → nodesAfter w cells perms shapes boxes r body nodes front out ≡ nodeRoom nodes (ended sp r body .nodes)
+    room-is : without ≡ none → room ≡ nodeRoom nodes (ended sp r body .nodes)
     unfolding nodesAfter
     room-is n = rw n
 
-    points-are : InF64 r → without ≡ none → keptPoints (answer .retained) (nodesAfter w cells perms shapes boxes r body nodes front out) ≡ points (ended sp r body)
+    points-are : InF64 r → without ≡ none → keptPoints (answer .retained) room ≡ points (ended sp r body)
     unfolding ended
     points-are f n =
         let small = points-small sp (space-tops w cells perms shapes boxes) r body f (r .«node_budget») (r .«node_budget») in
         rw (retained-is n, room-is n) (room-back (λ x. x .feet) (λ x. x .point) (ended sp r body .nodes) _ (λ k x i. point-held x (small k x i)))
 
     pub points-cover : InF64 r → answer .outcome ≡ Unreachable → answer .retained ≢ 0 →
-        (p : Feet) → Reach (graph sp r body) p → has (λ x. samePoint x p) (keptPoints (answer .retained) (nodesAfter w cells perms shapes boxes r body nodes front out)) ≡ true
+        (p : Feet) → Reach (graph sp r body) p → has (λ x. samePoint x p) (keptPoints (answer .retained) room) ≡ true
     points-cover f e z p h = let s = searched e z in rw (points-are f (s .1)) (search.kept-all sp r body (s .0) p h)
 
     points-many : without ≡ none → length (points (ended sp r body)) ≡ answer .retained
@@ -167,7 +173,9 @@ module _ (w : Window) (cells perms shapes boxes : List ℕ) where
         go : (v : Bool) → validRequest r body ≡ v → (g : Bool) → endsGood sp r body ≡ g → (validRequest r body ≡ false) ⊎ (endsGood sp r body ≡ false)
         go false p g q = inl p
         go true p false q = inr q
-        go true p true q = let s = of-search e p q in absurd (search.covers-some sp r body (points (ended sp r body)) (search.kept-all sp r body (s .0)) (points-many (s .1) ∙ z))
+        go true p true q =
+            let s = of-search e p q in
+            absurd (search.covers-some sp r body (points (ended sp r body)) (search.kept-all sp r body (s .0)) (points-many (s .1) ∙ z))
 
     -- ---- BudgetExceeded
 
@@ -221,17 +229,17 @@ module _ (w : Window) (cells perms shapes boxes : List ℕ) where
     unfolding found
     closed-counted n = rw n (search.closings-counted sp r body)
 
-    words-are : without ≡ none → closedWords (answer .retained) (nodesAfter w cells perms shapes boxes r body nodes front out) ≡ map (λ x. cond (x .closed) 1 0) (ended sp r body .nodes)
+    words-are : without ≡ none → closedWords (answer .retained) room ≡ map (λ x. cond (x .closed) 1 0) (ended sp r body .nodes)
     unfolding ended
     words-are n =
         rw (retained-is n, room-is n)
         (room-back (λ x. x .closed) (λ x. cond (x .closed) 1 0) (ended sp r body .nodes) _ (marks-held (graph sp r body) (feetOf (r .goal)) (r .«node_budget») (r .«node_budget»)))
 
-    pub closed-in-room : answer .closed ≡ count (λ c. eqb c 1) (closedWords (answer .retained) (nodesAfter w cells perms shapes boxes r body nodes front out))
+    pub closed-in-room : answer .closed ≡ count (λ c. eqb c 1) (closedWords (answer .retained) room)
     unfolding found
     closed-in-room = go without refl
       where
-        go : (o : Option Outcome) → without ≡ o → answer .closed ≡ count (λ c. eqb c 1) (closedWords (answer .retained) (nodesAfter w cells perms shapes boxes r body nodes front out))
+        go : (o : Option Outcome) → without ≡ o → answer .closed ≡ count (λ c. eqb c 1) (closedWords (answer .retained) room)
         go (some o) i = rw i
         go none i = closed-counted i ∙ sym (words-counted (ended sp r body .nodes)) ∙ ap (count (λ c. eqb c 1)) (sym (words-are i))
 
@@ -272,10 +280,12 @@ module _ (w : Window) (cells perms shapes boxes : List ℕ) where
         let o = on-exceeded came′ bad (validRequest r body) large′ full′ (endsGood sp r body) (eqb b 0) (sym more-by-order ∙ x) in
         let s = of-search r body nodes front out e (o .0) (o .1) in
         let K : List Feet = points (ended sp r body) in
-        not-exceeded (withBudget b r) body nodes′ front′ out′ K (search.covers-still sp r body b K (search.kept-all sp r body (s .0))) (omega (arith, points-many r body nodes front out (s .1))) x
+        let cover = search.covers-still sp r body b K (search.kept-all sp r body (s .0)) in
+        not-exceeded (withBudget b r) body nodes′ front′ out′ K cover (omega (arith, points-many r body nodes front out (s .1))) x
 
     -- and fewer are not
-    pub fewer-exceeded : answer r body nodes front out .outcome ≡ Unreachable → b < answer r body nodes front out .retained → outcomeNumber (more .outcome) < 3 → more .outcome ≡ BudgetExceeded
+    pub fewer-exceeded : answer r body nodes front out .outcome ≡ Unreachable → b < answer r body nodes front out .retained →
+        outcomeNumber (more .outcome) < 3 → more .outcome ≡ BudgetExceeded
     fewer-exceeded e h n = go (more .outcome) refl
       where
         s : (came r body nodes front out ≡ Unreachable) × (without r body nodes front out ≡ none)
@@ -288,7 +298,9 @@ module _ (w : Window) (cells perms shapes boxes : List ℕ) where
         below = omega (arith, retained-within r body nodes front out)
 
         go : (x : Outcome) → more .outcome ≡ x → more .outcome ≡ BudgetExceeded
-        go Found i = absurd (let z = search.found-again sp (withBudget b r) body (r .«node_budget») below (begun (withBudget b r) body nodes′ front′ out′ i .1) in let q : _≡_ {A = ℕ} 0 1 = cc (z, s .0) in omega arith)
+        go Found i =
+            let z = search.found-again sp (withBudget b r) body (r .«node_budget») below (begun (withBudget b r) body nodes′ front′ out′ i .1) in
+            absurd (let q : _≡_ {A = ℕ} 0 1 = cc (z, s .0) in omega arith)
         go Unreachable i =
             let u = of-search (withBudget b r) body nodes′ front′ out′ i (valid-budget b r body ∙ o .valid) (ends-budget b sp r body ∙ o .ends) in
             absurd (omega (arith, search.kept-within sp r body b below (u .0), retained-is r body nodes front out (s .1)))
