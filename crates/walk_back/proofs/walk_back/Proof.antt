@@ -6,7 +6,6 @@ use denote.Ref.{now}
 use Rattle.world.specs.Space.{Space, space}
 use Rattle.questions.specs.declared.Judgement.{Judgement}
 use Rattle.questions.specs.Laws.{saidOf, said}
-use Rattle.walk_back.specs.declared.Walked.{Walked}
 use Rattle.walk_back.specs.declared.Walked.the-variants.{Yes, No, BadWorld, TooLarge}
 use Rattle.walk_back.specs.WalkBack.{walkedNumber, isRouteList, walked}
 use Rattle.walk_back.specs.Laws.{route-is}
