@@ -60,7 +60,7 @@ request-in-f64 s = by-ends _ (point-fits s 0) (point-fits s 24) (field-fits s 64
 
 -- NaN is an f64 too, and so it is of records that are cut short
 nowhere-fits : PointFits noPoint
-unfolding noPoint
+unfolding noPoint fits
 nowhere-fits = record { x = tt; y = tt; z = tt }
 
 pub asked-in-f64 : (window request body : List ℕ) → InF64 (asked window request body)

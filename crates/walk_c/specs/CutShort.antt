@@ -1,10 +1,10 @@
 -- What the calls answer where a record is shorter than its struct: in 01's order 3 where the world is bad, for which the missing fields of a window read as 0, and
 -- else what an invalid request is answered with: 1, and 110, no, of the walk-back.
 use Prim.Native.Nat.{ℕ}
-use mathlib.Core.Path.{_≡_, refl, sym, ap}
+use mathlib.Core.Path.{_≡_, refl}
 use mathlib.Core.Bool.{Bool, true, false, cond}
 use mathlib.Core.List.{List}
-use mathlib.Core.Option.{Option}
+use mathlib.Core.Option.{some}
 use lib.Dec.{eqb}
 use lib.ListN.{length}
 use Rattle.world.specs.declared.Body.{Body}
@@ -16,9 +16,9 @@ use Rattle.policy.specs.Permission.{permissionTable}
 use Rattle.tables.specs.BadWorld.{badWorld}
 use Rattle.request.specs.Request.{validRequest}
 use Rattle.questions.specs.Questions.{judged}
-use Rattle.outcomes.specs.declared.Outcome.{Outcome}
+use Rattle.outcomes.specs.declared.Outcome.the-variants as outcome
 use Rattle.outcomes.specs.Outcomes.{outcomeNumber, pathNumber}
-use Rattle.refusals.specs.Laws.{out-bad-world, out-invalid}
+use Rattle.refusals.specs.Refusals.{withoutSearch}
 use Rattle.search.specs.FindWalkPath.{answerBy, found}
 use Rattle.mob_request.specs.Asked.{requestOf}
 use Rattle.find_path.specs.FindPath.{unlessBad, path}
@@ -33,15 +33,12 @@ use Rattle.c_records.specs.Laws.{CutShort, cut-short-is-invalid, mob-cut-short-
 
 module _ (w : Window) (cells perms shapes boxes : List ℕ) (r : Request) (body : Body) (invalid : validRequest r body ≡ false) where
   search-invalid : (nodes front out : ℕ) → outcomeNumber (found w cells perms shapes boxes r body nodes front out .outcome) ≡ cond (badWorld w cells shapes boxes) 3 1
-  unfolding found
-  search-invalid nodes front out = go (badWorld w cells shapes boxes) refl
+  unfolding found withoutSearch
+  search-invalid nodes front out = rw invalid (go (badWorld w cells shapes boxes))
     where
-      number : Option Outcome → ℕ
-      number o = outcomeNumber (answerBy w cells perms shapes boxes r body o .outcome)
-
-      go : (b : Bool) → badWorld w cells shapes boxes ≡ b → outcomeNumber (found w cells perms shapes boxes r body nodes front out .outcome) ≡ cond b 3 1
-      go true e = ap number (sym (out-bad-world w cells perms shapes boxes r body nodes front out e))
-      go false e = ap number (sym (out-invalid w cells perms shapes boxes r body nodes front out e invalid))
+      go : (b : Bool) → outcomeNumber (answerBy w cells perms shapes boxes r body (cond b (some outcome.BadWorld) (some outcome.Unreachable)) .outcome) ≡ cond b 3 1
+      go true = refl
+      go false = refl
 
   walk-back-invalid : (list : List ℕ) → walkedNumber (walked w cells perms shapes boxes r body list) ≡ cond (badWorld w cells shapes boxes) 3 110
   unfolding walked
