@@ -18,7 +18,7 @@ use Rattle.request.specs.Request.{validRequest, sizesTooLarge, tooLarge}
 use Rattle.ends.specs.Ends.{endsGood}
 use Rattle.outcomes.specs.declared.Outcome.{Outcome}
 use Rattle.outcomes.specs.declared.Outcome.the-variants.{Unreachable, BudgetExceeded, BadWorld, TooLarge, NoRoom}
-use Rattle.refusals.specs.Refusals.{noRoom, withoutSearch, numberIf}
+use Rattle.refusals.specs.Refusals.{noRoom, withoutSearch}
 
 -- ---- rooms: the code divides, 01's numbers multiply
 
@@ -63,30 +63,29 @@ module _ (w : Window) (cells perms shapes boxes : List ℕ) (r : Request) (body 
 
   -- ---- the ways out, in 01's order, each under the tests so far
 
-  pub out-bad-world : bad ≡ true → some 3 ≡ numberIf way
+  pub out-bad-world : bad ≡ true → some BadWorld ≡ way
   unfolding withoutSearch
   out-bad-world b = rw b
 
-  pub out-invalid : bad ≡ false → valid ≡ false → some 1 ≡ numberIf way
+  pub out-invalid : bad ≡ false → valid ≡ false → some Unreachable ≡ way
   unfolding withoutSearch
   out-invalid b v = rw (b, v)
 
-  pub out-too-large : bad ≡ false → valid ≡ true → large ≡ true → some 4 ≡ numberIf way
+  pub out-too-large : bad ≡ false → valid ≡ true → large ≡ true → some TooLarge ≡ way
   unfolding withoutSearch
   out-too-large b v l = rw (b, v, l)
 
-  pub out-no-room : bad ≡ false → valid ≡ true → large ≡ false → short ≡ true → some 5 ≡ numberIf way
+  pub out-no-room : bad ≡ false → valid ≡ true → large ≡ false → short ≡ true → some NoRoom ≡ way
   unfolding withoutSearch
   out-no-room b v l s = rw (b, v, l, s)
 
-  pub out-bad-end : bad ≡ false → valid ≡ true → large ≡ false → short ≡ false → good ≡ false → some 1 ≡ numberIf way
+  pub out-bad-end : bad ≡ false → valid ≡ true → large ≡ false → short ≡ false → good ≡ false → some Unreachable ≡ way
   unfolding withoutSearch
   out-bad-end b v l s g = rw (b, v, l, s, g)
 
-  pub out-last : bad ≡ false → valid ≡ true → large ≡ false → short ≡ false → good ≡ true → (nothing : Bool) → eqb (r .«node_budget») 0 ≡ nothing → cond nothing (some 2) none ≡ numberIf way
+  pub out-last : bad ≡ false → valid ≡ true → large ≡ false → short ≡ false → good ≡ true → (nothing : Bool) → eqb (r .«node_budget») 0 ≡ nothing → cond nothing (some BudgetExceeded) none ≡ way
   unfolding withoutSearch
-  out-last b v l s g true z = rw (b, v, l, s, g, z)
-  out-last b v l s g false z = rw (b, v, l, s, g, z)
+  out-last b v l s g nothing z = rw (b, v, l, s, g, z)
 
   -- ---- and back: a search that begins
 
