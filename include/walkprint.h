@@ -1,7 +1,7 @@
 /*
  * walkprint for C: a walking search for block worlds whose answers can be
  * believed. Every function below is proved to meet its contract, which
- * docs/CONTRACTS.md states (walk_c); this header says the same in words.
+ * docs/contracts/c.md states; this header says the same in words.
  *
  * Link libwalk_c.a from the folder that `tools/library` prints (README.md,
  * "From C and Rust").
@@ -45,7 +45,8 @@ uint64_t walkprint_version(void);
 
 /*
  * 0 to 13 belong to the papers that walkprint is built to (README.md): 01's are
- * 0 to 9, and further ones are 02's. An answer for which they have no number
+ * 0 to 9, and further ones are 02's. 0 says that the call did what was asked:
+ * found, yes, read, the height, the root. An answer for which they have no number
  * has one of this interface's own, from 100 on. Each of those stands once in
  * this header, whatever the call.
  */
@@ -274,7 +275,7 @@ uint64_t walkprint_walk_back(
  * The points are not judged: NaN and infinities too are answered. An edge's
  * target, and `from` raised by the edge's lift, are in range of the request's
  * start, else it is 110 before a cell is looked at. So the way is at most
- * 2 * max_range long in x and in z. Only a Step or a Jump can begin further
+ * 2 * max_range + 2.0e-7 long in x and in z. Only a Step or a Jump can begin further
  * down, and it ends at the first cell outside the window, which is solid. An
  * edge of the graph is at most 1.5 long in x and in z, and takes microseconds;
  * across a whole range, over shapes of many boxes, it can be a minute and more.

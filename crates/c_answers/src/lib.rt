@@ -1,8 +1,7 @@
 // What a search answers, for a call from another language: its number (01, "Numbers given back"), and a record of 32 bytes in a slice that the caller lends;
 // and the number of an edge. `walk_c` has the calls.
 ghost use mathlib.Core.Path.{_≡_};
-ghost use Rattle.outcomes.specs.Outcomes.{outcomeNumber};
-ghost use Rattle.outcomes.specs.Outcomes.{pathNumber};
+ghost use Rattle.outcomes.specs.Outcomes.{outcomeNumber, pathNumber};
 ghost use Rattle.c_answers.specs.Answers.{answerWritten, pathWritten, edgeNumber};
 use moves::EdgeAnswer;
 use outcomes::Answer;

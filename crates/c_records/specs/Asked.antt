@@ -1,4 +1,4 @@
--- What a call is asked: the values of the records that it is handed. "Where the window, request, ends or body record is shorter than its struct, the request is
+-- What a call is asked: the values of the records that it is handed. "Where a window, request, ends or body record is shorter than its struct, the request is
 -- an invalid one" (docs/DECISIONS.md): both its ends are nowhere. That this is invalid is `cut-short-is-invalid` and `mob-cut-short-is-invalid` of Laws.
 use Prim.Native.Nat.{ℕ}
 use mathlib.Core.Bool.{Bool, _&&_, cond}

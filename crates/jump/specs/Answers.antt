@@ -1,4 +1,4 @@
--- The number and the value by which an answer is known, and that they tell answers apart. 6 is 01's refusal EndlessJump; the other number is our own.
+-- The number and the value by which an answer is known, and that they tell answers apart. 6 is 01's refusal EndlessJump; 0 says that nothing was refused.
 use mathlib.Core.Path.{_≡_, refl, ap}
 use mathlib.Core.List.{List, [], _∷_}
 use Prim.Native.Nat.{ℕ}

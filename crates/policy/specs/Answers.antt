@@ -1,4 +1,4 @@
--- The number by which each answer is known. 8 is 01's refusal BadTable; the other numbers are our own.
+-- The number by which each answer is known. 8 is 01's refusal BadTable, and 0 says that nothing was refused; passages are told apart by 0, 1 and 2, which no call gives back.
 use Prim.Native.Nat.{ℕ}
 use Rattle.policy.specs.declared.doors.Passage.{Passage}
 use Rattle.policy.specs.declared.doors.Passage.the-variants.{Shape, Through, Wall}
