@@ -1,7 +1,8 @@
 /* Times the proved square root against the processor's own, in one run: in each of 101 rounds the same
-   numbers go through both, one after the other. The medians are printed with their ratio, and the
-   fastest rounds, which other work on the machine disturbed least. Each answer is compared with the
-   processor's too. bench/root builds and runs it. */
+   numbers go through each, one after the other. The medians are printed with their ratios to the
+   processor's, and the fastest rounds, which other work on the machine disturbed least. Each answer is
+   compared with the processor's too. bench/root builds and runs it; with OTHER the root of another
+   library is timed beside them. */
 #include <stdint.h>
 #include <stdio.h>
 #include <stdlib.h>
@@ -12,7 +13,7 @@
 
 enum { NUMBERS = 1 << 14, ROUNDS = 101 };
 
-/* Not inlined, as the proved one is not: both are timed with the cost of a call. */
+/* Not inlined, as the proved one is not: all are timed with the cost of a call. */
 __attribute__((noinline)) static double hardware_square_root(double x) {
     double r;
 #ifdef __aarch64__
@@ -23,8 +24,30 @@ __attribute__((noinline)) static double hardware_square_root(double x) {
     return r;
 }
 
+#ifdef OTHER
+double other_square_root(double x);
+#endif
+
+/* A way to take a root, its answers in the last round, and what each round took, in ns a root. */
+struct way {
+    const char *name;
+    double (*root)(double);
+    double answers[NUMBERS];
+    double rounds[ROUNDS];
+};
+
+/* The processor's is the last. */
+static struct way ways[] = {
+    {.name = "proved", .root = walkprint_square_root},
+#ifdef OTHER
+    {.name = "other", .root = other_square_root},
+#endif
+    {.name = "hardware", .root = hardware_square_root},
+};
+
+enum { WAYS = sizeof ways / sizeof *ways };
+
 static double numbers[NUMBERS];
-static double proved[NUMBERS], hardware[NUMBERS];
 
 static double seconds(void) {
     struct timespec t;
@@ -32,9 +55,9 @@ static double seconds(void) {
     return t.tv_sec + t.tv_nsec * 1e-9;
 }
 
-static double nanoseconds_a_root(double (*root)(double), double *out) {
+static double nanoseconds_a_root(struct way *way) {
     double from = seconds();
-    for (int i = 0; i < NUMBERS; i++) out[i] = root(numbers[i]);
+    for (int i = 0; i < NUMBERS; i++) way->answers[i] = way->root(numbers[i]);
     return (seconds() - from) * 1e9 / NUMBERS;
 }
 
@@ -43,8 +66,14 @@ static int by_size(const void *a, const void *b) {
     return (x > y) - (x < y);
 }
 
-static void print_round(const char *which, double ours, double theirs) {
-    printf("%s round: proved %.1f ns a root, hardware %.1f ns, ratio %.0f\n", which, ours, theirs, ours / theirs);
+static void print_round(const char *which, int round) {
+    double hardware = ways[WAYS - 1].rounds[round];
+    printf("%s round:", which);
+    for (int i = 0; i < WAYS - 1; i++) {
+        double taken = ways[i].rounds[round];
+        printf(" %s %.1f ns a root (%.0f times),", ways[i].name, taken, taken / hardware);
+    }
+    printf(" hardware %.1f ns\n", hardware);
 }
 
 /* Sums of three squares of numbers below 32: what a distance between waypoints takes the root of. */
@@ -62,19 +91,18 @@ static void make_numbers(void) {
 }
 
 int main(void) {
-    double ours[ROUNDS], theirs[ROUNDS];
     make_numbers();
-    for (int i = 0; i < ROUNDS; i++) {
-        ours[i] = nanoseconds_a_root(walkprint_square_root, proved);
-        theirs[i] = nanoseconds_a_root(hardware_square_root, hardware);
+    for (int round = 0; round < ROUNDS; round++) {
+        for (int i = 0; i < WAYS; i++) ways[i].rounds[round] = nanoseconds_a_root(&ways[i]);
     }
-    if (memcmp(proved, hardware, sizeof proved)) {
-        puts("the answers differ");
-        return 1;
+    for (int i = 0; i < WAYS; i++) {
+        if (memcmp(ways[i].answers, ways[WAYS - 1].answers, sizeof ways[i].answers)) {
+            printf("the answers of %s differ from the hardware's\n", ways[i].name);
+            return 1;
+        }
+        qsort(ways[i].rounds, ROUNDS, sizeof *ways[i].rounds, by_size);
     }
-    qsort(ours, ROUNDS, sizeof *ours, by_size);
-    qsort(theirs, ROUNDS, sizeof *theirs, by_size);
-    print_round("median", ours[ROUNDS / 2], theirs[ROUNDS / 2]);
-    print_round("fastest", ours[0], theirs[0]);
+    print_round("median", ROUNDS / 2);
+    print_round("fastest", 0);
     return 0;
 }

@@ -13,6 +13,7 @@ mod numbers;
 mod policy;
 mod reader;
 mod room;
+mod roots;
 mod runner;
 mod scenes;
 mod short;
@@ -35,6 +36,7 @@ driver sweeps FROM COUNT [THREADS]
 driver read FROM COUNT [THREADS]
 driver policy FROM COUNT [THREADS]
 driver numbers FROM COUNT [THREADS]
+driver roots FROM COUNT [THREADS]
 driver edges FROM COUNT [THREADS]
 driver short FROM COUNT [THREADS]
 ";
@@ -70,6 +72,7 @@ fn command(arguments: &[String]) -> Result<bool, String> {
         "read" => reader::one_scene,
         "policy" => policy::one_scene,
         "numbers" => numbers::one_of_each,
+        "roots" => roots::one_pattern,
         "edges" => edges::one_scene,
         "short" => short::one_scene,
         _ => return Err(USAGE.to_string()),

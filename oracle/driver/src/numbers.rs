@@ -85,7 +85,7 @@ fn jump(chance: &mut Chance, counts: &mut Counts) -> Result<(), String> {
     Ok(())
 }
 
-/// "Both zeros keep their sign. Negative, infinite or NaN input is refused."
+/// Numbers as distances have them, border values, any bits.
 fn root(chance: &mut Chance, counts: &mut Counts) -> Result<(), String> {
     let square = chance.part() * 2f64.powi(chance.between(-40, 40));
     let number = match chance.below(4) {
@@ -102,10 +102,25 @@ fn root(chance: &mut Chance, counts: &mut Counts) -> Result<(), String> {
         2 => (square * square).next_up(),
         _ => square,
     };
+    let must = root_of(number, chance)?;
+    counts.add(
+        if must.is_some() {
+            "roots"
+        } else {
+            "roots refused"
+        },
+        1,
+    );
+    Ok(())
+}
+
+/// "Both zeros keep their sign. Negative, infinite or NaN input is refused." It
+/// answers what the proved root answered, too: the processor's root, or that
+/// there is none.
+pub fn root_of(number: f64, chance: &mut Chance) -> Result<Option<f64>, String> {
     let refused = !number.is_finite() || number < 0.0;
     let must = (!refused).then(|| number.sqrt());
     let call = |room: &mut [u8]| raw::root(number, room);
     check(must, 9, chance, call).map_err(|parts| format!("root of {number:e}: {parts}"))?;
-    counts.add(if refused { "roots refused" } else { "roots" }, 1);
-    Ok(())
+    Ok(must)
 }

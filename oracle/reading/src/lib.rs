@@ -10,6 +10,7 @@ mod edge;
 mod graph;
 mod policy;
 mod request;
+mod root;
 mod route;
 mod search;
 mod steps;
@@ -24,5 +25,6 @@ pub use policy::{
     find_path_request, jump_apex, passage, permission,
 };
 pub use request::{Rooms, bad_world, search, search_in, too_large, valid_request};
+pub use root::is_root;
 pub use route::{is_route, reachable_points};
 pub use variant::{ASKED, VARIANTS, Variant};

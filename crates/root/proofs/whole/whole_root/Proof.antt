@@ -1,30 +1,32 @@
--- `root::whole::whole_root` meets its contract: each turn keeps the root in the range and halves it (`Ranges`). Assumes nothing.
+-- `root::whole::whole_root` meets its contract: each turn takes two digits of the number and finds one of the root (`Turns`). Assumes nothing.
 use native.Mathlib.Omega.{arith}
-use mathlib.Core.Path.{sym, subst, _∙_}
-use mathlib.Core.Bool.{Bool, not}
-use lib.Dec.{T, leb→le, nleb→lt}
-use Prim.Native.Nat.{_+_, _/_, _^_, _<_}
-use Rattle.root.proofs.Ranges.{Range, all, middle-inside, upper, lower, found}
+use mathlib.Core.Logic.{⊎-elim}
+use mathlib.Core.Path.{_≡_, subst}
+use Prim.Native.Nat.{ℕ, _-_, _<_}
+use Rattle.root.proofs.Turns.{AfterTurns, begins, turn-one, turn-zero, ends}
 use Rattle.root.proofs.whole.whole_root.Statement.{statement}
 use Rattle.root.proofs.whole.whole_root.Tie as tie
 
 abbrev Inv-loop : tie.InvT-loop
-Inv-loop m low₀ width₀ low width = Range m low width
+Inv-loop m number₀ rest₀ root₀ turn₀ number rest root turn = AfterTurns m turn number rest root
 
 abbrev μ-loop : tie.MeasureT-loop
-μ-loop m low₀ width₀ low width = width
+μ-loop m number₀ rest₀ root₀ turn₀ number rest root turn = 54 - turn
 
 loop-holds : tie.Need-loop-holds Inv-loop μ-loop
-loop-holds c = all (c .args .m) (c .pre)
+loop-holds c = begins (c .args .m) (c .pre)
 
-inside : (c : tie.In-loop Inv-loop μ-loop) → c .before .loop .low + c .before .loop .width / 2 < 2 ^ 54
-inside c = middle-inside (c .before .before .args .m) (c .before .loop .low) (c .before .loop .width) (omega (arith, c .loop-test .taken)) (c .before .loop .inv)
+add-rest : tie.Need-add-rest Inv-loop μ-loop
+add-rest c = omega arith
 
-add-middle : tie.Need-add-middle Inv-loop μ-loop
-add-middle c = omega (arith, inside c)
+add-trial : tie.Need-add-trial Inv-loop μ-loop
+add-trial c = omega arith
 
-fits-requires : tie.Need-fits-requires Inv-loop μ-loop
-fits-requires c κs = inside c
+add-root : tie.Need-add-root Inv-loop μ-loop
+add-root c = omega arith
+
+add-turn : tie.Need-add-turn Inv-loop μ-loop
+add-turn c = omega arith
 
 loop-less : tie.Need-loop-less Inv-loop μ-loop
 loop-less c = omega arith
@@ -32,18 +34,29 @@ loop-less c = omega arith
 loop-again : tie.Need-loop-again Inv-loop μ-loop
 loop-again c =
     let at = c .before .before in
-    upper _ _ _ (omega (arith, at .loop-test .taken)) (at .before .loop .inv) (leb→le _ _ (subst T (sym (sym (c .before .fits2 .ensures) ∙ c .if1 .taken)) tt))
-
-loop-less-2 : tie.Need-loop-less-2 Inv-loop μ-loop
-loop-less-2 c = omega arith
-
-loop-again-2 : tie.Need-loop-again-2 Inv-loop μ-loop
-loop-again-2 c =
-    let at = c .before .before in
-    lower _ _ _ (omega (arith, at .loop-test .taken)) (at .before .loop .inv) (nleb→lt _ _ (subst (λ (b : Bool). T (not b)) (sym (sym (c .before .fits2 .ensures) ∙ c .if1 .left)) tt))
+    let i : at .loop .turn < 54 = omega (arith, c .before .loop-test .taken) in
+    ⊎-elim
+    (λ w. rw (w .1, w .2) (turn-one (at .before .args .m) (at .loop .turn) (at .loop .number) (at .loop .rest) (at .loop .root) i (at .loop .inv) (omega (arith, w .0 .taken))))
+    (λ w. rw (w .1, w .2) (turn-zero (at .before .args .m) (at .loop .turn) (at .loop .number) (at .loop .rest) (at .loop .root) i (at .loop .inv) (omega (arith, w .0 .left))))
+    (c .if1 .came)
 
 returns : tie.Need-returns Inv-loop μ-loop
-returns c = found _ _ _ (c .loop-test .left) (c .before .loop .inv)
+returns c =
+    let t = c .before .loop .inv in
+    let l : c .before .loop .turn ≡ 54 = omega arith in
+    ends (c .before .before .args .m) (c .before .loop .number) (c .before .loop .rest) (c .before .loop .root) (subst (λ (i : ℕ). AfterTurns (c .before .before .args .m) i (c .before .loop .number) (c .before .loop .rest) (c .before .loop .root)) l t)
 
 pub whole-root-spec : {M : Type 1} → statement M
-whole-root-spec = tie.close (tie.spec Inv-loop μ-loop loop-holds add-middle fits-requires loop-less loop-again loop-less-2 loop-again-2 returns)
+whole-root-spec =
+    tie.close
+    (tie.spec
+    Inv-loop
+    μ-loop
+    loop-holds
+    add-rest
+    add-trial
+    add-root
+    add-turn
+    loop-less
+    loop-again
+    returns)
