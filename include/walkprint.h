@@ -1,7 +1,8 @@
 /*
  * walkprint for C: a walking search for block worlds whose answers can be
  * believed. Every function below is proved to meet its contract, which
- * docs/contracts/c.md states; this header says the same in words.
+ * docs/contracts/c.md states; this header says the same in words. (Only
+ * walkprint_index_bytes is plain C, which is tested and not proved.)
  *
  * Link libwalk_c.a from the folder that `tools/library` prints (README.md,
  * "From C and Rust").
@@ -34,7 +35,7 @@ extern "C" {
 /* ---- The version ---------------------------------------------------------- */
 
 #define WALKPRINT_VERSION_MAJOR 0
-#define WALKPRINT_VERSION_MINOR 1
+#define WALKPRINT_VERSION_MINOR 2
 #define WALKPRINT_VERSION_PATCH 0
 #define WALKPRINT_VERSION (WALKPRINT_VERSION_MAJOR * 1000000 + WALKPRINT_VERSION_MINOR * 1000 + WALKPRINT_VERSION_PATCH)
 
@@ -57,7 +58,7 @@ enum {
   WALKPRINT_BUDGET_EXCEEDED = 2, /* budget 0, or the search ended after a new point was dropped */
   WALKPRINT_BAD_WORLD = 3,       /* a size above 256, a table of a wrong length, or a shape or box off its rule */
   WALKPRINT_TOO_LARGE = 4,       /* max_range > 64, width > 8, height > 16 or node_budget > 4,096 */
-  WALKPRINT_NO_ROOM = 5,         /* a room is too short */
+  WALKPRINT_NO_ROOM = 5,         /* a room is too short, or the index's of a wrong size */
   WALKPRINT_ENDLESS_JUMP = 6,    /* 65,536 ticks don't bring the jump to rest */
   WALKPRINT_BAD_SCENE = 7,       /* the first bad record, counted from 0 */
   WALKPRINT_BAD_TABLE = 8,       /* flag and permission tables differ in length */
@@ -172,12 +173,30 @@ enum {
 
 /* ---- The search ----------------------------------------------------------- */
 
+/* An index room of so many bytes is of a right size for every budget up to 4,096, the most that a search takes. Larger powers of two are right too. */
+enum { WALKPRINT_MOST_INDEX_BYTES = 32768 };
+
+/*
+ * The bytes of the smallest index room for a budget. It has slots of 4 bytes,
+ * their number is a power of two, and there are at least 2 * node_budget; so one
+ * that is twice as long is right too, and so on, but none between them. For a
+ * budget above 4,096, which no search takes, the bytes for 4,096.
+ */
+static inline size_t walkprint_index_bytes(uint64_t node_budget) {
+  size_t bytes = 4;
+  while (bytes / 8 < node_budget && bytes < WALKPRINT_MOST_INDEX_BYTES)
+    bytes *= 2;
+  return bytes;
+}
+
 /*
  * A way from the request's start to its goal. Judged in this order: 3;
  * an invalid request (1); 4; 5, where `nodes` has fewer than node_budget
- * records of 56 bytes, `front` fewer than node_budget of 24, or `out` fewer
- * than node_budget + 1 of 40; goal in range, start standable, goal standable
- * (else 1); budget 0 (2); then the search, which answers 0, 1 or 2.
+ * records of 56 bytes, `front` fewer than node_budget of 24, `out` fewer than
+ * node_budget + 1 of 40, or `index` is of a wrong size: its slots of 4 bytes are
+ * not whole, are no power of two, or are fewer than 2 * node_budget; goal in
+ * range, start standable, goal standable (else 1); budget 0 (2); then the
+ * search, which answers 0, 1 or 2. The old bytes of the rooms decide nothing.
  *
  * Returns the outcome's number. Afterwards:
  *   answer  outcome, count, retained and closed in its first 32 bytes; past
@@ -188,6 +207,7 @@ enum {
  *   nodes   untouched unless the search began; after it the retained nodes in
  *           discovery order, then its old bytes.
  *   front   untouched unless the search began; after it all zero.
+ *   index   untouched unless the search began; after it all zero.
  */
 uint64_t walkprint_find_walk_path(
     const uint8_t *window, size_t window_length,
@@ -199,6 +219,7 @@ uint64_t walkprint_find_walk_path(
     const uint8_t *body, size_t body_length,
     uint8_t *nodes, size_t nodes_length,
     uint8_t *front, size_t front_length,
+    uint8_t *index, size_t index_length,
     uint8_t *out, size_t out_length,
     uint8_t *answer, size_t answer_length);
 
@@ -224,8 +245,11 @@ enum {
   WALKPRINT_IN_WATER = 128
 };
 
-/* The budget that a mob's search asks for: its rooms are sized by it. */
-enum { WALKPRINT_PATH_NODE_BUDGET = 2048 };
+/* The budget that a mob's search asks for, by which its rooms are sized, and the bytes of its smallest index room. */
+enum {
+  WALKPRINT_PATH_NODE_BUDGET = 2048,
+  WALKPRINT_PATH_INDEX_BYTES = 16384
+};
 
 /*
  * A mob's search. It judges 8, fills the permission table by the flags of the
@@ -234,7 +258,7 @@ enum { WALKPRINT_PATH_NODE_BUDGET = 2048 };
  * mob can't jump. Returns 8 or the outcome's number. Afterwards:
  *   permissions
  *           on 8 untouched; else filled, whatever the search answers.
- *   answer, out, nodes, front
+ *   answer, out, nodes, front, index
  *           on 8 untouched; else as after walkprint_find_walk_path.
  */
 uint64_t walkprint_find_path(
@@ -249,6 +273,7 @@ uint64_t walkprint_find_path(
     const uint8_t *body, size_t body_length,
     uint8_t *nodes, size_t nodes_length,
     uint8_t *front, size_t front_length,
+    uint8_t *index, size_t index_length,
     uint8_t *out, size_t out_length,
     uint8_t *answer, size_t answer_length);
 

@@ -33,15 +33,17 @@ int main(void) {
       .node_budget = BUDGET};
   const walkprint_body body = {.width = 0.625, .height = 1.75, .step_height = 0.5};
 
-  /* The rooms: a node and a frontier record for each point of the budget, and one waypoint more. */
+  /* The rooms: a node and a frontier record for each point of the budget, an index of them, and one waypoint more. */
   static walkprint_node nodes[BUDGET];
   static walkprint_front front[BUDGET];
+  static uint8_t index[WALKPRINT_MOST_INDEX_BYTES]; /* enough for any budget; lent is what this one asks for */
   static walkprint_waypoint out[BUDGET + 1];
   walkprint_answer answer;
 
   const uint64_t number = walkprint_find_walk_path(
       BYTES(window), BYTES(cells), BYTES(permissions), BYTES(shapes), BYTES(boxes),
-      BYTES(request), BYTES(body), BYTES(nodes), BYTES(front), BYTES(out), BYTES(answer));
+      BYTES(request), BYTES(body), BYTES(nodes), BYTES(front),
+      index, walkprint_index_bytes(BUDGET), BYTES(out), BYTES(answer));
 
   printf("%s: %d waypoints, %d nodes retained, %d closed\n", OUTCOMES[number],
          (int)answer.count, (int)answer.retained, (int)answer.closed);

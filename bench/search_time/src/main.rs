@@ -32,7 +32,7 @@ fn world(name: &str) -> Option<Scene> {
 enum Turn {
     /// The proved search in rooms as its last search left them.
     Kept,
-    /// The proved search, all three rooms zeroed first, within the time.
+    /// The proved search, all four rooms zeroed first, within the time.
     Cleared,
     /// The original in scratch and output as its last search left them, which
     /// it empties itself.

@@ -2,6 +2,7 @@
 //! bytes that it reads, its rooms, and what it left in them.
 
 use scene::{Answer, RawTables, Scene};
+use walkprint::index_bytes;
 use walkprint::raw::{self, Asked, Lent};
 
 /// A scene in bytes, and rooms of exactly the size that its budget asks.
@@ -10,20 +11,26 @@ pub struct Proved {
     tables: RawTables,
     request: [u8; 88],
     body: [u8; 24],
-    /// Nodes, frontier, output.
-    rooms: [Vec<u8>; 3],
+    /// Nodes, frontier, index, output.
+    rooms: [Vec<u8>; 4],
     answer: [u8; 32],
 }
 
 impl Proved {
     pub fn new(scene: &Scene) -> Self {
         let budget = scene.request.node_budget as usize;
+        let sizes = [
+            56 * budget,
+            24 * budget,
+            index_bytes(budget),
+            40 * (budget + 1),
+        ];
         Self {
             window: scene.tables.window.bytes(),
             tables: scene.tables.raw(),
             request: scene.request.bytes(),
             body: scene.body.bytes(),
-            rooms: [56 * budget, 24 * budget, 40 * (budget + 1)].map(|size| vec![0; size]),
+            rooms: sizes.map(|size| vec![0; size]),
             answer: [0; 32],
         }
     }
@@ -36,20 +43,21 @@ impl Proved {
             request: &self.request,
             body: &self.body,
         };
-        let [nodes, front, out] = &mut self.rooms;
+        let [nodes, front, index, out] = &mut self.rooms;
         let answer = &mut self.answer;
         raw::find_walk_path(
             &asked,
             Lent {
                 nodes,
                 front,
+                index,
                 out,
                 answer,
             },
         )
     }
 
-    /// All three rooms zeroed, whole.
+    /// All four rooms zeroed, whole.
     pub fn clear(&mut self) {
         for room in &mut self.rooms {
             room.fill(0);
@@ -67,7 +75,7 @@ impl Proved {
 
     /// Whether the last search, with this number, left what the original did:
     /// outcome and counts, list and node records byte for byte, and the
-    /// frontier all zero.
+    /// frontier and the index all zero.
     pub fn left(&self, number: u64, answer: &Answer) -> bool {
         let numbers = [
             answer.outcome as u64,
@@ -81,6 +89,7 @@ impl Proved {
             && self.answer == *numbers.map(u64::to_le_bytes).concat()
             && self.rooms[0].starts_with(&nodes)
             && self.rooms[1].iter().all(|&byte| byte == 0)
-            && self.rooms[2].starts_with(&list)
+            && self.rooms[2].iter().all(|&byte| byte == 0)
+            && self.rooms[3].starts_with(&list)
     }
 }

@@ -14,6 +14,13 @@ pub const SCENE_TABLES: [usize; 4] = [32768, 256, 2048, 12288];
 /// The budget that a mob's search asks for: its rooms are sized by it.
 pub const PATH_NODE_BUDGET: usize = 2048;
 
+/// The bytes of the smallest index room for a mob's search.
+pub const PATH_INDEX_BYTES: usize = index_bytes(PATH_NODE_BUDGET);
+
+/// An index room of so many bytes is of a right size for every budget up to
+/// 4,096, the most that a search takes. Larger powers of two are right too.
+pub const MOST_INDEX_BYTES: usize = 32768;
+
 /// What a search comes to. The numbers are the interface's.
 #[derive(Clone, Copy, Debug, PartialEq, Eq)]
 pub enum Outcome {
@@ -71,13 +78,27 @@ pub struct Tables<'a> {
     pub boxes: &'a [u8],
 }
 
-/// The rooms that a search is lent: 56 bytes a node, 24 a frontier record, and
-/// 40 a waypoint, one more of those than the budget.
+/// The rooms that a search is lent: 56 bytes a node, 24 a frontier record,
+/// `index_bytes` for the index, and 40 a waypoint, one more of those than the
+/// budget.
 #[derive(Debug)]
 pub struct Rooms<'a> {
     pub nodes: &'a mut [u8],
     pub front: &'a mut [u8],
+    pub index: &'a mut [u8],
     pub out: &'a mut [u8],
+}
+
+/// The bytes of the smallest index room for a budget. It has slots of 4 bytes,
+/// their number is a power of two, and there are at least twice the budget; so
+/// one that is twice as long is right too, and so on, but none between them. For
+/// a budget above 4,096, which no search takes, the bytes for 4,096.
+pub const fn index_bytes(budget: usize) -> usize {
+    let mut bytes = 4;
+    while bytes / 8 < budget && bytes < MOST_INDEX_BYTES {
+        bytes *= 2;
+    }
+    bytes
 }
 
 /// What a search answers. `count` waypoints stand at the start of the output.
@@ -111,8 +132,8 @@ fn in_bytes<T>(t: &Tables, request: &[u8], body: &Body, ask: impl FnOnce(&raw::A
 /// Lends a search its rooms, and reads its answer.
 fn searched(rooms: &mut Rooms, search: impl FnOnce(raw::Lent) -> u64) -> Result<Answer, Error> {
     let mut answer = [0; 32];
-    let Rooms { nodes, front, out } = rooms;
-    let number = search(raw::Lent { nodes, front, out, answer: &mut answer });
+    let Rooms { nodes, front, index, out } = rooms;
+    let number = search(raw::Lent { nodes, front, index, out, answer: &mut answer });
     answered(number, &answer)
 }
 

@@ -24,6 +24,7 @@ pub struct Asked<'a> {
 pub struct Lent<'a> {
     pub nodes: &'a mut [u8],
     pub front: &'a mut [u8],
+    pub index: &'a mut [u8],
     pub out: &'a mut [u8],
     pub answer: &'a mut [u8],
 }
@@ -41,7 +42,7 @@ pub fn find_walk_path(asked: &Asked, lent: Lent) -> u64 {
     let [cells, permissions, shapes, boxes] = asked.tables;
     call!(walkprint_find_walk_path(
         asked.window, cells, permissions, shapes, boxes, asked.request, asked.body;
-        lent.nodes, lent.front, lent.out, lent.answer;
+        lent.nodes, lent.front, lent.index, lent.out, lent.answer;
     ))
 }
 
@@ -74,6 +75,8 @@ pub fn find_path(policy: u64, jump_height: f64, flags: &[u8], asked: &Asked, per
             lent.nodes.len(),
             lent.front.as_mut_ptr(),
             lent.front.len(),
+            lent.index.as_mut_ptr(),
+            lent.index.len(),
             lent.out.as_mut_ptr(),
             lent.out.len(),
             lent.answer.as_mut_ptr(),
@@ -141,6 +144,8 @@ unsafe extern "C" {
         nodes_length: usize,
         front: *mut u8,
         front_length: usize,
+        index: *mut u8,
+        index_length: usize,
         out: *mut u8,
         out_length: usize,
         answer: *mut u8,
@@ -170,6 +175,8 @@ unsafe extern "C" {
         nodes_length: usize,
         front: *mut u8,
         front_length: usize,
+        index: *mut u8,
+        index_length: usize,
         out: *mut u8,
         out_length: usize,
         answer: *mut u8,

@@ -1,8 +1,10 @@
 //! The calls on the flat scene, with rooms and tables that are filled with a
-//! pattern: exactly long, too long and one byte short, every byte compared.
+//! pattern: exactly long, too long and one byte short, the index room of every
+//! right and wrong size, every byte compared.
 
 use walkprint::{
-    Answer, Body, Error, Movement, Outcome, PATH_NODE_BUDGET, Policy, Request, Rooms, SCENE_TABLES, Tables, Waypoint, Window, raw,
+    Answer, Body, Error, MOST_INDEX_BYTES, Movement, Outcome, PATH_INDEX_BYTES, PATH_NODE_BUDGET, Policy, Request, Rooms,
+    SCENE_TABLES, Tables, Waypoint, Window, index_bytes, raw,
 };
 
 const WINDOW: Window = Window { origin: [-2, 0, -2], sizes: [7, 4, 5] };
@@ -19,7 +21,9 @@ const REQUEST: Request = Request {
     node_budget: 64,
 };
 
-const ROOMS: [usize; 3] = [56 * 64, 24 * 64, 40 * 65];
+/// Of nodes, frontier, index and output: the index has two slots of 4 bytes for
+/// each point of the budget, 128, a power of two.
+const ROOMS: [usize; 4] = [56 * 64, 24 * 64, 4 * 128, 40 * 65];
 
 fn pattern(n: usize) -> Vec<u8> {
     (0..n).map(|i| (i * 37 + 11) as u8).collect()
@@ -43,28 +47,45 @@ fn tables(t: &[Vec<u8>; 4]) -> Tables<'_> {
     Tables { window: WINDOW, cells: &t[0], permissions: &t[1], shapes: &t[2], boxes: &t[3] }
 }
 
-/// The answer of a search, and the three rooms after it.
-fn search(t: &[Vec<u8>; 4], request: &Request, sizes: [usize; 3]) -> (Result<Answer, Error>, [Vec<u8>; 3]) {
-    let [mut nodes, mut front, mut out] = sizes.map(pattern);
-    let mut rooms = Rooms { nodes: &mut nodes, front: &mut front, out: &mut out };
-    let answer = walkprint::find_walk_path(&tables(t), request, &BODY, &mut rooms);
-    (answer, [nodes, front, out])
+/// The answer of a search in tables and rooms, and the four rooms after it.
+fn search_in(t: &Tables, request: &Request, mut rooms: [Vec<u8>; 4]) -> (Result<Answer, Error>, [Vec<u8>; 4]) {
+    let [nodes, front, index, out] = &mut rooms;
+    let answer = walkprint::find_walk_path(t, request, &BODY, &mut Rooms { nodes, front, index, out });
+    (answer, rooms)
 }
 
-fn untouched(rooms: &[Vec<u8>; 3]) -> bool {
+/// The same, in rooms of these sizes that are filled with the pattern.
+fn search(t: &[Vec<u8>; 4], request: &Request, sizes: [usize; 4]) -> (Result<Answer, Error>, [Vec<u8>; 4]) {
+    search_in(&tables(t), request, sizes.map(pattern))
+}
+
+fn untouched(rooms: &[Vec<u8>; 4]) -> bool {
     rooms.iter().all(|room| *room == pattern(room.len()))
+}
+
+fn is_zero(room: &[u8]) -> bool {
+    room.iter().all(|&byte| byte == 0)
+}
+
+/// The same sizes, but for an index room of so many bytes.
+fn with_index(bytes: usize) -> [usize; 4] {
+    let [nodes, front, _, out] = ROOMS;
+    [nodes, front, bytes, out]
 }
 
 #[test]
 fn found_writes_its_records_and_no_more() {
     let (_, exact) = search(&flat(), &REQUEST, ROOMS);
-    for longer in [0, 1, 7, 100] {
-        let (answer, [nodes, front, out]) = search(&flat(), &REQUEST, ROOMS.map(|n| n + longer));
+    for (longer, times) in [(0, 1), (1, 1), (7, 2), (100, 4), (0, 1024)] {
+        let [a, b, c, d] = ROOMS;
+        let sizes = [a + longer, b + longer, c * times, d + longer];
+        let (answer, [nodes, front, index, out]) = search(&flat(), &REQUEST, sizes);
         assert_eq!(answer, Ok(Answer { outcome: Outcome::Found, count: 3, retained: 9, closed: 2 }));
         assert_eq!(nodes[..9 * 56], exact[0][..9 * 56]);
         assert_eq!(nodes[9 * 56..], pattern(nodes.len())[9 * 56..]);
-        assert!(front.iter().all(|&byte| byte == 0));
-        assert_eq!(out[..3 * 40], exact[2][..3 * 40]);
+        assert!(is_zero(&front));
+        assert!(is_zero(&index));
+        assert_eq!(out[..3 * 40], exact[3][..3 * 40]);
         assert_eq!(out[3 * 40..], pattern(out.len())[3 * 40..]);
         let list = Waypoint::list(&out, 3);
         let at = |x| Waypoint { feet: [x, 1.0, 0.5], lift: 0.0, movement: Movement::Walk };
@@ -74,12 +95,153 @@ fn found_writes_its_records_and_no_more() {
 
 #[test]
 fn a_room_one_byte_short_is_no_room() {
-    for short in 0..3 {
+    for short in 0..4 {
         let mut sizes = ROOMS;
         sizes[short] -= 1;
         let (answer, rooms) = search(&flat(), &REQUEST, sizes);
         assert_eq!(answer, Err(Error::NoRoom));
         assert!(untouched(&rooms));
+    }
+}
+
+/// For each budget every length of an index room, from 0 to behind the second
+/// right one; the other rooms are long enough.
+#[test]
+fn an_index_room_of_a_wrong_size_is_no_room() {
+    for budget in [0, 1, 2, 3, 4, 5, 7, 8, 9, 15, 16, 17] {
+        let request = Request { node_budget: budget as u64, ..REQUEST };
+        let right: Vec<usize> = (0..16).map(|k| 4 << k).filter(|bytes| bytes / 4 >= 2 * budget).collect();
+        for bytes in 0..2 * right[0] + 9 {
+            let (answer, rooms) = search(&flat(), &request, with_index(bytes));
+            if !right.contains(&bytes) {
+                assert_eq!(answer, Err(Error::NoRoom), "budget {budget}, {bytes} bytes");
+                assert!(untouched(&rooms));
+            } else if budget == 0 {
+                assert_eq!(answer.unwrap().outcome, Outcome::BudgetExceeded);
+                assert!(untouched(&rooms));
+            } else {
+                let outcome = if budget == 1 { Outcome::BudgetExceeded } else { Outcome::Found };
+                assert_eq!(answer.unwrap().outcome, outcome);
+                assert!(is_zero(&rooms[2]));
+            }
+        }
+    }
+    // One slot is enough at budget 0, and no bytes are not.
+    let none = Request { node_budget: 0, ..REQUEST };
+    assert_eq!(search(&flat(), &none, [0, 0, 4, 40]).0.unwrap().outcome, Outcome::BudgetExceeded);
+    assert_eq!(search(&flat(), &none, [0, 0, 0, 40]).0, Err(Error::NoRoom));
+    // Half as many slots, three times a power of two, and up to three bytes more.
+    for slots in [64, 96, 192, 384, 768, 3 << 12] {
+        assert_eq!(search(&flat(), &REQUEST, with_index(4 * slots)).0, Err(Error::NoRoom));
+    }
+    for slots in [128, 256, 1 << 13] {
+        for more in 1..4 {
+            let (answer, rooms) = search(&flat(), &REQUEST, with_index(4 * slots + more));
+            assert_eq!(answer, Err(Error::NoRoom));
+            assert!(untouched(&rooms));
+        }
+    }
+}
+
+#[test]
+fn the_smallest_index_room() {
+    let sizes = [(0, 4), (1, 8), (2, 16), (3, 32), (4, 32), (5, 64), (64, 512), (65, 1024), (512, 4096), (513, 8192)];
+    for (budget, bytes) in sizes {
+        assert_eq!(index_bytes(budget), bytes);
+    }
+    assert_eq!((PATH_INDEX_BYTES, index_bytes(2049)), (16384, 32768));
+    for budget in [4096, 4097, 1 << 31, usize::MAX / 2, usize::MAX] {
+        assert_eq!(index_bytes(budget), MOST_INDEX_BYTES);
+    }
+    for budget in [0, 1, 2, 3, 63, 64, 65, 1000, 2047, 2048, 2049, 4095, 4096] {
+        let request = Request { node_budget: budget as u64, ..REQUEST };
+        let answer = |bytes| search(&flat(), &request, [56 * budget, 24 * budget, bytes, 40 * (budget + 1)]).0;
+        assert!(answer(index_bytes(budget)).is_ok());
+        assert!(answer(MOST_INDEX_BYTES).is_ok());
+        assert_eq!(answer(index_bytes(budget) / 2), Err(Error::NoRoom));
+    }
+}
+
+/// An index room of a wrong size is judged where a short room is: behind 3, an
+/// invalid request and 4, before the ends and budget 0.
+#[test]
+fn the_place_of_an_index_room_of_a_wrong_size() {
+    let mut bad = flat();
+    bad[0].pop();
+    let endless = Request { max_range: f64::NAN, ..REQUEST };
+    let (far, many) = (Request { max_range: 65.0, ..REQUEST }, Request { node_budget: 4097, ..REQUEST });
+    let (away, none) = (Request { goal: [99.5, 1.0, 0.5], ..REQUEST }, Request { node_budget: 0, ..REQUEST });
+    let unreachable = Ok(Answer { outcome: Outcome::Unreachable, count: 0, retained: 0, closed: 0 });
+    for bytes in [0, 4 * 127, 4 * 128 - 1, 4 * 128 + 1, 4 * 192] {
+        let judged = |t: &[Vec<u8>; 4], request: &Request| {
+            let (answer, rooms) = search(t, request, with_index(bytes));
+            assert!(untouched(&rooms));
+            answer
+        };
+        assert_eq!(judged(&bad, &endless), Err(Error::BadWorld));
+        assert_eq!(judged(&bad, &many), Err(Error::BadWorld));
+        assert_eq!(judged(&bad, &REQUEST), Err(Error::BadWorld));
+        assert_eq!(judged(&flat(), &Request { node_budget: 4097, ..endless }), unreachable);
+        assert_eq!(judged(&flat(), &endless), unreachable);
+        assert_eq!(judged(&flat(), &far), Err(Error::TooLarge));
+        assert_eq!(judged(&flat(), &many), Err(Error::TooLarge));
+        assert_eq!(judged(&flat(), &REQUEST), Err(Error::NoRoom));
+        assert_eq!(judged(&flat(), &away), Err(Error::NoRoom));
+        assert_eq!(judged(&flat(), &none), Err(Error::NoRoom));
+    }
+    // With a right one the ends are judged, and nothing is written.
+    let (answer, rooms) = search(&flat(), &away, ROOMS);
+    assert_eq!(answer, unreachable);
+    assert!(untouched(&rooms));
+}
+
+/// Nodes, frontier and output are the same whatever the index held: free slots,
+/// the start in every one, numbers that no node has.
+#[test]
+fn the_old_bytes_of_an_index_decide_nothing() {
+    let t = flat();
+    for request in [REQUEST, Request { node_budget: 5, ..REQUEST }, Request { goal: [2.5, 1.0, 1.5], ..REQUEST }] {
+        let (expected, rooms) = search(&t, &request, ROOMS);
+        let words = [[0; 4], [1, 0, 0, 0], [2, 0, 0, 0], [9, 0, 0, 0], [64, 0, 0, 0], [0, 0, 0, 1], [255; 4]];
+        for word in words {
+            let mut filled = ROOMS.map(pattern);
+            filled[2] = word.repeat(128);
+            let (answer, after) = search_in(&tables(&t), &request, filled);
+            assert_eq!(answer, expected);
+            assert_eq!(after, rooms);
+            assert!(is_zero(&after[2]));
+        }
+    }
+}
+
+/// A search that ends without a list leaves its frontier and its index zero as
+/// well: the goal is the top of a block that no step reaches.
+#[test]
+fn no_way() {
+    let mut t = flat();
+    // The cell (2, 1, 0), one above the floor, is a cube too.
+    t[0].copy_within(0..8, 8 * (35 + 7 * 2 + 4));
+    let (answer, [nodes, front, index, out]) = search(&t, &Request { goal: [2.5, 2.0, 0.5], ..REQUEST }, ROOMS);
+    let answer = answer.unwrap();
+    assert_eq!((answer.outcome, answer.count, answer.retained), (Outcome::Unreachable, 0, answer.closed));
+    assert!(answer.retained > 9);
+    assert_eq!(nodes[56 * answer.retained..], pattern(nodes.len())[56 * answer.retained..]);
+    assert!(is_zero(&front));
+    assert!(is_zero(&index));
+    assert_eq!(out, pattern(ROOMS[3]));
+}
+
+/// A start at -0.0 is found again by the step to 0.0 in its own column, which is
+/// the same point: nine points are retained, and it keeps its sign.
+#[test]
+fn both_zeros_are_one_point() {
+    let t = flat();
+    let lower = Tables { window: Window { origin: [-2, -1, -2], ..WINDOW }, ..tables(&t) };
+    for zero in [0.0f64, -0.0] {
+        let request = Request { start: [0.5, zero, 0.5], goal: [2.5, 0.0, 0.5], ..REQUEST };
+        let (answer, [nodes, ..]) = search_in(&lower, &request, ROOMS.map(pattern));
+        assert_eq!(answer, Ok(Answer { outcome: Outcome::Found, count: 3, retained: 9, closed: 2 }));
+        assert_eq!(nodes[8..16], zero.to_le_bytes());
     }
 }
 
@@ -91,7 +253,9 @@ fn budgets() {
     assert!(untouched(&rooms));
     let (answer, rooms) = outcome(1);
     assert_eq!(answer.unwrap().outcome, Outcome::BudgetExceeded);
-    assert_eq!(rooms[2], pattern(ROOMS[2]));
+    assert!(is_zero(&rooms[1]));
+    assert!(is_zero(&rooms[2]));
+    assert_eq!(rooms[3], pattern(ROOMS[3]));
     assert_eq!(outcome(2).0.unwrap().outcome, Outcome::Found);
     let (answer, rooms) = outcome(4097);
     assert_eq!(answer, Err(Error::TooLarge));
@@ -113,7 +277,7 @@ fn refusals_write_nothing() {
 #[test]
 fn walk_back_takes_the_list_and_no_other() {
     let t = flat();
-    let (_, [_, _, out]) = search(&t, &REQUEST, ROOMS);
+    let (_, [_, _, _, out]) = search(&t, &REQUEST, ROOMS);
     let back = |list: &[u8]| walkprint::walk_back(&tables(&t), &REQUEST, &BODY, list);
     assert_eq!(back(&out[..120]), Ok(true));
     for n in [0, 40, 80, 119, 121, 160] {
@@ -124,42 +288,73 @@ fn walk_back_takes_the_list_and_no_other() {
     assert_eq!(back(&lifted), Ok(false));
 }
 
+const POLICY: Policy = Policy {
+    avoid_water: true,
+    avoid_damage_blocks: true,
+    can_jump: false,
+    jump_height: 1.25,
+    can_pass_doors: true,
+    can_open_doors: false,
+    can_open_iron_doors: false,
+    door_breaker: true,
+};
+
+/// Rooms for a mob's search: a record more than asked for, and an index of so
+/// many bytes.
+fn mob_rooms(index: usize) -> [Vec<u8>; 4] {
+    let n = PATH_NODE_BUDGET + 1;
+    [56 * n, 24 * n, index, 40 * n].map(pattern)
+}
+
 /// The answer of a mob's search with a permission table of so many bytes, that
-/// table after it, and the three rooms.
-fn mob(policy: &Policy, flags: &[u8], states: usize) -> (Result<Answer, Error>, Vec<u8>, [Vec<u8>; 3]) {
+/// table after it, and the four rooms.
+fn mob(flags: &[u8], states: usize, index: usize) -> (Result<Answer, Error>, Vec<u8>, [Vec<u8>; 4]) {
     let t = flat();
-    let mut permissions = pattern(states);
-    let [mut nodes, mut front, mut out] = [56, 24, 40].map(|n| pattern(n * (PATH_NODE_BUDGET + 1)));
-    let mut rooms = Rooms { nodes: &mut nodes, front: &mut front, out: &mut out };
+    let (mut permissions, mut lent) = (pattern(states), mob_rooms(index));
+    let [nodes, front, index, out] = &mut lent;
+    let mut rooms = Rooms { nodes, front, index, out };
     let ends = [REQUEST.start, REQUEST.goal];
-    let answer = walkprint::find_path(policy, false, flags, &tables(&t), &mut permissions, ends, &BODY, &mut rooms);
-    (answer, permissions, [nodes, front, out])
+    let answer = walkprint::find_path(&POLICY, false, flags, &tables(&t), &mut permissions, ends, &BODY, &mut rooms);
+    (answer, permissions, lent)
 }
 
 #[test]
 fn a_mob_fills_its_permissions() {
-    let policy = Policy {
-        avoid_water: true,
-        avoid_damage_blocks: true,
-        can_jump: false,
-        jump_height: 1.25,
-        can_pass_doors: true,
-        can_open_doors: false,
-        can_open_iron_doors: false,
-        door_breaker: true,
-    };
-    let (answer, permissions, _) = mob(&policy, &[0, 0], 2);
+    let (answer, permissions, _) = mob(&[0, 0], 2, PATH_INDEX_BYTES);
     assert_eq!(answer.unwrap().outcome, Outcome::Found);
     assert_eq!(permissions, [7, 7]);
     // Air that is a door to break, and a floor that does damage: no end is standable.
-    let (answer, permissions, rooms) = mob(&policy, &[8, 2], 2);
+    let (answer, permissions, rooms) = mob(&[8, 2], 2, PATH_INDEX_BYTES);
     assert_eq!(answer.unwrap().outcome, Outcome::Unreachable);
     assert_eq!(permissions, [3, 4]);
     assert!(untouched(&rooms));
     for states in [1, 3] {
-        let (answer, permissions, rooms) = mob(&policy, &[0, 0], states);
+        let (answer, permissions, rooms) = mob(&[0, 0], states, PATH_INDEX_BYTES);
         assert_eq!(answer, Err(Error::BadTable));
         assert_eq!(permissions, pattern(states));
+        assert!(untouched(&rooms));
+    }
+}
+
+/// A mob's index: 4,096 slots, or twice as many and so on; else 5, behind 8 and
+/// with the permissions filled.
+#[test]
+fn a_mob_has_an_index() {
+    let (expected, _, before) = mob(&[0, 0], 2, PATH_INDEX_BYTES);
+    for bytes in [4 * 4096, 4 * 8192, 4 * 65536] {
+        let (answer, permissions, [nodes, front, index, out]) = mob(&[0, 0], 2, bytes);
+        assert_eq!((answer, permissions), (expected, vec![7, 7]));
+        assert_eq!([&nodes, &out], [&before[0], &before[3]]);
+        assert!(is_zero(&front));
+        assert_eq!(index.len(), bytes);
+        assert!(is_zero(&index));
+    }
+    for bytes in [0, 4, 4 * 2048, 4 * 4095, 16383, 16385, 16386, 16387, 4 * 4097, 4 * 6144, 4 * 8191, 4 * 12288] {
+        let (answer, permissions, rooms) = mob(&[0, 0], 2, bytes);
+        assert_eq!((answer, permissions), (Err(Error::NoRoom), vec![7, 7]));
+        assert!(untouched(&rooms));
+        let (answer, permissions, rooms) = mob(&[0, 0], 3, bytes);
+        assert_eq!((answer, permissions), (Err(Error::BadTable), pattern(3)));
         assert!(untouched(&rooms));
     }
 }
@@ -319,10 +514,10 @@ fn cut(window: usize, request: usize, body: usize) -> [u64; 3] {
         request: &[0; 96][..request],
         body: &floats(&[0.625, 1.75, 0.5, 9.0])[..body],
     };
-    let (mut out, mut answer) = (pattern(40), [0; 32]);
-    let lent = raw::Lent { nodes: &mut [], front: &mut [], out: &mut out, answer: &mut answer };
+    let (mut index, mut out, mut answer) = (pattern(4), pattern(40), [0; 32]);
+    let lent = raw::Lent { nodes: &mut [], front: &mut [], index: &mut index, out: &mut out, answer: &mut answer };
     let search = raw::find_walk_path(&asked, lent);
-    assert_eq!(out, pattern(40));
+    assert_eq!((index, out), (pattern(4), pattern(40)));
     assert_eq!(answer, [search.to_le_bytes(), [0; 8], [0; 8], [0; 8]].concat()[..]);
     [search, raw::walk_back(&asked, &[0; 40]), raw::edge(&asked, [0.0; 3], [0.0; 3])]
 }
@@ -366,12 +561,12 @@ fn ends_that_are_cut_short_make_an_invalid_request() {
             request: &ends[..e],
             body: &body[..b],
         };
-        let mut permissions = [9, 9];
-        let [mut nodes, mut front, mut out] = [56, 24, 40].map(|n| pattern(n * (PATH_NODE_BUDGET + 1)));
-        let lent = raw::Lent { nodes: &mut nodes, front: &mut front, out: &mut out, answer: &mut [] };
+        let (mut permissions, mut rooms) = ([9, 9], mob_rooms(PATH_INDEX_BYTES));
+        let [nodes, front, index, out] = &mut rooms;
+        let lent = raw::Lent { nodes, front, index, out, answer: &mut [] };
         let number = raw::find_path(0, 0.0, flags, &asked, &mut permissions, lent);
         if number != 0 {
-            assert!(untouched(&[nodes, front, out]));
+            assert!(untouched(&rooms));
         }
         (number, permissions)
     };
@@ -386,12 +581,25 @@ fn ends_that_are_cut_short_make_an_invalid_request() {
     }
 }
 
+const HEADER: &str = include_str!("../../../include/walkprint.h");
+
+/// The header has this crate's sizes.
+#[test]
+fn one_size() {
+    let has = |name: &str, size: usize| {
+        let text = format!("WALKPRINT_{name} = {size}");
+        HEADER.split(&text).nth(1).is_some_and(|rest| !rest.starts_with(|c: char| c.is_ascii_digit()))
+    };
+    assert!(has("PATH_NODE_BUDGET", PATH_NODE_BUDGET));
+    assert!(has("PATH_INDEX_BYTES", PATH_INDEX_BYTES));
+    assert!(has("MOST_INDEX_BYTES", MOST_INDEX_BYTES));
+}
+
 /// The header's number, this crate's own and the library's are one.
 #[test]
 fn one_version() {
-    let header = include_str!("../../../include/walkprint.h");
     let part = |name: &str| -> u64 {
-        let line = header.lines().find_map(|line| line.strip_prefix(&format!("#define WALKPRINT_VERSION_{name} ")));
+        let line = HEADER.lines().find_map(|line| line.strip_prefix(&format!("#define WALKPRINT_VERSION_{name} ")));
         line.expect("the header has it").parse().expect("a number")
     };
     let parts = ["MAJOR", "MINOR", "PATCH"].map(part);

@@ -46,13 +46,13 @@ use Rattle.byte_claims.specs.Requests.{asked-in-f64, end-fits, mob-reque
 
 -- ---- what is said of a call
 
-module _ (w : Window) (cells perms shapes boxes : List ℕ) (r : Request) (body : Body) (nodes front out : List ℕ) where
+module _ (w : Window) (cells perms shapes boxes : List ℕ) (r : Request) (body : Body) (nodes front index out : List ℕ) where
   abbrev answer : Answer
-  answer = found w cells perms shapes boxes r body (length nodes) (length front) (length out)
+  answer = found w cells perms shapes boxes r body (length nodes) (length front) (length index) (length out)
 
   -- the list that an answer counts, at the front of the output that the call leaves
   abbrev list : List ℕ
-  list = take (40 * answer .count) (outAfter w cells perms shapes boxes r body nodes front out)
+  list = take (40 * answer .count) (outAfter w cells perms shapes boxes r body nodes front index out)
 
   pub record Claimed : Type 0 where
     -- 0, Found: the first 40 × count bytes of the output read back as a route by 01,
@@ -61,21 +61,21 @@ module _ (w : Window) (cells perms shapes boxes : List ℕ) (r : Request) (body 
     pub walk-back-accepts : outcomeNumber (answer .outcome) ≡ 0 → walked w cells perms shapes boxes r body list ≡ Yes
     -- 1, Unreachable, after a search: the points of the retained node records cover all that graph steps reach, by 01's same point.
     pub unreachable-kept-all : outcomeNumber (answer .outcome) ≡ 1 → answer .retained ≢ 0 → (p : Feet) → Reach (graph (space w cells perms shapes boxes) r body) p →
-        has (λ x. samePoint x p) (keptPoints (answer .retained) (nodesAfter w cells perms shapes boxes r body nodes front out)) ≡ true
+        has (λ x. samePoint x p) (keptPoints (answer .retained) (nodesAfter w cells perms shapes boxes r body nodes front index out)) ≡ true
     -- "lowest estimate first, then earliest push", of a valid request.
     pub lowest-estimate-first : validRequest r body ≡ true → LowestFirst (space w cells perms shapes boxes) r body
 
   claimed : InF64 r → Claimed
   claimed f = record {
-    found-reads-back = λ e. claims.found-reads-back w cells perms shapes boxes r body nodes front out f (is-found (answer .outcome) e);
-    walk-back-accepts = λ e. claims.walk-back-accepts w cells perms shapes boxes r body nodes front out f (is-found (answer .outcome) e);
-    unreachable-kept-all = λ e. claims.unreachable-kept-all w cells perms shapes boxes r body nodes front out f (is-unreachable (answer .outcome) e);
-    lowest-estimate-first = claims.lowest-estimate-first w cells perms shapes boxes r body nodes front out f;
+    found-reads-back = λ e. claims.found-reads-back w cells perms shapes boxes r body nodes front index out f (is-found (answer .outcome) e);
+    walk-back-accepts = λ e. claims.walk-back-accepts w cells perms shapes boxes r body nodes front index out f (is-found (answer .outcome) e);
+    unreachable-kept-all = λ e. claims.unreachable-kept-all w cells perms shapes boxes r body nodes front index out f (is-unreachable (answer .outcome) e);
+    lowest-estimate-first = claims.lowest-estimate-first w cells perms shapes boxes r body nodes front index out f;
   }
 
 -- ---- `walkprint_find_walk_path`: every argument is bytes
 
-module _ (window cells perms shapes boxes request body nodes front out : List ℕ) where
+module _ (window cells perms shapes boxes request body nodes front index out : List ℕ) where
   -- the request that its records ask
   abbrev question : Request
   question = asked window request body
@@ -83,12 +83,12 @@ module _ (window cells perms shapes boxes request body nodes front out : List �
   question-in-f64 : InF64 question
   question-in-f64 = asked-in-f64 window request body
 
-  pub through-c : Claimed (windowIn window) cells perms shapes boxes question (bodyIn body) nodes front out
-  through-c = claimed (windowIn window) cells perms shapes boxes question (bodyIn body) nodes front out question-in-f64
+  pub through-c : Claimed (windowIn window) cells perms shapes boxes question (bodyIn body) nodes front index out
+  through-c = claimed (windowIn window) cells perms shapes boxes question (bodyIn body) nodes front index out question-in-f64
 
 -- ---- `walkprint_find_path`: every argument is bytes but the policy, a number, and the jump height, an f64, here by its pattern
 
-module _ (bits pattern : ℕ) (flags window cells perms shapes boxes ends body nodes front out : List ℕ) where
+module _ (bits pattern : ℕ) (flags window cells perms shapes boxes ends body nodes front index out : List ℕ) where
   abbrev policy : WalkPolicy
   policy = policyIn bits (ofBits binary64 pattern)
 
@@ -109,29 +109,29 @@ module _ (bits pattern : ℕ) (flags window cells perms shapes boxes ends body n
   unfolding policyIn
   mob-in-f64 = mob-request-in-f64 policy start goal (bodyIn body) (ofBits-fits binary64 pattern) (end-fits _ ends 0) (end-fits _ ends 24)
 
-  pub through-c-of-a-mob : Claimed (windowIn window) cells filled shapes boxes mob (bodyIn body) nodes front out
-  through-c-of-a-mob = claimed (windowIn window) cells filled shapes boxes mob (bodyIn body) nodes front out mob-in-f64
+  pub through-c-of-a-mob : Claimed (windowIn window) cells filled shapes boxes mob (bodyIn body) nodes front index out
+  through-c-of-a-mob = claimed (windowIn window) cells filled shapes boxes mob (bodyIn body) nodes front index out mob-in-f64
 
   -- in that call's own words: the search with the filled table finds, and the output that the call leaves reads back
   pub mob-found-reads-back : (a : Answer) →
-      path policy (inWater bits) flags (windowIn window) cells perms shapes boxes start goal (bodyIn body) (length nodes) (length front) (length out) ≡ Searched a →
+      path policy (inWater bits) flags (windowIn window) cells perms shapes boxes start goal (bodyIn body) (length nodes) (length front) (length index) (length out) ≡ Searched a →
       outcomeNumber (a .outcome) ≡ 0 →
       RouteList (space (windowIn window) cells filled shapes boxes) mob (bodyIn body)
-      (take (40 * a .count) (outAfterPath policy (inWater bits) flags (windowIn window) cells perms shapes boxes start goal (bodyIn body) nodes front out))
+      (take (40 * a .count) (outAfterPath policy (inWater bits) flags (windowIn window) cells perms shapes boxes start goal (bodyIn body) nodes front index out))
   unfolding path outAfterPath unlessBad
   mob-found-reads-back a e z = go (eqb (length flags) (length perms)) e
     where
-      go : (b : Bool) → cond b (Searched (answer (windowIn window) cells filled shapes boxes mob (bodyIn body) nodes front out)) BadTable ≡ Searched a →
+      go : (b : Bool) → cond b (Searched (answer (windowIn window) cells filled shapes boxes mob (bodyIn body) nodes front index out)) BadTable ≡ Searched a →
           RouteList (space (windowIn window) cells filled shapes boxes) mob (bodyIn body)
-          (take (40 * a .count) (cond b (outAfter (windowIn window) cells filled shapes boxes mob (bodyIn body) nodes front out) out))
+          (take (40 * a .count) (cond b (outAfter (windowIn window) cells filled shapes boxes mob (bodyIn body) nodes front index out) out))
       go true e =
-          let i : answer (windowIn window) cells filled shapes boxes mob (bodyIn body) nodes front out ≡ a = cc in
+          let i : answer (windowIn window) cells filled shapes boxes mob (bodyIn body) nodes front index out ≡ a = cc in
           rw (← i) (through-c-of-a-mob .found-reads-back (rw (← i) at z))
       go false e = absurd (let q : _≡_ {A = ℕ} 0 1 = cc in omega arith)
 
 -- ---- walkprint: the records of a scene, read one by one into four tables, and the rooms of its search
 
-module _ (t : Tables) (ss : List (List ℕ)) (nodes front out : List ℕ) where
+module _ (t : Tables) (ss : List (List ℕ)) (nodes front index out : List ℕ) where
   -- the reader's answer and the tables that it leaves; what is told of an answer, and the output that is left
   abbrev read : scenes.Answer Scene
   read = readAll t ss .answer
@@ -140,10 +140,10 @@ module _ (t : Tables) (ss : List (List ℕ)) (nodes front out : List ℕ) where
   left = readAll t ss .tables
 
   abbrev tells : scenes.Answer Scene → Told
-  tells a = told (left .cells) (left .perms) (left .shapes) (left .boxes) a nodes front out
+  tells a = told (left .cells) (left .perms) (left .shapes) (left .boxes) a nodes front index out
 
   abbrev output : scenes.Answer Scene → List ℕ
-  output a = outOf (left .cells) (left .perms) (left .shapes) (left .boxes) a nodes front out
+  output a = outOf (left .cells) (left .perms) (left .shapes) (left .boxes) a nodes front index out
 
   -- a scene's tables are of exactly the sizes in use
   abbrev cellsOf : Scene → List ℕ
@@ -158,8 +158,8 @@ module _ (t : Tables) (ss : List (List ℕ)) (nodes front out : List ℕ) where
   abbrev boxesOf : Scene → List ℕ
   boxesOf s = take (s .«in_use» .boxes) (left .boxes)
 
-  pub of-a-scene : (s : Scene) → read ≡ given s → Claimed (s .window) (cellsOf s) (permsOf s) (shapesOf s) (boxesOf s) (s .request) (s .body) nodes front out
-  of-a-scene s e = claimed (s .window) (cellsOf s) (permsOf s) (shapesOf s) (boxesOf s) (s .request) (s .body) nodes front out (rw e at (scene-in-f64 t ss))
+  pub of-a-scene : (s : Scene) → read ≡ given s → Claimed (s .window) (cellsOf s) (permsOf s) (shapesOf s) (boxesOf s) (s .request) (s .body) nodes front index out
+  of-a-scene s e = claimed (s .window) (cellsOf s) (permsOf s) (shapesOf s) (boxesOf s) (s .request) (s .body) nodes front index out (rw e at (scene-in-f64 t ss))
 
   -- in its own words: where it tells 0, a scene was read, and the first 40 × waypoints bytes of the output are a route in it
   pub told-found-reads-back : tells read .number ≡ 0 →
@@ -171,5 +171,5 @@ module _ (t : Tables) (ss : List (List ℕ)) (nodes front out : List ℕ) where
       go : (a : scenes.Answer Scene) → Sound a → tells a .number ≡ 0 →
           (s : Scene) × (a ≡ given s)
           × RouteList (space (s .window) (cellsOf s) (permsOf s) (shapesOf s) (boxesOf s)) (s .request) (s .body) (take (40 * tells a .waypoints) (output a))
-      go (given s) f z = (s, refl, claimed (s .window) (cellsOf s) (permsOf s) (shapesOf s) (boxesOf s) (s .request) (s .body) nodes front out f .found-reads-back z)
+      go (given s) f z = (s, refl, claimed (s .window) (cellsOf s) (permsOf s) (shapesOf s) (boxesOf s) (s .request) (s .body) nodes front index out f .found-reads-back z)
       go (refused n k) f z = absurd (f z)

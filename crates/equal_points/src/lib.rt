@@ -4,7 +4,7 @@ ghost use mathlib.Core.Path.{_≡_};
 ghost use Rattle.rooms.specs.Waypoints.{canonicalWord, sameWord, samePoint};
 
 // -0.0's pattern as 0.0's, and any other as it is.
-fn canonical_word(n: u64) -> u64
+pub fn canonical_word(n: u64) -> u64
     ensures { λ r. ⌜ r ≡ canonicalWord n ⌝ }
 {
     if n == 0x8000_0000_0000_0000 { 0 } else { n }

@@ -10,7 +10,7 @@ use Rattle.world.specs.declared.Point.{Point}
 use Rattle.world.specs.declared.Body.{Body}
 use Rattle.world.specs.declared.Window.{Window}
 use Rattle.mob_request.specs.Asked.{requestOf}
-use Rattle.search.specs.FindWalkPath.{found, nodesAfter, frontAfter, outAfter}
+use Rattle.search.specs.FindWalkPath.{found, nodesAfter, frontAfter, indexAfter, outAfter}
 use Rattle.outcomes.specs.declared.Path.{Path}
 use Rattle.outcomes.specs.declared.Path.the-variants.{Searched, BadTable}
 
@@ -28,21 +28,25 @@ module _
     (body : Body)
   where
     -- "It judges 8, fills the permission table, which stays filled, then searches in the order above": the search with the filled table
-    unfoldable pub path : ℕ → ℕ → ℕ → Path
-    path nodes front out =
+    unfoldable pub path : (nodes front index out : ℕ) → Path
+    path nodes front index out =
         unlessBad flags perms
-        (Searched (found w cells (permissionTable p inWater flags perms) shapes boxes (requestOf p start goal body) body nodes front out))
+        (Searched (found w cells (permissionTable p inWater flags perms) shapes boxes (requestOf p start goal body) body nodes front index out))
         BadTable
 
     -- "6, 8 and 9 write nothing", and the search leaves what its own definitions say
-    unfoldable pub nodesAfterPath : List ℕ → List ℕ → List ℕ → List ℕ
-    nodesAfterPath nodes front out =
-        unlessBad flags perms (nodesAfter w cells (permissionTable p inWater flags perms) shapes boxes (requestOf p start goal body) body nodes front out) nodes
+    unfoldable pub nodesAfterPath : (nodes front index out : List ℕ) → List ℕ
+    nodesAfterPath nodes front index out =
+        unlessBad flags perms (nodesAfter w cells (permissionTable p inWater flags perms) shapes boxes (requestOf p start goal body) body nodes front index out) nodes
 
-    unfoldable pub frontAfterPath : List ℕ → List ℕ → List ℕ → List ℕ
-    frontAfterPath nodes front out =
-        unlessBad flags perms (frontAfter w cells (permissionTable p inWater flags perms) shapes boxes (requestOf p start goal body) body nodes front out) front
+    unfoldable pub frontAfterPath : (nodes front index out : List ℕ) → List ℕ
+    frontAfterPath nodes front index out =
+        unlessBad flags perms (frontAfter w cells (permissionTable p inWater flags perms) shapes boxes (requestOf p start goal body) body nodes front index out) front
 
-    unfoldable pub outAfterPath : List ℕ → List ℕ → List ℕ → List ℕ
-    outAfterPath nodes front out =
-        unlessBad flags perms (outAfter w cells (permissionTable p inWater flags perms) shapes boxes (requestOf p start goal body) body nodes front out) out
+    unfoldable pub indexAfterPath : (nodes front index out : List ℕ) → List ℕ
+    indexAfterPath nodes front index out =
+        unlessBad flags perms (indexAfter w cells (permissionTable p inWater flags perms) shapes boxes (requestOf p start goal body) body nodes front index out) index
+
+    unfoldable pub outAfterPath : (nodes front index out : List ℕ) → List ℕ
+    outAfterPath nodes front index out =
+        unlessBad flags perms (outAfter w cells (permissionTable p inWater flags perms) shapes boxes (requestOf p start goal body) body nodes front index out) out

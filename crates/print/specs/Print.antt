@@ -10,7 +10,7 @@ use Rattle.scene_state.specs.declared.state.Scene.{Scene}
 use Rattle.scene_state.specs.Answers.{Answer, given, refused}
 use Rattle.outcomes.specs.declared.Answer as search
 use Rattle.outcomes.specs.Outcomes.{outcomeNumber}
-use Rattle.search.specs.FindWalkPath.{found, nodesAfter, frontAfter, outAfter}
+use Rattle.search.specs.FindWalkPath.{found, nodesAfter, frontAfter, indexAfter, outAfter}
 use Rattle.lengths.specs.Length.{lengthOf}
 use Rattle.print_lines.specs.declared.Told.{Told}
 
@@ -37,22 +37,26 @@ module _ (cells perms shapes boxes : List ℕ) where
       f (s .window) (take (used .cells) cells) (take (used .perms) perms) (take (used .shapes) shapes) (take (used .boxes) boxes) (s .request) (s .body)
 
   -- its answer, and what it leaves in the lent rooms: of a refusal, what they held
-  unfoldable pub answered : Scene → ℕ → ℕ → ℕ → search.Answer
+  unfoldable pub answered : Scene → (nodes front index out : ℕ) → search.Answer
   answered = asked found
 
-  unfoldable pub nodesOf : Answer Scene → List ℕ → List ℕ → List ℕ → List ℕ
-  nodesOf (refused n k) nodes front out = nodes
-  nodesOf (given s) nodes front out = asked nodesAfter s nodes front out
+  unfoldable pub nodesOf : Answer Scene → (nodes front index out : List ℕ) → List ℕ
+  nodesOf (refused n k) nodes front index out = nodes
+  nodesOf (given s) nodes front index out = asked nodesAfter s nodes front index out
 
-  unfoldable pub frontOf : Answer Scene → List ℕ → List ℕ → List ℕ → List ℕ
-  frontOf (refused n k) nodes front out = front
-  frontOf (given s) nodes front out = asked frontAfter s nodes front out
+  unfoldable pub frontOf : Answer Scene → (nodes front index out : List ℕ) → List ℕ
+  frontOf (refused n k) nodes front index out = front
+  frontOf (given s) nodes front index out = asked frontAfter s nodes front index out
 
-  unfoldable pub outOf : Answer Scene → List ℕ → List ℕ → List ℕ → List ℕ
-  outOf (refused n k) nodes front out = out
-  outOf (given s) nodes front out = asked outAfter s nodes front out
+  unfoldable pub indexOf : Answer Scene → (nodes front index out : List ℕ) → List ℕ
+  indexOf (refused n k) nodes front index out = index
+  indexOf (given s) nodes front index out = asked indexAfter s nodes front index out
+
+  unfoldable pub outOf : Answer Scene → (nodes front index out : List ℕ) → List ℕ
+  outOf (refused n k) nodes front index out = out
+  outOf (given s) nodes front index out = asked outAfter s nodes front index out
 
   -- all that is told of a scene or of its refusal
-  unfoldable pub told : Answer Scene → List ℕ → List ℕ → List ℕ → Told
-  told (refused n k) nodes front out = refusal n k
-  told (given s) nodes front out = toldOf (answered s (length nodes) (length front) (length out)) (outOf (given s) nodes front out)
+  unfoldable pub told : Answer Scene → (nodes front index out : List ℕ) → Told
+  told (refused n k) nodes front index out = refusal n k
+  told (given s) nodes front index out = toldOf (answered s (length nodes) (length front) (length index) (length out)) (outOf (given s) nodes front index out)

@@ -24,6 +24,7 @@ fn write_lines(told: Told, list: &[u8], n: usize) {
 fn print_told(answer: SceneAnswer, cells: &[u8], perms: &[u8], shapes: &[u8], boxes: &[u8]) {
     let mut nodes = [0u8; 28672];
     let mut front = [0u8; 12288];
+    let mut index = [0u8; 4096];
     let mut out = [0u8; 20520];
     let told = telling::tell(
         answer,
@@ -33,6 +34,7 @@ fn print_told(answer: SceneAnswer, cells: &[u8], perms: &[u8], shapes: &[u8], bo
         boxes,
         &mut nodes,
         &mut front,
+        &mut index,
         &mut out,
     );
     write_lines(told, &out, told.waypoints);

@@ -3,7 +3,7 @@ ghost use mathlib.Core.Path.{_≡_};
 ghost use Prim.Native.Nat.{_*_};
 ghost use lib.ListN.{take};
 ghost use Rattle.scene_state.specs.Answers.{sceneAnswer};
-ghost use Rattle.print.specs.Print.{refusal, toldOf, nodesOf, frontOf, outOf, told};
+ghost use Rattle.print.specs.Print.{refusal, toldOf, nodesOf, frontOf, indexOf, outOf, told};
 use outcomes::Answer;
 use print_lines::Told;
 use scene_state::SceneAnswer;
@@ -68,12 +68,14 @@ pub fn tell(
     boxes: &[u8],
     nodes: &mut [u8],
     front: &mut [u8],
+    index: &mut [u8],
     out: &mut [u8],
 ) -> Told
-    ensures answer { λ t. ⌜ t ≡ told (now (cells .entry)) (now (perms .entry)) (now (shapes .entry)) (now (boxes .entry)) (sceneAnswer answer) (now (nodes .entry)) (now (front .entry)) (now (out .entry)) ⌝ }
-    ensures nodes { λ _. ⌜ now (nodes .exit) ≡ nodesOf (now (cells .entry)) (now (perms .entry)) (now (shapes .entry)) (now (boxes .entry)) (sceneAnswer answer) (now (nodes .entry)) (now (front .entry)) (now (out .entry)) ⌝ }
-    ensures front { λ _. ⌜ now (front .exit) ≡ frontOf (now (cells .entry)) (now (perms .entry)) (now (shapes .entry)) (now (boxes .entry)) (sceneAnswer answer) (now (nodes .entry)) (now (front .entry)) (now (out .entry)) ⌝ }
-    ensures out { λ _. ⌜ now (out .exit) ≡ outOf (now (cells .entry)) (now (perms .entry)) (now (shapes .entry)) (now (boxes .entry)) (sceneAnswer answer) (now (nodes .entry)) (now (front .entry)) (now (out .entry)) ⌝ }
+    ensures answer { λ t. ⌜ t ≡ told (now (cells .entry)) (now (perms .entry)) (now (shapes .entry)) (now (boxes .entry)) (sceneAnswer answer) (now (nodes .entry)) (now (front .entry)) (now (index .entry)) (now (out .entry)) ⌝ }
+    ensures nodes { λ _. ⌜ now (nodes .exit) ≡ nodesOf (now (cells .entry)) (now (perms .entry)) (now (shapes .entry)) (now (boxes .entry)) (sceneAnswer answer) (now (nodes .entry)) (now (front .entry)) (now (index .entry)) (now (out .entry)) ⌝ }
+    ensures front { λ _. ⌜ now (front .exit) ≡ frontOf (now (cells .entry)) (now (perms .entry)) (now (shapes .entry)) (now (boxes .entry)) (sceneAnswer answer) (now (nodes .entry)) (now (front .entry)) (now (index .entry)) (now (out .entry)) ⌝ }
+    ensures index { λ _. ⌜ now (index .exit) ≡ indexOf (now (cells .entry)) (now (perms .entry)) (now (shapes .entry)) (now (boxes .entry)) (sceneAnswer answer) (now (nodes .entry)) (now (front .entry)) (now (index .entry)) (now (out .entry)) ⌝ }
+    ensures out { λ _. ⌜ now (out .exit) ≡ outOf (now (cells .entry)) (now (perms .entry)) (now (shapes .entry)) (now (boxes .entry)) (sceneAnswer answer) (now (nodes .entry)) (now (front .entry)) (now (index .entry)) (now (out .entry)) ⌝ }
 {
     match answer {
         SceneAnswer::NoRoom => refusal(5, 0),
@@ -84,7 +86,7 @@ pub fn tell(
             let p = front_of(perms, used.perms);
             let h = front_of(shapes, used.shapes);
             let b = front_of(boxes, used.boxes);
-            let a = search::find_walk_path(s.window, c, p, h, b, s.request, s.body, nodes, front, out);
+            let a = search::find_walk_path(s.window, c, p, h, b, s.request, s.body, nodes, front, index, out);
             told_of(a, out)
         }
     }

@@ -82,8 +82,8 @@ fn again(
     Visit::Counted(c)
 }
 
-// A step that an expansion of node k, which is `from`, found: to a known point it may re-parent, a new point is retained while there is room, and else
-// counted as dropped.
+// A step that an expansion of node k, which is `from`, found, to a point where a lookup found node j: such a node may be re-parented. A j that is not below the
+// retained nodes says that none is there: the point is retained while there is room, and else counted as dropped.
 pub fn visit(
     nodes: &mut [u8],
     front: &mut [u8],
@@ -91,17 +91,17 @@ pub fn visit(
     k: usize,
     from: NodeRecord,
     mut c: Counts,
+    j: usize,
     to: Feet,
     label: Label,
 ) -> Visit
-    ensures { λ v. ⌜ VisitedIf aim k from c to label v (now (nodes .entry)) (now (front .entry)) (now (nodes .exit)) (now (front .exit)) ⌝ }
+    ensures { λ v. ⌜ VisitedIf aim k from c j to label v (now (nodes .entry)) (now (front .entry)) (now (nodes .exit)) (now (front .exit)) ⌝ }
 {
     let ready = visits::is_ready(nodes.len(), front.len(), aim.budget, k, c);
     if !ready {
         return Visit::Counted(c);
     }
     let n = c.retained;
-    let j = scans::seek(nodes, n, to);
     if j < n {
         return again(nodes, front, aim, k, from, c, j, to, label);
     }

@@ -37,12 +37,13 @@ le-as-lt x n = go (ltb x (n + 1)) refl
     go true e = le-leb x n (omega (arith, ltb-true x (n + 1) e))
     go false e = lt-leb x n (omega (arith, ltb-false x (n + 1) e))
 
-pub room-divided : (n nodes front out : ℕ) → (ltb (nodes / 56) n || ltb (front / 24) n || leb (out / 40) n) ≡ noRoom n nodes front out
+pub room-divided : (n nodes front out : ℕ) (wrongIndex : Bool) →
+    (ltb (nodes / 56) n || ltb (front / 24) n || leb (out / 40) n || wrongIndex) ≡ (noRoom n nodes front out || wrongIndex)
 unfolding noRoom
-room-divided n nodes front out =
+room-divided n nodes front out wrongIndex =
     rw (few 56 n nodes (omega arith), few 24 n front (omega arith), le-as-lt (out / 40) n ∙ few 40 (n + 1) out (omega arith))
 
-module _ (w : Window) (cells perms shapes boxes : List ℕ) (r : Request) (body : Body) (nodes front out : ℕ) where
+module _ (w : Window) (cells perms shapes boxes : List ℕ) (r : Request) (body : Body) (nodes front out : ℕ) (wrongIndex : Bool) where
   abbrev bad : Bool
   bad = badWorld w cells shapes boxes
 
@@ -53,13 +54,13 @@ module _ (w : Window) (cells perms shapes boxes : List ℕ) (r : Request) (body 
   large = tooLarge r body
 
   abbrev short : Bool
-  short = noRoom (r .«node_budget») nodes front out
+  short = noRoom (r .«node_budget») nodes front out || wrongIndex
 
   abbrev good : Bool
   good = endsGood (space w cells perms shapes boxes) r body
 
   abbrev way : Option Outcome
-  way = withoutSearch w cells perms shapes boxes r body nodes front out
+  way = withoutSearch w cells perms shapes boxes r body nodes front out wrongIndex
 
   -- ---- the ways out, in 01's order, each under the tests so far
 
@@ -102,8 +103,9 @@ module _ (w : Window) (cells perms shapes boxes : List ℕ) (r : Request) (body 
 
   has-room : bad ≡ false → large ≡ false → short ≡ false → Begun
   unfolding noRoom
-  has-room b l e =
+  has-room b l e′ =
       let n = r .«node_budget» in
+      let e = or-false (noRoom n nodes front out) wrongIndex e′ .0 in
       let f = or-false (ltb nodes (56 * n) || ltb front (24 * n)) (ltb out (40 * (n + 1))) e .0 in
       record {
         world = b;

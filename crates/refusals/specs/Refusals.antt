@@ -22,13 +22,14 @@ unfoldable pub noRoom : ℕ → ℕ → ℕ → ℕ → Bool
 noRoom budget nodes front out = ltb nodes (56 * budget) || ltb front (24 * budget) || ltb out (40 * (budget + 1))
 
 -- "Search order: 3; `valid_request` (else 1); 4; 5; goal in range, start standable, goal standable (else 1); budget 0 (2); search": what is answered
--- without a search, or none where it begins. Of the rooms only the sizes count.
-unfoldable pub withoutSearch : Window → List ℕ → List ℕ → List ℕ → List ℕ → Request → Body → ℕ → ℕ → ℕ → Option Outcome
-withoutSearch w cells perms shapes boxes r body nodes front out =
+-- without a search, or none where it begins. Of the rooms only the sizes count. 02, No. 7: "5 also for an index room of a wrong size"; a search without an
+-- index passes false.
+unfoldable pub withoutSearch : Window → List ℕ → List ℕ → List ℕ → List ℕ → Request → Body → ℕ → ℕ → ℕ → Bool → Option Outcome
+withoutSearch w cells perms shapes boxes r body nodes front out wrongIndex =
     cond (badWorld w cells shapes boxes) (some BadWorld)
     (cond (not (validRequest r body)) (some Unreachable)
     (cond (tooLarge r body) (some TooLarge)
-    (cond (noRoom (r .«node_budget») nodes front out) (some NoRoom)
+    (cond (noRoom (r .«node_budget») nodes front out || wrongIndex) (some NoRoom)
     (cond (not (endsGood (space w cells perms shapes boxes) r body)) (some Unreachable)
     (cond (eqb (r .«node_budget») 0) (some BudgetExceeded)
     none)))))

@@ -12,7 +12,7 @@ pub enum Judged {
     Begins,
 }
 
-// The call judged in 01's order; of the three rooms only their lengths count.
+// The call judged in 01's order; of the three rooms only their lengths count, and of an index whether its size is wrong.
 pub fn judge(
     w: Window,
     cells: &[u8],
@@ -24,8 +24,9 @@ pub fn judge(
     nodes: usize,
     front: usize,
     out: usize,
+    wrong_index: bool,
 ) -> Judged
-    ensures { λ a. ⌜ judgedNumber a ≡ numberIf (withoutSearch w (now (cells .entry)) (now (perms .entry)) (now (shapes .entry)) (now (boxes .entry)) r body nodes front out) ⌝ }
+    ensures { λ a. ⌜ judgedNumber a ≡ numberIf (withoutSearch w (now (cells .entry)) (now (perms .entry)) (now (shapes .entry)) (now (boxes .entry)) r body nodes front out «wrong_index») ⌝ }
 {
     if tables::bad_world(w, cells, shapes, boxes) {
         return Judged::Refused(Outcome::BadWorld);
@@ -37,7 +38,7 @@ pub fn judge(
         return Judged::Refused(Outcome::TooLarge);
     }
     let n = r.node_budget as usize;
-    if (nodes / 56 < n) | (front / 24 < n) | (out / 40 <= n) {
+    if (nodes / 56 < n) | (front / 24 < n) | (out / 40 <= n) | wrong_index {
         return Judged::Refused(Outcome::NoRoom);
     }
     if !ends::ends_good(w, cells, perms, shapes, boxes, r, body) {

@@ -48,16 +48,17 @@ pub(crate) fn with_edge(d: u64, a: EdgeAnswer) -> u64 {
     with_float(with_float(with_float(e, w.feet.y), w.feet.z), w.lift)
 }
 
-// The outcome and the three counts, then every byte of the three rooms.
+// The outcome and the three counts, then every byte of the four rooms.
 pub(crate) fn with_search(
     d: u64,
     a: Answer,
     nodes: &[u8; 28800],
     front: &[u8; 28800],
+    index: &[u8; 8208],
     out: &[u8; 28800],
 ) -> u64 {
     let outcome = a.outcome;
     let e = with(with(d, outcomes::number_of(outcome)), a.count as u64);
     let f = with(with(e, a.retained as u64), a.closed);
-    with_words(with_words(with_words(f, nodes), front), out)
+    with_words(with_words(with_words(with_words(f, nodes), front), index), out)
 }

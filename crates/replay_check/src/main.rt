@@ -4,6 +4,7 @@
 mod asked;
 mod case;
 mod digest;
+mod lookups;
 mod points;
 mod sheet;
 mod trial;
@@ -26,7 +27,7 @@ fn print_line(d: u64) {
 // What changes from case to case is a run of the scene's bytes and one of the sheet's.
 fn main() {
     let mut scene = [0u8; 24576];
-    let mut sheet = [0u8; 352];
+    let mut sheet = [0u8; 356];
     let count = input::number(2);
     for _ in 0..count {
         print_scene();

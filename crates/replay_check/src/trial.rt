@@ -1,5 +1,7 @@
-// A search in rooms of the sheet's sizes, full of the sheet's byte.
+// A search in rooms of the sheet's sizes, full of the sheet's byte, and then its nodes in the index. Before it one slot of the index looks free: where none
+// does, a search that reads old slots enters no node, scans them all, and answers as it must.
 use crate::digest;
+use crate::lookups;
 use crate::sheet;
 use scene_state::Scene;
 
@@ -15,9 +17,12 @@ pub(crate) fn searched(
     let fill = scene_records::byte_at(asked, sheet::FILL);
     let mut nodes = [fill; 28800];
     let mut front = [fill; 28800];
+    let mut index = [fill; 8208];
     let mut out = [fill; 28800];
+    stores::put_u32(&mut index, 0, 0);
     let n = sheet::number(asked, sheet::NODES) % 28801;
     let f = sheet::number(asked, sheet::FRONT) % 28801;
+    let x = sheet::number(asked, sheet::INDEX) % 8209;
     let o = sheet::number(asked, sheet::OUT) % 28801;
     let lent = sheet::front(cells, sheet::number(asked, sheet::CELLS));
     let a = search::find_walk_path(
@@ -30,7 +35,11 @@ pub(crate) fn searched(
         s.body,
         &mut nodes[..n],
         &mut front[..f],
+        &mut index[..x],
         &mut out[..o],
     );
-    digest::with_search(d, a, &nodes, &front, &out)
+    let e = digest::with_search(d, a, &nodes, &front, &index, &out);
+    let m = lookups::entered(&mut index, x, &nodes, a.retained);
+    let goal = words::feet_of(s.request.goal);
+    lookups::with_found(e, &index, x, &nodes, m, a.retained, goal)
 }

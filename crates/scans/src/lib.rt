@@ -7,7 +7,7 @@ use rooms::get_entry;
 use rooms::get_feet;
 ghost use mathlib.Core.Path.{_≡_};
 ghost use Prim.Native.Nat.{_-_, _≤_};
-ghost use Rattle.rooms.specs.Scans.{firstOf, isAt, sooner, firstAt, nextOf};
+ghost use Rattle.rooms.specs.Scans.{firstOf, isAt, sooner, nextOf};
 
 // More nodes than a room can tell apart: a parent's number is a u32.
 const NODES: usize = 4294967296;
@@ -28,18 +28,18 @@ fn next_near(nodes: &[u8], from: usize, n: usize, q: Feet) -> usize
     i
 }
 
-// The first of n nodes at a point, or n.
-pub fn seek(nodes: &[u8], n: usize, q: Feet) -> usize
-    ensures { λ r. ⌜ r ≡ firstAt (now (nodes .entry)) n q ⌝ }
+// The first node at a point among the nodes `from` to n - 1; if none is, n; if `from` is past n, `from`.
+pub fn seek(nodes: &[u8], from: usize, n: usize, q: Feet) -> usize
+    ensures { λ r. ⌜ r ≡ firstOf (isAt (now (nodes .entry)) q) from (n - from) ⌝ }
 {
-    let mut i = 0;
+    let mut i = from;
     while i < n {
         if same_point(get_feet(nodes, i), q) {
             return i;
         }
         i = next_near(nodes, i + 1, n, q);
     }
-    n
+    i
 }
 
 // Whether one waiting entry comes before another.

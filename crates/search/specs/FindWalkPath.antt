@@ -1,4 +1,4 @@
--- What `find_walk_path` answers and what it leaves in the three rooms (01, "Numbers given back"). Definitions only.
+-- What `find_walk_path` answers and what it leaves in the four rooms (01, "Numbers given back"; 02, No. 7). Definitions only.
 use Prim.Native.Nat.{ℕ, _*_}
 use mathlib.Core.Option.{Option, none, some}
 use mathlib.Core.List.{List, _++_}
@@ -20,6 +20,7 @@ use Rattle.outcomes.specs.declared.Outcome.{Outcome}
 use Rattle.outcomes.specs.declared.Answer.{Answer}
 use Rattle.outcomes.specs.Outcomes.{toldBy, listIn, unsearched}
 use Rattle.refusals.specs.Refusals.{withoutSearch}
+use Rattle.index.specs.Size.{wrongSize}
 
 -- ---- the search
 
@@ -46,8 +47,12 @@ module _ (w : Window) (cells perms shapes boxes : List ℕ) (r : Request) (body 
     closed = ended here r body .closings;
   }
 
-  unfoldable pub found : ℕ → ℕ → ℕ → Answer
-  found nodes front out = answerBy (withoutSearch w cells perms shapes boxes r body nodes front out)
+  -- what is answered before a search, for rooms of so many bytes
+  abbrev pub beforeSearch : (nodes front index out : ℕ) → Option Outcome
+  beforeSearch nodes front index out = withoutSearch w cells perms shapes boxes r body nodes front out (wrongSize index (r .«node_budget»))
+
+  unfoldable pub found : (nodes front index out : ℕ) → Answer
+  found nodes front index out = answerBy (beforeSearch nodes front index out)
 
   -- ---- the rooms, of their old bytes: "Node and frontier rooms are untouched unless the search began."
 
@@ -56,21 +61,29 @@ module _ (w : Window) (cells perms shapes boxes : List ℕ) (r : Request) (body 
   nodesBy (some o) old = old
   nodesBy none old = nodeRoom old (ended here r body .nodes)
 
-  -- "the frontier room is all zero"
-  abbrev pub frontBy : Option Outcome → List ℕ → List ℕ
-  frontBy (some o) old = old
-  frontBy none old = replicate (length old) 0
+  -- "the frontier room is all zero", and so is the index room
+  abbrev pub zeroBy : Option Outcome → List ℕ → List ℕ
+  zeroBy (some o) old = old
+  zeroBy none old = replicate (length old) 0
 
   -- "On 1 to 5 the output is untouched", "Output past the list stays."
   abbrev pub outBy : Option Outcome → List ℕ → List ℕ
   outBy (some o) old = old
   outBy none old = listBytes (listIn (endOf here r body)) ++ drop (40 * length (listIn (endOf here r body))) old
 
-  unfoldable pub nodesAfter : List ℕ → List ℕ → List ℕ → List ℕ
-  nodesAfter nodes front out = nodesBy (withoutSearch w cells perms shapes boxes r body (length nodes) (length front) (length out)) nodes
+  -- for the four rooms that are lent
+  abbrev beforeSearchIn : (nodes front index out : List ℕ) → Option Outcome
+  beforeSearchIn nodes front index out = beforeSearch (length nodes) (length front) (length index) (length out)
 
-  unfoldable pub frontAfter : List ℕ → List ℕ → List ℕ → List ℕ
-  frontAfter nodes front out = frontBy (withoutSearch w cells perms shapes boxes r body (length nodes) (length front) (length out)) front
+  unfoldable pub nodesAfter : (nodes front index out : List ℕ) → List ℕ
+  nodesAfter nodes front index out = nodesBy (beforeSearchIn nodes front index out) nodes
 
-  unfoldable pub outAfter : List ℕ → List ℕ → List ℕ → List ℕ
-  outAfter nodes front out = outBy (withoutSearch w cells perms shapes boxes r body (length nodes) (length front) (length out)) out
+  unfoldable pub frontAfter : (nodes front index out : List ℕ) → List ℕ
+  frontAfter nodes front index out = zeroBy (beforeSearchIn nodes front index out) front
+
+  -- 02, No. 7: "The index room is zero after a search and untouched by one that never began."
+  unfoldable pub indexAfter : (nodes front index out : List ℕ) → List ℕ
+  indexAfter nodes front index out = zeroBy (beforeSearchIn nodes front index out) index
+
+  unfoldable pub outAfter : (nodes front index out : List ℕ) → List ℕ
+  outAfter nodes front index out = outBy (beforeSearchIn nodes front index out) out

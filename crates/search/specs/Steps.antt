@@ -21,7 +21,7 @@ use Rattle.rooms.specs.Rooms.{Note, stateOf}
 use Rattle.rooms.specs.Laws.Rooms.{BySamePoint}
 use Rattle.visits.specs.declared.Aim.{Aim}
 use Rattle.visits.specs.Best.{best}
-use Rattle.visits.specs.Visits.{Kept, Near}
+use Rattle.visits.specs.Visits.{Kept, Still, Near}
 use Rattle.strides.specs.declared.Place.{Place}
 use Rattle.strides.specs.declared.Column.{Column}
 use Rattle.search.specs.declared.Around.{Around}
@@ -31,6 +31,7 @@ pub record Stepped (aim : Aim) (at : Place) (ws : List Waypoint) (c r : Counts) 
   pub state : (𝓖 : Graph Feet Label) → BySamePoint 𝓖 → (n : Node Feet Label Note) → n .point ≡ at .node .feet → n .note .cost ≡ at .node .cost →
       stateOf b g r ≡ visits 𝓖 (best (aim .goal)) (aim .budget) (at .number) n (stateOf a f c) (map stepOf ws)
   pub kept : Kept (r .retained) a f b g
+  pub still : Still (c .retained) a b
   pub near : Near (aim .budget) (length ws) c r
 
 -- and noted, whether one of them does not climb

@@ -17,7 +17,7 @@ use Rattle.rooms.specs.declared.Counts.{Counts}
 use Rattle.rooms.specs.Rooms.{Note, nodesOf, stateOf}
 use Rattle.visits.specs.declared.Aim.{Aim}
 use Rattle.visits.specs.Best.{best}
-use Rattle.visits.specs.Visits.{Kept, Near}
+use Rattle.visits.specs.Visits.{Kept, Still, Near}
 use Rattle.outcomes.specs.Outcomes.{countsOf}
 use Rattle.outcomes.specs.declared.Turn.{Turn}
 use Rattle.outcomes.specs.declared.Turn.the-variants.{Rest, Going, At, By}
@@ -46,5 +46,6 @@ Quiet aim a f (By r k l) = Unit {0}
 pub record Turned (aim : Aim) (sp : Space) (r : Request) (body : Body) (c : Counts) (t : Turn) (a f b g : List ℕ) : Type 0 where
   pub state : after aim t b g ≡ advance (graph sp r body) (best (aim .goal)) (aim .budget) (stateOf a f c)
   pub kept : Kept (countsOf t .retained) a f b g
+  pub still : Still (c .retained) a b
   pub near : Near (aim .budget) (mostSteps + 1) c (countsOf t)
   pub quiet : Quiet aim b g t

@@ -8,20 +8,22 @@ use strides::Column;
 use strides::Place;
 use world::Point;
 ghost use mathlib.Core.Path.{_≡_};
-ghost use Prim.Native.Nat.{_+_, _<_};
+ghost use Prim.Native.Nat.{_+_, _≤_, _<_};
 ghost use lib.ListN.{length};
 ghost use Rattle.world.specs.Space.{space};
 ghost use Rattle.steps.specs.Columns.{columnIf, stepsFrom};
 ghost use Rattle.steps.specs.Expansion.{sidesBefore};
 ghost use Rattle.visits.specs.Visits.{Ready};
+ghost use Rattle.index.specs.Indexed.{Indexed};
 ghost use Rattle.search.specs.Steps.{Stepped, Looked};
 
 // Column n, where it is looked at: its heights upwards.
 fn column(
     task: Task, cells: &[u8], perms: &[u8], shapes: &[u8], boxes: &[u8],
-    nodes: &mut [u8], front: &mut [u8], at: Place, n: usize, c: Around,
+    nodes: &mut [u8], front: &mut [u8], index: &[u8], known: usize, at: Place, n: usize, c: Around,
 ) -> Around
     requires { ⌜ Ready (now nodes) (now front) (task .aim .budget) (length (columnIf (space (task .w) (now cells) (now perms) (now shapes) (now boxes)) (task .r) (task .body) (at .point) n) + 1) (c .counts) × (at .number < c .counts .retained) ⌝ }
+    requires { ⌜ Indexed (now index) (now nodes) known × (known ≤ c .counts .retained) ⌝ }
     requires { ⌜ c .sides ≡ sidesBefore (space (task .w) (now cells) (now perms) (now shapes) (now boxes)) (task .r) (task .body) (at .point) n ⌝ }
     ensures { λ a. ⌜ Looked (task .aim) at (space (task .w) (now (cells .entry)) (now (perms .entry)) (now (shapes .entry)) (now (boxes .entry))) (task .r) (task .body) n c a (now (nodes .entry)) (now (front .entry)) (now (nodes .exit)) (now (front .exit)) ⌝ }
 {
@@ -40,8 +42,9 @@ fn column(
             return Around { counts, sides };
         };
         let to = Point { x: centre.x, y, z: centre.z };
+        let j = index::find(index, nodes, known, gone.counts.retained, words::feet_of(to));
         let edge = edges::edge(task.w, cells, perms, shapes, boxes, task.r, task.body, at.point, to);
-        gone = strides::step_to(nodes, front, task.aim, at, edge, gone);
+        gone = strides::step_to(nodes, front, task.aim, at, edge, j, gone);
         after = Height::At(y);
     }
 }
@@ -49,16 +52,17 @@ fn column(
 // The columns around a point, in order.
 pub(crate) fn columns(
     task: Task, cells: &[u8], perms: &[u8], shapes: &[u8], boxes: &[u8],
-    nodes: &mut [u8], front: &mut [u8], at: Place, c: Counts,
+    nodes: &mut [u8], front: &mut [u8], index: &[u8], known: usize, at: Place, c: Counts,
 ) -> Counts
     requires { ⌜ Ready (now nodes) (now front) (task .aim .budget) (length (stepsFrom (space (task .w) (now cells) (now perms) (now shapes) (now boxes)) (task .r) (task .body) (at .point)) + 1) c × (at .number < c .retained) ⌝ }
+    requires { ⌜ Indexed (now index) (now nodes) known × (known ≤ c .retained) ⌝ }
     ensures { λ a. ⌜ Stepped (task .aim) at (stepsFrom (space (task .w) (now (cells .entry)) (now (perms .entry)) (now (shapes .entry)) (now (boxes .entry))) (task .r) (task .body) (at .point)) c a (now (nodes .entry)) (now (front .entry)) (now (nodes .exit)) (now (front .exit)) ⌝ }
 {
     let sides = Sides::none();
     let mut gone = Around { counts: c, sides };
     let mut n: usize = 0;
     while n < 9 {
-        gone = column(task, cells, perms, shapes, boxes, nodes, front, at, n, gone);
+        gone = column(task, cells, perms, shapes, boxes, nodes, front, index, known, at, n, gone);
         n += 1;
     }
     gone.counts

@@ -6,19 +6,21 @@ use outcomes::Turn;
 use rooms::Counts;
 use strides::Place;
 ghost use mathlib.Core.Path.{_≡_};
-ghost use Prim.Native.Nat.{_+_};
+ghost use Prim.Native.Nat.{_+_, _≤_};
 ghost use Rattle.world.specs.Space.{space};
 ghost use Rattle.words.specs.Words.{feetOf};
 ghost use Rattle.visits.specs.Visits.{Ready};
+ghost use Rattle.index.specs.Indexed.{Indexed};
 ghost use Rattle.search.specs.Turns.{mostSteps, Bounded, Turned};
 
-// One expansion, of whatever state the rooms are.
+// One expansion, of whatever state the rooms are. The first `known` nodes are found by the index, the others by a scan: with 0 known, all.
 pub(crate) fn expand(
     task: Task, cells: &[u8], perms: &[u8], shapes: &[u8], boxes: &[u8],
-    nodes: &mut [u8], front: &mut [u8], c: Counts,
+    nodes: &mut [u8], front: &mut [u8], index: &[u8], known: usize, c: Counts,
 ) -> Turn
     requires { ⌜ Ready (now nodes) (now front) (task .aim .budget) (mostSteps + 2) c ⌝ }
     requires { ⌜ (task .aim .goal ≡ feetOf (task .r .goal)) × Bounded (space (task .w) (now cells) (now perms) (now shapes) (now boxes)) (task .r) (task .body) ⌝ }
+    requires { ⌜ Indexed (now index) (now nodes) known × (known ≤ c .retained) ⌝ }
     ensures { λ t. ⌜ Turned (task .aim) (space (task .w) (now (cells .entry)) (now (perms .entry)) (now (shapes .entry)) (now (boxes .entry))) (task .r) (task .body) c t (now (nodes .entry)) (now (front .entry)) (now (nodes .exit)) (now (front .exit)) ⌝ }
 {
     let k = scans::pick(front, c.retained);
@@ -37,6 +39,6 @@ pub(crate) fn expand(
         return Turn::By(shut, k, label);
     }
     let at = Place { number: k, node, point };
-    let counts = columns(task, cells, perms, shapes, boxes, nodes, front, at, shut);
+    let counts = columns(task, cells, perms, shapes, boxes, nodes, front, index, known, at, shut);
     Turn::Going(counts)
 }

@@ -20,14 +20,14 @@ abbrev pub levelBy : Point → EdgeAnswer → Bool
 levelBy from Nowhere = false
 levelBy from (To w) = levelTo from (w .feet)
 
--- no edge changes nothing; the step of one is the theory's visit, where the rooms are ready for it
-abbrev pub VisitedBy : Aim → Place → EdgeAnswer → Counts → Counts → List ℕ → List ℕ → List ℕ → List ℕ → Type 0
-VisitedBy aim at Nowhere c r a f b g = Untouched c r a f b g
-VisitedBy aim at (To w) c r a f b g =
-    (ready (length a) (length f) (aim .budget) (at .number) c ≡ true → Visited aim (at .number) (at .node) c (feetOf (w .feet)) (labelOf w) r a f b g)
+-- without an edge nothing changes; else, in rooms that are ready for it, the step is what the theory makes of it where a lookup gave j
+abbrev pub VisitedBy : Aim → Place → EdgeAnswer → ℕ → Counts → Counts → List ℕ → List ℕ → List ℕ → List ℕ → Type 0
+VisitedBy aim at Nowhere j c r a f b g = Untouched c r a f b g
+VisitedBy aim at (To w) j c r a f b g =
+    (ready (length a) (length f) (aim .budget) (at .number) c ≡ true → Visited aim (at .number) (at .node) c j (feetOf (w .feet)) (labelOf w) r a f b g)
     × (ready (length a) (length f) (aim .budget) (at .number) c ≡ false → Untouched c r a f b g)
 
 -- also at a closed node the edge is noted: "a closed side still answers"
-pub record Strode (aim : Aim) (at : Place) (edge : EdgeAnswer) (c r : Column) (a f b g : List ℕ) : Type 0 where
+pub record Strode (aim : Aim) (at : Place) (edge : EdgeAnswer) (j : ℕ) (c r : Column) (a f b g : List ℕ) : Type 0 where
   pub noted : r .level ≡ (c .level || levelBy (at .point) edge)
-  pub visited : VisitedBy aim at edge (c .counts) (r .counts) a f b g
+  pub visited : VisitedBy aim at edge j (c .counts) (r .counts) a f b g

@@ -12,14 +12,14 @@ use Rattle.strides.specs.declared.Column.{Column}
 use Rattle.strides.specs.Strides.{VisitedBy, Strode}
 
 module _ {a f b₁ g₁ b₂ g₂ : List ℕ} (l₁ : Lent a f b₁ g₁) (l₂ : Lent a f b₂ g₂) where
-  one-by : (aim : Aim) (at : Place) (e : EdgeAnswer) (c : Counts) {r₁ r₂ : Counts} → VisitedBy aim at e c r₁ a f b₁ g₁ → VisitedBy aim at e c r₂ a f b₂ g₂ →
+  one-by : (aim : Aim) (at : Place) (e : EdgeAnswer) (j : ℕ) (c : Counts) {r₁ r₂ : Counts} → VisitedBy aim at e j c r₁ a f b₁ g₁ → VisitedBy aim at e j c r₂ a f b₂ g₂ →
       (r₁ ≡ r₂) × (b₁ ≡ b₂) × (g₁ ≡ g₂)
-  one-by aim at Nowhere c x y = one-untouched x y
-  one-by aim at (To w) c x y = one-visited l₁ l₂ x y
+  one-by aim at Nowhere j c x y = one-untouched x y
+  one-by aim at (To w) j c x y = one-visited l₁ l₂ x y
 
   -- an edge has one result, of lent slices
-  pub one-stride : {aim : Aim} {at : Place} {edge : EdgeAnswer} {c r₁ r₂ : Column} →
-      Strode aim at edge c r₁ a f b₁ g₁ → Strode aim at edge c r₂ a f b₂ g₂ → (r₁ ≡ r₂) × (b₁ ≡ b₂) × (g₁ ≡ g₂)
-  one-stride {aim} {at} {edge} {c} x y =
-      let z = one-by aim at edge (c .counts) (x .visited) (y .visited) in
+  pub one-stride : {aim : Aim} {at : Place} {edge : EdgeAnswer} {j : ℕ} {c r₁ r₂ : Column} →
+      Strode aim at edge j c r₁ a f b₁ g₁ → Strode aim at edge j c r₂ a f b₂ g₂ → (r₁ ≡ r₂) × (b₁ ≡ b₂) × (g₁ ≡ g₂)
+  one-stride {aim} {at} {edge} {j} {c} x y =
+      let z = one-by aim at edge j (c .counts) (x .visited) (y .visited) in
       ((λ i. record { counts = z .0 i; level = (x .noted ∙ sym (y .noted)) i }), z .1, z .2)

@@ -22,15 +22,15 @@ pub struct Column {
     pub level: bool,
 }
 
-// What an edge makes of what its column has come to.
-pub fn step_to(nodes: &mut [u8], front: &mut [u8], aim: Aim, at: Place, edge: EdgeAnswer, c: Column) -> Column
-    ensures { λ r. ⌜ Strode aim at edge c r (now (nodes .entry)) (now (front .entry)) (now (nodes .exit)) (now (front .exit)) ⌝ }
+// What an edge makes of what its column has come to, where a lookup found node j at its point; a j that is not below the retained nodes says that none is there.
+pub fn step_to(nodes: &mut [u8], front: &mut [u8], aim: Aim, at: Place, edge: EdgeAnswer, j: usize, c: Column) -> Column
+    ensures { λ r. ⌜ Strode aim at edge j c r (now (nodes .entry)) (now (front .entry)) (now (nodes .exit)) (now (front .exit)) ⌝ }
 {
     let EdgeAnswer::To(way) = edge else {
         return c;
     };
     let level = c.level | sides::is_level(at.point, way.feet);
-    let visit = reach::visit(nodes, front, aim, at.number, at.node, c.counts, words::feet_of(way.feet), words::label_of(way));
+    let visit = reach::visit(nodes, front, aim, at.number, at.node, c.counts, j, words::feet_of(way.feet), words::label_of(way));
     let Visit::Counted(counts) = visit else {
         // A closed side still answers (01).
         let counts = c.counts;

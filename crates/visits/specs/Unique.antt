@@ -9,7 +9,7 @@ use native.Mathlib.Omega.{arith}
 use lib.ListN.{length, take, drop}
 use Rattle.exploration.specs.Graph.{Graph}
 use Rattle.exploration.specs.Policy.{Node}
-use Rattle.exploration.specs.Explore.{State, visit, close}
+use Rattle.exploration.specs.Explore.{State, apply, effectAt, close}
 use Rattle.exploration.specs.Laws.Lists.{true-false}
 use Rattle.fields.specs.Pieces.{Bytes}
 use Rattle.fields.specs.Records.{recordBytes, recordsBytes}
@@ -27,7 +27,7 @@ use Rattle.visits.specs.declared.Closing.{Closing}
 use Rattle.visits.specs.declared.Visit.{Visit}
 use Rattle.visits.specs.declared.Visit.the-variants.{Closed as ToClosed, Counted}
 use Rattle.visits.specs.Best.{idle, best}
-use Rattle.visits.specs.Visits.{ready, Kept, Untouched, countsBy, saysClosed, Visited, VisitedIf, ClosedIf, Started}
+use Rattle.visits.specs.Visits.{ready, Kept, Untouched, countsBy, saysClosed, foundAt, Visited, VisitedIf, ClosedIf, Started}
 use Rattle.visits.specs.Laws.Visits.{ready-is}
 
 -- What the language gives of two lent u8 slices, a and f before and b and g after: their lengths stay, and what they hold are bytes. The contracts do not say
@@ -112,9 +112,9 @@ abbrev bare : Feet → Graph Feet Label
 bare p = record { same = samePoint; alike = alike; start = p; startLabel = standing; goal = p; steps = λ q. []; connector = λ q. none }
 
 -- what VisitedIf says of the counts and the rooms
-abbrev pub VisitedOr : Aim → ℕ → NodeRecord → Counts → Feet → Label → Counts → List ℕ → List ℕ → List ℕ → List ℕ → Type 0
-VisitedOr aim k from c to label r a f b g =
-    (ready (length a) (length f) (aim .budget) k c ≡ true → Visited aim k from c to label r a f b g)
+abbrev pub VisitedOr : Aim → ℕ → NodeRecord → Counts → ℕ → Feet → Label → Counts → List ℕ → List ℕ → List ℕ → List ℕ → Type 0
+VisitedOr aim k from c j to label r a f b g =
+    (ready (length a) (length f) (aim .budget) k c ≡ true → Visited aim k from c j to label r a f b g)
     × (ready (length a) (length f) (aim .budget) k c ≡ false → Untouched c r a f b g)
 
 one-answer : (c : Counts) (v w : Visit) → saysClosed v ≡ saysClosed w → countsBy c v ≡ countsBy c w → v ≡ w
@@ -143,22 +143,22 @@ module _ {a f b₁ g₁ b₂ g₂ : List ℕ} (l₁ : Lent a f b₁ g₁) (l₂ 
       z : (r₁ .counts ≡ r₂ .counts) × (b₁ ≡ b₂) × (g₁ ≡ g₂)
       z = one-made-if l₁ l₂ (made x) (made y)
 
-  module _ {aim : Aim} {k : ℕ} {from : NodeRecord} {c : Counts} {to : Feet} {label : Label} where
+  module _ {aim : Aim} {k : ℕ} {from : NodeRecord} {c : Counts} {j : ℕ} {to : Feet} {label : Label} where
     -- a visit of lent rooms has one result in counts and rooms
     pub one-visited : {r₁ r₂ : Counts} →
-        VisitedOr aim k from c to label r₁ a f b₁ g₁ → VisitedOr aim k from c to label r₂ a f b₂ g₂ → (r₁ ≡ r₂) × (b₁ ≡ b₂) × (g₁ ≡ g₂)
+        VisitedOr aim k from c j to label r₁ a f b₁ g₁ → VisitedOr aim k from c j to label r₂ a f b₂ g₂ → (r₁ ≡ r₂) × (b₁ ≡ b₂) × (g₁ ≡ g₂)
     unfolding nodeOf
     one-visited x y = one-made-if l₁ l₂ (made x) (made y)
       where
-        made : {r : Counts} {b g : List ℕ} → VisitedOr aim k from c to label r a f b g →
-            MadeIf (visit (bare to) (best (aim .goal)) (aim .budget) k (nodeOf from idle) (stateOf a f c) (to, label)) (aim .budget) k c r a f b g
+        made : {r : Counts} {b g : List ℕ} → VisitedOr aim k from c j to label r a f b g →
+            MadeIf (apply (aim .budget) (stateOf a f c) (effectAt (bare to) (best (aim .goal)) k (nodeOf from idle) (c .pushed) (to, label) (foundAt a f (c .retained) j))) (aim .budget) k c r a f b g
         made w = record {
-          done = λ e. (let u = w .0 e in record { state = u .state (bare to) (λ p q. refl) (nodeOf from idle) refl refl; kept = u .kept; few = u .near .few });
+          done = λ e. (let u = w .0 e in record { state = u .state (bare to) (nodeOf from idle) refl refl; kept = u .kept; few = u .near .few });
           left = w .1;
         }
 
     -- and in its answer
     pub one-visit : {v₁ v₂ : Visit} →
-        VisitedIf aim k from c to label v₁ a f b₁ g₁ → VisitedIf aim k from c to label v₂ a f b₂ g₂ → (v₁ ≡ v₂) × (b₁ ≡ b₂) × (g₁ ≡ g₂)
+        VisitedIf aim k from c j to label v₁ a f b₁ g₁ → VisitedIf aim k from c j to label v₂ a f b₂ g₂ → (v₁ ≡ v₂) × (b₁ ≡ b₂) × (g₁ ≡ g₂)
     one-visit {v₁} {v₂} x y =
         let z = one-visited (x .done, x .left) (y .done, y .left) in (one-answer c v₁ v₂ (x .closed ∙ sym (y .closed)) (z .0), z .1, z .2)

@@ -1,23 +1,22 @@
 -- What one step, one closing and the start make of the rooms: the theory's visit, close and begin, of the state that the rooms are. Definitions only.
 use mathlib.Core.Path.{_≡_}
-use mathlib.Core.Bool.{Bool, true, false, not, _&&_}
+use mathlib.Core.Bool.{Bool, true, false, not, _&&_, cond}
+use mathlib.Core.Option.{Option, none, some}
 use mathlib.Core.List.{List}
 use mathlib.Core.Logic.{_≢_}
-use Prim.Native.Nat.{ℕ, _+_, _*_, _/_, _^_, _≤_}
+use Prim.Native.Nat.{ℕ, _+_, _*_, _/_, _^_, _≤_, _<_}
 use lib.Dec.{ltb, leb, eqb}
 use lib.ListN.{length, drop}
 use Rattle.exploration.specs.Graph.{Graph}
 use Rattle.exploration.specs.Policy.{Node}
-use Rattle.exploration.specs.Explore.{apply, effectKnown, visit, close, begin}
+use Rattle.exploration.specs.Explore.{apply, effectKnown, effectAt, close, begin}
 use Rattle.rooms.specs.declared.Feet.{Feet}
 use Rattle.rooms.specs.declared.Label.{Label}
 use Rattle.rooms.specs.declared.NodeRecord.{NodeRecord}
 use Rattle.rooms.specs.declared.Counts.{Counts}
 use Rattle.rooms.specs.Waypoints.{standing}
 use Rattle.rooms.specs.Records.{nodeAt}
-use Rattle.rooms.specs.Scans.{firstAt}
 use Rattle.rooms.specs.Rooms.{Note, nobody, nodeIn, stateOf}
-use Rattle.rooms.specs.Laws.Rooms.{BySamePoint}
 use Rattle.rooms.specs.Laws.Writes.{PutNode, PutEntry}
 use Rattle.visits.specs.declared.Aim.{Aim}
 use Rattle.visits.specs.declared.Closing.{Closing}
@@ -48,7 +47,11 @@ pub record Kept (m : ℕ) (a f b g : List ℕ) : Type 0 where
   pub nodes : (j : ℕ) → m ≤ j → drop (56 * j) b ≡ drop (56 * j) a
   pub front : (j : ℕ) → m ≤ j → drop (24 * j) g ≡ drop (24 * j) f
 
--- nothing at all is
+-- the first n nodes are where they were
+pub record Still (n : ℕ) (a b : List ℕ) : Type 0 where
+  pub feet : (j : ℕ) → j < n → nodeAt b j .feet ≡ nodeAt a j .feet
+
+-- nothing at all is changed
 pub record Untouched (c r : Counts) (a f b g : List ℕ) : Type 0 where
   pub counts : r ≡ c
   pub nodes : b ≡ a
@@ -66,6 +69,7 @@ pub record Near (budget d : ℕ) (c r : Counts) : Type 0 where
 pub record Seen (aim : Aim) (k : ℕ) (c : Counts) (j cost : ℕ) (to : Feet) (label : Label) (r : Counts) (a f b g : List ℕ) : Type 0 where
   pub state : stateOf b g r ≡ apply (aim .budget) (stateOf a f c) (effectKnown k (to, label) (j, nodeIn a f j) (nodeIn a f j .closed) (relaxed (aim .goal) cost to (nodeIn a f j .note) (c .pushed)))
   pub kept : Kept (r .retained) a f b g
+  pub still : Still (c .retained) a b
   pub near : Near (aim .budget) 1 c r
 
 -- the counts that a visit answers: at a closed node those from before
@@ -80,27 +84,34 @@ saysClosed (Counted r) = false
 abbrev pub isShut : NodeRecord → Bool
 isShut r = not (eqb (r .closed) 0)
 
--- whether one of n nodes is at a point, and the first one there is closed
-unfoldable pub shutAt : List ℕ → ℕ → Feet → Bool
-shutAt a n q = ltb (firstAt a n q) n && isShut (nodeAt a (firstAt a n q))
+-- what a lookup found among n nodes: node j, or none
+unfoldable pub foundAt : List ℕ → List ℕ → ℕ → ℕ → Option (ℕ × Node Feet Label Note)
+foundAt a f n j = cond (ltb j n) (some (j, nodeIn a f j)) none
 
--- a step from node k: the theory's visit, over every graph whose points compare as 01 says
-pub record Visited (aim : Aim) (k : ℕ) (from : NodeRecord) (c : Counts) (to : Feet) (label : Label) (r : Counts) (a f b g : List ℕ) : Type 0 where
-  pub state : (𝓖 : Graph Feet Label) → BySamePoint 𝓖 → (n : Node Feet Label Note) → n .point ≡ from .feet → n .note .cost ≡ from .cost →
-      stateOf b g r ≡ visit 𝓖 (best (aim .goal)) (aim .budget) k n (stateOf a f c) (to, label)
+-- whether it is a closed node
+unfoldable pub shutAt : List ℕ → ℕ → ℕ → Bool
+shutAt a n j = ltb j n && isShut (nodeAt a j)
+
+-- a step from node k to a point where a lookup found j: what the theory makes of that. Where j is the first node at the point, it is the theory's visit
+-- (`visit-sought`).
+pub record Visited (aim : Aim) (k : ℕ) (from : NodeRecord) (c : Counts) (j : ℕ) (to : Feet) (label : Label) (r : Counts) (a f b g : List ℕ) : Type 0 where
+  pub state : (𝓖 : Graph Feet Label) → (n : Node Feet Label Note) → n .point ≡ from .feet → n .note .cost ≡ from .cost →
+      stateOf b g r ≡ apply (aim .budget) (stateOf a f c) (effectAt 𝓖 (best (aim .goal)) k n (c .pushed) (to, label) (foundAt a f (c .retained) j))
   pub kept : Kept (r .retained) a f b g
+  pub still : Still (c .retained) a b
   pub near : Near (aim .budget) 1 c r
 
 -- and what it answers, on every input
-pub record VisitedIf (aim : Aim) (k : ℕ) (from : NodeRecord) (c : Counts) (to : Feet) (label : Label) (v : Visit) (a f b g : List ℕ) : Type 0 where
-  pub done : ready (length a) (length f) (aim .budget) k c ≡ true → Visited aim k from c to label (countsBy c v) a f b g
+pub record VisitedIf (aim : Aim) (k : ℕ) (from : NodeRecord) (c : Counts) (j : ℕ) (to : Feet) (label : Label) (v : Visit) (a f b g : List ℕ) : Type 0 where
+  pub done : ready (length a) (length f) (aim .budget) k c ≡ true → Visited aim k from c j to label (countsBy c v) a f b g
   pub left : ready (length a) (length f) (aim .budget) k c ≡ false → Untouched c (countsBy c v) a f b g
-  pub closed : saysClosed v ≡ (ready (length a) (length f) (aim .budget) k c && shutAt a (c .retained) to)
+  pub closed : saysClosed v ≡ (ready (length a) (length f) (aim .budget) k c && shutAt a (c .retained) j)
 
 -- node k closed: the theory's close
 pub record Closed (aim : Aim) (k : ℕ) (c r : Counts) (a f b g : List ℕ) : Type 0 where
   pub state : (𝓖 : Graph Feet Label) → stateOf b g r ≡ close 𝓖 (best (aim .goal)) (stateOf a f c) k (nodeIn a f k)
   pub kept : Kept (r .retained) a f b g
+  pub still : Still (c .retained) a b
   pub near : Near (aim .budget) 1 c r
 
 pub record ClosedIf (aim : Aim) (k : ℕ) (c : Counts) (r : Closing) (a f b g : List ℕ) : Type 0 where

@@ -32,9 +32,9 @@ use Rattle.c_records.specs.Laws.{CutShort, cut-short-is-invalid, mob-cut-short-
 -- ---- what an invalid request is answered with
 
 module _ (w : Window) (cells perms shapes boxes : List ℕ) (r : Request) (body : Body) (invalid : validRequest r body ≡ false) where
-  search-invalid : (nodes front out : ℕ) → outcomeNumber (found w cells perms shapes boxes r body nodes front out .outcome) ≡ cond (badWorld w cells shapes boxes) 3 1
+  search-invalid : (nodes front index out : ℕ) → outcomeNumber (found w cells perms shapes boxes r body nodes front index out .outcome) ≡ cond (badWorld w cells shapes boxes) 3 1
   unfolding found withoutSearch
-  search-invalid nodes front out = rw invalid (go (badWorld w cells shapes boxes))
+  search-invalid nodes front index out = rw invalid (go (badWorld w cells shapes boxes))
     where
       go : (b : Bool) → outcomeNumber (answerBy w cells perms shapes boxes r body (cond b (some outcome.BadWorld) (some outcome.Unreachable)) .outcome) ≡ cond b 3 1
       go true = refl
@@ -51,7 +51,7 @@ module _ (w : Window) (cells perms shapes boxes : List ℕ) (r : Request) (body 
 -- ---- the calls
 
 module _ (window cells perms shapes boxes request body : List ℕ) (short : CutShort window request 88 body) where
-  pub search-cut-short : (nodes front out : ℕ) → outcomeNumber (found (windowIn window) cells perms shapes boxes (asked window request body) (bodyIn body) nodes front out .outcome) ≡ cond (badWorld (windowIn window) cells shapes boxes) 3 1
+  pub search-cut-short : (nodes front index out : ℕ) → outcomeNumber (found (windowIn window) cells perms shapes boxes (asked window request body) (bodyIn body) nodes front index out .outcome) ≡ cond (badWorld (windowIn window) cells shapes boxes) 3 1
   search-cut-short = search-invalid (windowIn window) cells perms shapes boxes (asked window request body) (bodyIn body) (cut-short-is-invalid window request body (bodyIn body) short)
 
   pub walk-back-cut-short : (list : List ℕ) → walkedNumber (walked (windowIn window) cells perms shapes boxes (asked window request body) (bodyIn body) list) ≡ cond (badWorld (windowIn window) cells shapes boxes) 3 110
@@ -62,9 +62,9 @@ module _ (window cells perms shapes boxes request body : List ℕ) (short : CutS
 
 -- a mob's search: 8 first
 module _ (p : WalkPolicy) (wet : Bool) (flags window cells perms shapes boxes ends body : List ℕ) (short : CutShort window ends 48 body) where
-  pub mob-cut-short : (nodes front out : ℕ) → pathNumber (path p wet flags (windowIn window) cells perms shapes boxes (startAsked window ends body) (goalAsked window ends body) (bodyIn body) nodes front out) ≡ cond (eqb (length flags) (length perms)) (cond (badWorld (windowIn window) cells shapes boxes) 3 1) 8
+  pub mob-cut-short : (nodes front index out : ℕ) → pathNumber (path p wet flags (windowIn window) cells perms shapes boxes (startAsked window ends body) (goalAsked window ends body) (bodyIn body) nodes front index out) ≡ cond (eqb (length flags) (length perms)) (cond (badWorld (windowIn window) cells shapes boxes) 3 1) 8
   unfolding path unlessBad
-  mob-cut-short nodes front out = go (eqb (length flags) (length perms))
+  mob-cut-short nodes front index out = go (eqb (length flags) (length perms))
     where
       start : Point
       start = startAsked window ends body
@@ -72,9 +72,9 @@ module _ (p : WalkPolicy) (wet : Bool) (flags window cells perms shapes boxes en
       goal : Point
       goal = goalAsked window ends body
 
-      searched : outcomeNumber (found (windowIn window) cells (permissionTable p wet flags perms) shapes boxes (requestOf p start goal (bodyIn body)) (bodyIn body) nodes front out .outcome) ≡ cond (badWorld (windowIn window) cells shapes boxes) 3 1
-      searched = search-invalid (windowIn window) cells (permissionTable p wet flags perms) shapes boxes (requestOf p start goal (bodyIn body)) (bodyIn body) (mob-cut-short-is-invalid p window ends body (bodyIn body) short) nodes front out
+      searched : outcomeNumber (found (windowIn window) cells (permissionTable p wet flags perms) shapes boxes (requestOf p start goal (bodyIn body)) (bodyIn body) nodes front index out .outcome) ≡ cond (badWorld (windowIn window) cells shapes boxes) 3 1
+      searched = search-invalid (windowIn window) cells (permissionTable p wet flags perms) shapes boxes (requestOf p start goal (bodyIn body)) (bodyIn body) (mob-cut-short-is-invalid p window ends body (bodyIn body) short) nodes front index out
 
-      go : (b : Bool) → pathNumber (cond b (Searched (found (windowIn window) cells (permissionTable p wet flags perms) shapes boxes (requestOf p start goal (bodyIn body)) (bodyIn body) nodes front out)) BadTable) ≡ cond b (cond (badWorld (windowIn window) cells shapes boxes) 3 1) 8
+      go : (b : Bool) → pathNumber (cond b (Searched (found (windowIn window) cells (permissionTable p wet flags perms) shapes boxes (requestOf p start goal (bodyIn body)) (bodyIn body) nodes front index out)) BadTable) ≡ cond b (cond (badWorld (windowIn window) cells shapes boxes) 3 1) 8
       go true = searched
       go false = refl

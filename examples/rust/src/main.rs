@@ -4,7 +4,7 @@
 
 use std::error::Error;
 
-use walkprint::{Rooms, SCENE_TABLES, Tables, Waypoint};
+use walkprint::{Rooms, SCENE_TABLES, Tables, Waypoint, index_bytes};
 
 fn main() -> Result<(), Box<dyn Error>> {
     let file = std::env::args().nth(1).ok_or("usage: flat SCENE")?;
@@ -22,8 +22,9 @@ fn main() -> Result<(), Box<dyn Error>> {
     };
 
     let budget = usize::try_from(scene.request.node_budget)?;
-    let [mut nodes, mut front, mut out] = [56 * budget, 24 * budget, 40 * (budget + 1)].map(|n| vec![0; n]);
-    let mut rooms = Rooms { nodes: &mut nodes, front: &mut front, out: &mut out };
+    let sizes = [56 * budget, 24 * budget, index_bytes(budget), 40 * (budget + 1)];
+    let [mut nodes, mut front, mut index, mut out] = sizes.map(|n| vec![0; n]);
+    let mut rooms = Rooms { nodes: &mut nodes, front: &mut front, index: &mut index, out: &mut out };
     let answer = walkprint::find_walk_path(&tables, &scene.request, &scene.body, &mut rooms)?;
 
     println!(

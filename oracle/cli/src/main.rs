@@ -15,6 +15,7 @@ mod stats;
 mod store;
 mod tape;
 mod trace;
+mod trial;
 mod walks;
 
 use std::io::{ErrorKind, Read, Write};

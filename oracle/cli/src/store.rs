@@ -8,6 +8,7 @@ use scene::Verdict;
 
 use crate::files::{directed, scene_file};
 use crate::tape::Tape;
+use crate::trial::Trial;
 use crate::{geometry, numbers, printed, reader, walks};
 
 /// A scene and where it comes from.
@@ -64,16 +65,40 @@ fn size(bytes: &[u8], verdict: &Verdict) -> usize {
     bytes.len() + verdict.as_ref().map_or(0, left)
 }
 
-/// The trials of a search: rooms too long by a record of any and a part of
-/// one, of exactly the size, and each of them and the cell table a byte short;
-/// and the byte that all are full of.
-const TRIALS: [(usize, usize, u8); 6] = [
-    (61, 0, 171),
-    (0, 0, 255),
-    (0, 1, 1),
-    (0, 2, 64),
-    (0, 3, 0),
-    (0, 4, 128),
+const fn trial(more: usize, short: usize, index: fn(usize) -> usize, fill: u8) -> Trial {
+    Trial {
+        more,
+        short,
+        index,
+        fill,
+    }
+}
+
+/// The trials of every search: rooms too long by a record of any and a part of
+/// one, the index twice as long as it must be; all of exactly the size; each of
+/// them and the cell table a byte short; and no index. Rooms and tables are full
+/// of the byte.
+const TRIALS: [Trial; 7] = [
+    trial(61, 0, |least| 2 * least, 171),
+    trial(0, 0, |least| least, 255),
+    trial(0, 1, |least| least, 1),
+    trial(0, 2, |least| least, 64),
+    trial(0, 3, |least| least, 0),
+    trial(0, 4, |_| 0, 128),
+    trial(0, 0, |_| 0, 7),
+];
+
+/// Index rooms of other sizes than the least, all but a few of them wrong; of
+/// these each search is tried with two, in turn.
+const INDEXES: [fn(usize) -> usize; 8] = [
+    |least| least / 2,
+    |least| least + 1,
+    |least| least / 2 * 3,
+    |least| least + 2,
+    |least| least - 1,
+    |least| least + 3,
+    |least| least - 4,
+    |least| 2 * least - 4,
 ];
 
 /// Every directed scene that reads, the flat one first, then of each kind the
@@ -89,14 +114,18 @@ fn searches(folder: &Path, tape: &mut Tape) -> Result<(), String> {
     for kind in scene::KINDS {
         sources.extend(chosen(kind));
     }
+    let mut others = INDEXES.iter().cycle();
     for Source { name, bytes } in sources {
         let Ok(scene) = scene::read(&bytes) else {
             continue;
         };
         let answer = number(&original::judge(&scene));
         tape.named(&format!("{name} search {answer}"), |tape| {
-            for (more, short, fill) in TRIALS {
-                tape.ask_search(&bytes, &scene, more, short, fill);
+            for trial in &TRIALS {
+                tape.ask_search(&bytes, &scene, trial);
+            }
+            for &index in others.by_ref().take(2) {
+                tape.ask_search(&bytes, &scene, &trial(61, 0, index, 93));
             }
         });
     }

@@ -6,9 +6,10 @@ use std::collections::VecDeque;
 use std::fmt::Write;
 
 use original::Checks;
-use scene::{Partial, Refusal, Scene};
+use scene::{Partial, Scene};
 
 use crate::row::{Row, bits};
+use crate::trial::Trial;
 
 /// Every number of the layout has two bytes.
 fn number(n: usize) -> [u8; 2] {
@@ -20,22 +21,19 @@ const KIND: usize = 256;
 const SCENE: usize = 260;
 const LIST: usize = 264;
 const CELLS: usize = 268;
-const ROOMS: [usize; 3] = [272, 276, 280];
-const FILL: usize = 284;
-const COLUMN: usize = 288;
-const SIDES: usize = 292;
-const AFTER: usize = 296;
-const FROM: usize = 304;
-const TO: usize = 328;
-const SHEET: usize = 352;
+const ROOMS: [usize; 4] = [272, 276, 280, 284];
+const FILL: usize = 288;
+const COLUMN: usize = 292;
+const SIDES: usize = 296;
+const AFTER: usize = 300;
+const FROM: usize = 308;
+const TO: usize = 332;
+const SHEET: usize = 356;
 
 /// What is asked: two points, the list, a search.
 const POINTS: usize = 0;
 const WALK: usize = 1;
 const SEARCH: usize = 2;
-
-/// The bytes of each of the program's rooms for a search.
-const ROOM: usize = 28_800;
 
 /// The largest sizes of the four tables.
 const TABLES: [usize; 4] = [8 * 4096, 256, 8 * 256, 48 * 256];
@@ -132,7 +130,15 @@ impl Tape {
     /// A scene that is only read, if it is refused; a whole one is searched.
     pub fn ask_reader(&mut self, bytes: &[u8], fill: u8) {
         match scene::read(bytes) {
-            Ok(scene) => self.ask_search(bytes, &scene, 0, 0, fill),
+            Ok(scene) => {
+                let trial = Trial {
+                    more: 0,
+                    short: 0,
+                    index: |least| least,
+                    fill,
+                };
+                self.ask_search(bytes, &scene, &trial);
+            }
             Err(_) => {
                 self.put(FILL, fill.into());
                 let row = self.read(bytes);
@@ -226,49 +232,17 @@ impl Tape {
         }
     }
 
-    /// A search in rooms with so many bytes more than its budget asks for, one
-    /// of them a byte short: 1 to 3 a room, 4 the cell table. Rooms and tables
-    /// are full of a byte.
-    pub fn ask_search(&mut self, bytes: &[u8], scene: &Scene, more: usize, short: usize, fill: u8) {
-        let budget = scene.request.node_budget as usize;
-        let asked = [56 * budget, 24 * budget, 40 * (budget + 1)];
-        let mut lent = [0; 3];
-        for (room, place) in ROOMS.into_iter().enumerate() {
-            lent[room] = (asked[room] + more).saturating_sub(usize::from(short == room + 1));
-            assert!(lent[room] <= ROOM, "the program's room is large enough");
-            self.put(place, lent[room]);
+    /// A search in the rooms of a trial.
+    pub fn ask_search(&mut self, bytes: &[u8], scene: &Scene, trial: &Trial) {
+        for (place, lent) in ROOMS.into_iter().zip(trial.lent(scene)) {
+            self.put(place, lent);
         }
-        let enough = asked.iter().zip(lent).all(|(asked, lent)| *asked <= lent);
         let cells = scene.tables.raw().cells.len();
         self.put(KIND, SEARCH);
-        self.put(CELLS, cells.saturating_sub(usize::from(short == 4)));
-        self.put(FILL, fill.into());
+        self.put(CELLS, cells.saturating_sub(usize::from(trial.short == 4)));
+        self.put(FILL, trial.fill.into());
         let mut row = self.read(bytes);
-        let mut rooms = [0; 3].map(|_: u8| vec![fill; ROOM]);
-        match searched(scene, short == 4, enough) {
-            Ok(answer) => {
-                let counts = [answer.list.len(), answer.nodes.len()].map(|n| n as u64);
-                let [count, retained] = counts;
-                for n in [answer.outcome as u64, count, retained, answer.closed] {
-                    row.take(n);
-                }
-                for (place, node) in answer.nodes.iter().enumerate() {
-                    rooms[0][56 * place..][..56].copy_from_slice(&node.bytes());
-                }
-                if !answer.nodes.is_empty() {
-                    rooms[1][..lent[1]].fill(0);
-                }
-                for (place, point) in answer.list.iter().enumerate() {
-                    rooms[2][40 * place..][..40].copy_from_slice(&point.bytes());
-                }
-            }
-            Err(refusal) => {
-                for n in [u64::from(refusal.number), 0, 0, 0] {
-                    row.take(n);
-                }
-            }
-        }
-        rooms.iter().for_each(|room| row.take_words(room));
+        trial.take(scene, &mut row);
         self.case(bytes, row);
     }
 }
@@ -304,26 +278,4 @@ fn record(partial: &Partial) -> Vec<u8> {
     let sizes = raw.all().map(|table| table.len() as u64);
     out.extend(sizes.iter().flat_map(|n| n.to_le_bytes()));
     out
-}
-
-/// "3; `valid_request`; 4; 5", then the original.
-fn searched(scene: &Scene, short: bool, enough: bool) -> scene::Verdict {
-    let mut tables = scene.tables.raw();
-    if short {
-        tables.cells.pop();
-    }
-    if scene::bad_world(&tables) {
-        return Err(Refusal {
-            number: 3,
-            record: 0,
-        });
-    }
-    let verdict = original::judge(scene);
-    if original::valid_request(scene) && verdict.is_ok() && !enough {
-        return Err(Refusal {
-            number: 5,
-            record: 0,
-        });
-    }
-    verdict
 }

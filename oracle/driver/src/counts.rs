@@ -3,6 +3,8 @@
 use std::collections::BTreeMap;
 use std::fmt;
 
+use reading::index;
+
 use crate::expected::Expected;
 
 #[derive(Default)]
@@ -36,6 +38,22 @@ impl Counts {
         self.add(name, 1);
         self.add("node records", answer.nodes.len() as u64 / 56);
         self.add("waypoints", answer.list.len() as u64 / 40);
+    }
+
+    /// The nodes of a search in an index of so many bytes: those in another slot
+    /// than their own, and those of them that went round the room's end.
+    pub fn index(&mut self, answer: &Expected, bytes: usize) {
+        let points = answer.points();
+        let mut room = vec![0; if answer.began { bytes } else { 0 }];
+        index::enter(&mut room, &points);
+        for (slot, number) in room.as_chunks().0.iter().enumerate() {
+            let number = u32::from_le_bytes(*number) as usize;
+            if number > 0 {
+                let own = index::home(bytes / 4, points[number - 1]);
+                self.add("nodes in another slot", (slot != own).into());
+                self.add("nodes round the end", (slot < own).into());
+            }
+        }
     }
 }
 

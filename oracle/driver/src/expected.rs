@@ -1,8 +1,9 @@
 //! What must come of a call: 01's "Search order" over the original.
 
-use scene::{Answer, Outcome};
+use scene::{Answer, Outcome, u64_at};
 
 use crate::call::Call;
+use crate::sizes::{Sizes, no_room};
 
 /// How far a call comes, whatever its rooms.
 pub enum Judged {
@@ -42,12 +43,6 @@ pub fn refused(call: &Call) -> Option<u64> {
     scene::too_large(&unread.request, &unread.body).then_some(4)
 }
 
-/// The bytes of the rooms that a budget needs: nodes, frontier, output.
-pub fn needed(budget: u64) -> [usize; 3] {
-    let budget = budget as usize;
-    [56 * budget, 24 * budget, 40 * (budget + 1)]
-}
-
 /// What a call must answer, and what it must write.
 #[derive(Clone, PartialEq)]
 pub struct Expected {
@@ -77,16 +72,21 @@ impl Expected {
         let [count, retained] = [self.list.len() / 40, self.nodes.len() / 56];
         [self.number, count as u64, retained as u64, self.closed]
     }
+
+    /// The words of the retained points.
+    pub fn points(&self) -> Vec<[u64; 3]> {
+        let point = |node: &[u8]| [0, 8, 16].map(|at| u64_at(node, at));
+        self.nodes.chunks(56).map(point).collect()
+    }
 }
 
 /// "5" judged between, for rooms of so many bytes.
-pub fn expected(judged: &Judged, budget: u64, sizes: [usize; 3]) -> Expected {
+pub fn expected(judged: &Judged, budget: u64, sizes: Sizes) -> Expected {
     let answer = match judged {
         Judged::Ends(number) => return Expected::number(*number),
         Judged::Answered(answer) => answer,
     };
-    let needed = needed(budget);
-    if (0..3).any(|room| sizes[room] < needed[room]) {
+    if no_room(sizes, budget) {
         return Expected::number(5);
     }
     let found = answer.outcome == Outcome::Found;

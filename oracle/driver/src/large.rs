@@ -6,7 +6,8 @@ use scene::Scene;
 use crate::call::Call;
 use crate::counts::Counts;
 use crate::differ::differ;
-use crate::expected::{judge, needed};
+use crate::expected::judge;
+use crate::sizes::{INDEX, longer, needed};
 
 const BUDGETS: [u64; 10] = [0, 1, 100, 512, 513, 1000, 2048, 4095, 4096, 4097];
 
@@ -24,9 +25,12 @@ pub fn all() -> bool {
         let mut call = Call::of(scene);
         for budget in BUDGETS {
             call.request.node_budget = budget;
-            let sizes = needed(budget).map(|size| size + 11);
+            let sizes = longer(needed(budget), [11, 11, budget as usize % 2, 11]);
             match differ(&call, &judge(&call), sizes, budget) {
-                Ok(answer) => counts.search(&answer),
+                Ok(answer) => {
+                    counts.search(&answer);
+                    counts.index(&answer, sizes[INDEX]);
+                }
                 Err(parts) => {
                     println!("{name}, budget {budget}: {parts}");
                     mismatches += 1;

@@ -17,8 +17,10 @@ mod roots;
 mod runner;
 mod scenes;
 mod short;
+mod sizes;
 mod sweeps;
 mod tables;
+mod used;
 mod walkback;
 
 use std::process::ExitCode;

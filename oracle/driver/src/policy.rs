@@ -10,9 +10,10 @@ use walkprint::raw::{self, Asked};
 use crate::call::Call;
 use crate::counts::Counts;
 use crate::differ::compare;
-use crate::expected::{Expected, Judged, expected, judge, needed};
+use crate::expected::{Expected, Judged, expected, judge};
 use crate::room::Room;
 use crate::runner::{Makers, Mismatch, smallest};
+use crate::sizes::{INDEX, Sizes, needed};
 
 /// Combinations of the seven flags of a policy and of being in water.
 const COMBINATIONS: u64 = 256;
@@ -110,14 +111,11 @@ fn one_call(
     counts: &mut Counts,
 ) -> Result<(), String> {
     let mut chance = Chance::new(seed);
-    let sizes = needed(2048).map(|size| match chance.below(24) {
-        0 => size - 1,
-        _ => size + chance.below(100),
-    });
+    let sizes = any_sizes(&mut chance);
     let mut permissions = Room::new(call.tables.permissions.len(), &mut chance);
     let (must, filled) = must(call, sizes)?;
     let after = permissions.after(&filled);
-    compare(&must, sizes, seed, |lent| {
+    compare(&must, sizes, None, seed, |lent| {
         asked(call, Vec::new()).ask(|asked| {
             let ends = Asked {
                 request: &asked.request[..48],
@@ -134,8 +132,35 @@ fn one_call(
     Ok(())
 }
 
+/// Rooms that are long enough, an index of the least size, twice or four times
+/// that; and now and then each of them a byte short, or an index of a wrong
+/// size.
+fn any_sizes(chance: &mut Chance) -> Sizes {
+    let needed = needed(2048);
+    let mut sizes = needed.map(|size| match chance.below(24) {
+        0 => size - 1,
+        _ => size + chance.below(100),
+    });
+    let least = needed[INDEX];
+    sizes[INDEX] = match chance.below(24) {
+        0 => chance.pick(&[
+            0,
+            4,
+            least / 2,
+            least - 4,
+            least - 1,
+            least + 1,
+            least + 4,
+            least / 2 * 3,
+            least * 3,
+        ]),
+        _ => least << chance.below(3),
+    };
+    sizes
+}
+
 /// What must come of it, and the permission bytes that must be written.
-fn must(call: &original::Call, sizes: [usize; 3]) -> Result<(Expected, Vec<u8>), String> {
+fn must(call: &original::Call, sizes: Sizes) -> Result<(Expected, Vec<u8>), String> {
     if call.flags.len() != call.tables.permissions.len() {
         return Ok((expected(&Judged::Ends(8), 0, sizes), Vec::new()));
     }

@@ -22,6 +22,10 @@ impl Room {
         }
     }
 
+    pub fn length(&self) -> usize {
+        self.length
+    }
+
     pub fn lent(&mut self) -> &mut [u8] {
         &mut self.bytes[self.begin..][..self.length]
     }

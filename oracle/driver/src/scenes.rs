@@ -8,9 +8,11 @@ use scene::{RECORD, Record};
 
 use crate::call::Call;
 use crate::counts::Counts;
-use crate::differ::differ;
-use crate::expected::{Judged, judge, needed};
+use crate::differ::{differ, differ_over};
+use crate::expected::{Judged, judge};
 use crate::runner::{Makers, Mismatch, smallest};
+use crate::sizes::{FRONT, INDEX, NODES, OUT, Sizes, longer, needed};
+use crate::used::{USED, Used};
 
 /// A scene once, with rooms that are just as long as they must be, or longer.
 pub fn one_scene(makers: &Makers, number: u64, counts: &mut Counts) -> Result<(), Mismatch> {
@@ -20,9 +22,14 @@ pub fn one_scene(makers: &Makers, number: u64, counts: &mut Counts) -> Result<()
     let call = Call::of(&scene);
     let judged = judge(&call);
     let mut chance = Chance::new(number);
-    let extra = [(); 3].map(|()| more(&mut chance));
-    match differ(&call, &judged, grown(&call, extra), number) {
-        Ok(answer) => counts.search(&answer),
+    let [nodes, front, out] = [(); 3].map(|()| more(&mut chance));
+    let extra = [nodes, front, chance.pick(&[0, 0, 1, 2, 3]), out];
+    let sizes = grown(&call, extra);
+    match differ(&call, &judged, sizes, number) {
+        Ok(answer) => {
+            counts.search(&answer);
+            counts.index(&answer, sizes[INDEX]);
+        }
         Err(_) => return Err(smallest(records, &|records| parts(records, extra, number))),
     }
     Ok(())
@@ -37,14 +44,13 @@ fn more(chance: &mut Chance) -> usize {
     }
 }
 
-/// The rooms that a call needs, and so many bytes more. A budget that is
-/// refused needs none.
-fn grown(call: &Call, extra: [usize; 3]) -> [usize; 3] {
-    let needed = needed(call.request.node_budget.min(4096));
-    [0, 1, 2].map(|room| needed[room] + extra[room])
+/// The rooms that a call needs, and so many bytes more, the index so often
+/// doubled. A budget that is refused needs none.
+fn grown(call: &Call, extra: Sizes) -> Sizes {
+    longer(needed(call.request.node_budget.min(4096)), extra)
 }
 
-fn parts(records: &[Record], extra: [usize; 3], seed: u64) -> Option<String> {
+fn parts(records: &[Record], extra: Sizes, seed: u64) -> Option<String> {
     let call = Call::of(&scene_of(records)?);
     differ(&call, &judge(&call), grown(&call, extra), seed).err()
 }
@@ -69,24 +75,41 @@ fn rooms_of(records: &[Record], seed: u64, counts: &mut Counts) -> Option<String
     let call = Call::of(&scene);
     let (judged, kept) = (judge(&call), call.clone());
     counts.add("scenes", 1);
-    for (place, sizes) in sizes(call.request.node_budget).into_iter().enumerate() {
-        match differ(&call, &judged, sizes, seed + place as u64) {
+    let sets = sets(call.request.node_budget.min(4096));
+    for (place, (sizes, used)) in sets.into_iter().enumerate() {
+        match differ_over(&call, &judged, sizes, used, seed + place as u64) {
             Ok(answer) => counts.search(&answer),
-            Err(parts) => return Some(format!("rooms of {sizes:?} bytes: {parts}")),
+            Err(parts) => return Some(told(sizes, used, &parts)),
         }
     }
     let whole = call.tables == kept.tables;
     (!whole).then(|| "a table was written".to_string())
 }
 
-/// Exactly what the budget needs; each room, and all, a byte or a record or
-/// more shorter and longer; empty; and long enough for every budget.
-fn sizes(budget: u64) -> Vec<[usize; 3]> {
-    let exact = needed(budget.min(4096));
-    let records = [56, 24, 40];
-    let mut out = vec![exact, [0; 3], needed(4096)];
-    for room in 0..3 {
-        let size = records[room] as i64;
+fn told(sizes: Sizes, used: Option<Used>, parts: &str) -> String {
+    let index = used.map_or(String::new(), |used| format!(", the index {used:?}"));
+    format!("rooms of {sizes:?} bytes{index}: {parts}")
+}
+
+/// Every set of rooms that a scene is searched with, and what the index room
+/// looks like where it is to look used.
+fn sets(budget: u64) -> Vec<(Sizes, Option<Used>)> {
+    let exact = needed(budget);
+    let sizes = [record_sizes(exact), index_sizes(exact)].concat();
+    let mut out: Vec<_> = sizes.into_iter().map(|sizes| (sizes, None)).collect();
+    for used in USED {
+        for doubled in [0, 1] {
+            out.push((longer(exact, [0, 0, doubled, 0]), Some(used)));
+        }
+    }
+    out
+}
+
+/// Exactly what the budget needs; each room of records, and all, a byte or a
+/// record or more shorter and longer; empty; and long enough for every budget.
+fn record_sizes(exact: Sizes) -> Vec<Sizes> {
+    let mut out = vec![exact, [0; 4], needed(4096)];
+    for (room, size) in [(NODES, 56), (FRONT, 24), (OUT, 40)] {
         for change in [
             -1,
             1,
@@ -106,8 +129,41 @@ fn sizes(budget: u64) -> Vec<[usize; 3]> {
         out.push(sizes);
     }
     for change in [-1, 1, 1000] {
-        out.push(exact.map(|size| (size as i64 + change).max(0) as usize));
+        let mut sizes = exact.map(|size| (size as i64 + change).max(0) as usize);
+        sizes[INDEX] = exact[INDEX];
+        out.push(sizes);
     }
+    out
+}
+
+/// The index room alone of other sizes: right ones, half, three times a power
+/// of two, a byte or a slot off, empty, one slot, long enough for every budget.
+/// Then other rooms too short or longer beside it.
+fn index_sizes(exact: Sizes) -> Vec<Sizes> {
+    let (least, most) = (exact[INDEX], needed(4096)[INDEX]);
+    let others = [
+        [2 * least, 4 * least, least / 2, 3 * least / 2, 3 * least],
+        [least + 1, least + 2, least + 3, least + 4, least - 1],
+        [least - 4, 2 * least - 4, 0, 4, most],
+    ];
+    let with = |sizes: Sizes, index: usize| {
+        let mut sizes = sizes;
+        sizes[INDEX] = index;
+        sizes
+    };
+    let alone = others.as_flattened().iter();
+    let mut out: Vec<Sizes> = alone.map(|&index| with(exact, index)).collect();
+    for room in [NODES, FRONT, OUT] {
+        let mut short = with(exact, least / 2);
+        short[room] = short[room].saturating_sub(1);
+        out.push(short);
+    }
+    out.extend([
+        with([0; 4], least),
+        with(needed(4096), 0),
+        exact.map(|size| size + 1),
+        with(exact.map(|size| size + 1000), 3 * least),
+    ]);
     out
 }
 

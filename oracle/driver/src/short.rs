@@ -13,9 +13,10 @@ use walkprint::raw::{self, Asked};
 use crate::call::Call;
 use crate::counts::Counts;
 use crate::differ::compare;
-use crate::expected::{Judged, expected, judge, needed, refused};
+use crate::expected::{Judged, expected, judge, refused};
 use crate::room::{Room, any_bytes};
 use crate::runner::{Makers, Mismatch, smallest};
+use crate::sizes::needed;
 use crate::walkback;
 
 /// Bytes of a window, a request and a body, and of a mob's two ends.
@@ -128,7 +129,7 @@ fn search(
 ) -> Result<(), String> {
     let budget = handed.call.request.node_budget;
     let sizes = match chance.once_in(4) {
-        true => [0; 3],
+        true => [0; 4],
         false => needed(budget),
     };
     let judged = match handed.cut(1) {
@@ -136,7 +137,7 @@ fn search(
         None => judge(&handed.call),
     };
     let must = expected(&judged, budget, sizes);
-    compare(&must, sizes, seed, |lent| {
+    compare(&must, sizes, None, seed, |lent| {
         raw::find_walk_path(&handed.asked(), lent)
     })?;
     counts.search(&must);
@@ -196,10 +197,10 @@ fn mob(scene: &Scene, seed: u64, chance: &mut Chance, counts: &mut Counts) -> Re
     };
     let mut permissions = Room::new(states, chance);
     let after = permissions.after(&filled);
-    let sizes = [56, 24, 40].map(|record| record * chance.below(3));
+    let sizes = [56, 24, 4, 40].map(|record| record * chance.below(3));
     let must = expected(&Judged::Ends(number), 0, sizes);
     let told = |parts| format!("mob, {}: {parts}", handed.lengths());
-    compare(&must, sizes, seed, |lent| {
+    compare(&must, sizes, None, seed, |lent| {
         let room = permissions.lent();
         raw::find_path(combination, 1.25, &flags, &handed.asked(), room, lent)
     })

@@ -7,8 +7,9 @@ use scene::Scene;
 use crate::call::Call;
 use crate::counts::Counts;
 use crate::differ::differ;
-use crate::expected::{Expected, judge, needed};
+use crate::expected::{Expected, judge};
 use crate::runner::{Makers, Mismatch, smallest};
+use crate::sizes::needed;
 use crate::walkback::YES;
 
 /// Scenes that reach more points are passed over.

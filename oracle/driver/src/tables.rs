@@ -10,8 +10,9 @@ use crate::call::Call;
 use crate::counts::Counts;
 use crate::differ::differ;
 use crate::edits::{EDITS, Edit};
-use crate::expected::{judge, needed};
+use crate::expected::judge;
 use crate::runner::{Makers, Mismatch};
+use crate::sizes::{longer, needed};
 
 pub fn one_call(makers: &Makers, number: u64, counts: &mut Counts) -> Result<(), Mismatch> {
     let Some((records, scene)) = makers.scene(number, counts) else {
@@ -71,8 +72,8 @@ pub fn edited(scene: &Scene, edits: &[&Edit], number: u64) -> Call {
 fn parts(call: &Call, number: u64) -> Result<crate::expected::Expected, String> {
     let needed = needed(call.request.node_budget.min(4096));
     let mut chance = Chance::new(number);
-    let sizes = needed.map(|size| size + chance.below(200));
-    differ(call, &judge(call), sizes, number)
+    let extra = [200, 200, 3, 200].map(|end| chance.below(end));
+    differ(call, &judge(call), longer(needed, extra), number)
 }
 
 /// With as few edits and as small a scene as still part.

@@ -8,6 +8,8 @@
 mod boxes;
 mod edge;
 mod graph;
+pub mod index;
+mod lookup;
 mod policy;
 mod request;
 mod root;

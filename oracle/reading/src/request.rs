@@ -6,6 +6,7 @@ use scene::{Answer, Outcome, Refusal, Scene, Verdict};
 use crate::Variant::{self, *};
 use crate::boxes::Point;
 use crate::graph::{Graph, same_point};
+use crate::index;
 use crate::search::Search;
 
 /// Bytes of the rooms that a caller lends.
@@ -13,24 +14,29 @@ use crate::search::Search;
 pub struct Rooms {
     pub nodes: u64,
     pub frontier: u64,
+    pub index: u64,
     pub output: u64,
 }
 
 impl Rooms {
     /// "Node or frontier room under node_budget records, output under
-    /// node_budget + 1" are too small: these are just large enough.
+    /// node_budget + 1" are too small, and so is an index room under "twice the
+    /// budget" (02, No. 7): these are just large enough.
     pub fn least(node_budget: u64) -> Self {
         Self {
             nodes: 56 * node_budget,
             frontier: 24 * node_budget,
+            index: index::least_bytes(node_budget) as u64,
             output: 40 * (node_budget + 1),
         }
     }
 
-    fn too_small(&self, node_budget: u64) -> bool {
+    /// "5", of an index room also where it is longer and of a wrong size.
+    fn no_room(&self, node_budget: u64) -> bool {
         self.nodes / 56 < node_budget
             || self.frontier / 24 < node_budget
             || self.output / 40 < node_budget + 1
+            || index::wrong_size(self.index as usize, node_budget)
     }
 }
 
@@ -61,7 +67,7 @@ pub fn search_in(scene: &Scene, rooms: &Rooms, edit: Variant) -> Verdict {
     if too_large(scene, edit) {
         return refused(4);
     }
-    if rooms.too_small(request.node_budget) {
+    if rooms.no_room(request.node_budget) {
         return refused(5);
     }
     if edit == BudgetZeroFirst && request.node_budget == 0 {

@@ -5,6 +5,7 @@ use scene::{Answer, NO_PARENT, NodeRecord, Outcome, Waypoint};
 use crate::Variant::{self, *};
 use crate::boxes::{Point, distance};
 use crate::graph::{E, Graph, same_point};
+use crate::lookup::{is_of_index, look_up};
 
 /// A waiting node: its estimate and the number of its push.
 #[derive(Debug, Clone, Copy)]
@@ -20,6 +21,8 @@ pub struct Search<'a> {
     waiting: Vec<Option<Waiting>>,
     pushed: u64,
     dropped: bool,
+    /// How many nodes there were when the last expansion began.
+    before: usize,
 }
 
 /// What a list ends with: the node that reached the goal, and the connector
@@ -50,6 +53,7 @@ impl<'a> Search<'a> {
             waiting: vec![Some(first)],
             pushed: 1,
             dropped: false,
+            before: 0,
         }
     }
 
@@ -147,6 +151,7 @@ impl<'a> Search<'a> {
     /// Visits every graph step of the node, in order.
     fn expand(&mut self, node: usize) {
         let from = self.nodes[node].point.feet;
+        self.before = self.nodes.len();
         let silent = |to: Point| match self.edit() {
             ClosedSideSilent => self.find(to).is_some_and(|k| self.nodes[k].closed == 1),
             RetainedSideSilent => self.find(to).is_some(),
@@ -163,9 +168,18 @@ impl<'a> Search<'a> {
 
     fn find(&self, point: Point) -> Option<usize> {
         let edit = self.edit();
-        self.nodes
-            .iter()
-            .position(|node| same_point(node.point.feet, point, edit))
+        let mut first = 0;
+        if is_of_index(edit) {
+            let old = self.nodes.iter().take(self.before);
+            let points: Vec<Point> = old.map(|node| node.point.feet).collect();
+            let budget = self.graph.scene.request.node_budget;
+            if let Some(node) = look_up(&points, budget, point, edit) {
+                return Some(node);
+            }
+            first = self.before;
+        }
+        let there = |&node: &usize| same_point(self.nodes[node].point.feet, point, edit);
+        (first..self.nodes.len()).find(there)
     }
 
     fn full(&self) -> bool {

@@ -1,5 +1,5 @@
-//! The variants: each misreads one sentence of 01 and is switched at the place
-//! of that sentence.
+//! The variants: each misreads one sentence of 01, or of 02's No. 7, and is
+//! switched at the place of that sentence.
 //!
 //! Left out, because no answer can show them: the order of the lift, crossing
 //! and settle tests (all must hold); the start's estimate (it waits alone); an
@@ -10,7 +10,8 @@
 //! goal (whatever discovers it has a connector); halving by 2 or by 0.5;
 //! finiteness other than that of steps, jump and drop, and a limit of 0 or less
 //! (no coordinate is smaller than such a limit); 1 -
-//! covered ≤ E instead of covered ≥ 1 - E (the same, for this E).
+//! covered ≤ E instead of covered ≥ 1 - E (the same, for this E); a lookup that
+//! leaves out the nodes of the expansion under way (its points all differ).
 //!
 //! Three misreadings show only where `supported` is asked by itself: in a search
 //! the body stands at the segment's start and the target is standable, so that
@@ -426,6 +427,20 @@ variants! {
                 DropsUncounted: "Unreachable all the same",
                 DropsCountKnown: "a known point counts as dropped",
                 StopAtFirstDrop: "the search ends there",
+            }
+        }
+        "02, No. 7" {
+            "u32 slots, a power of two and at least twice the budget" {
+                IndexStartFree: "a slot holds a node's number, and the start's is a free one",
+                IndexHalfLost: "the node that makes the room half full is lost",
+                IndexNotRound: "behind the last slot there is none, and the node is lost",
+            }
+            "addressed by a hash of the three 64-bit words of a point" {
+                IndexByZeroSign: "of its own words, so that -0.0 and 0 have two slots",
+            }
+            "each lookup answers as the scan does" {
+                IndexUncompared: "the node in the point's own slot is taken unseen",
+                IndexOwnSlotOnly: "no slot is looked at but the point's own",
             }
         }
     }

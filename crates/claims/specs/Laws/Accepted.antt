@@ -33,28 +33,28 @@ module _ (w : Window) (cells perms shapes boxes : List ℕ) (r : Request) (body 
       let back = list-back (route-below sp r body f (λ p. steps-made sp r body (f .jump) (space-tops w cells perms shapes boxes) (pointOf p)) (l .way)) in
       record { whole = list-whole t; route = rw back l }
 
-  module _ (nodes front out : List ℕ) where
+  module _ (nodes front index out : List ℕ) where
     abbrev answer : Answer
-    answer = calls.answer w cells perms shapes boxes r body nodes front out
+    answer = calls.answer w cells perms shapes boxes r body nodes front index out
 
     abbrev after : List ℕ
-    after = outAfter w cells perms shapes boxes r body nodes front out
+    after = outAfter w cells perms shapes boxes r body nodes front index out
 
     abbrev list : List (Feet × Label)
-    list = calls.list w cells perms shapes boxes r body nodes front out
+    list = calls.list w cells perms shapes boxes r body nodes front index out
 
     front-is : answer .outcome ≡ Found → take (40 * answer .count) after ≡ listBytes list
     front-is e =
-        ap (λ (n : ℕ). take (40 * n) after) (calls.count-of w cells perms shapes boxes r body nodes front out e)
-        ∙ ap (take (40 * length list)) (calls.out-of w cells perms shapes boxes r body nodes front out e)
+        ap (λ (n : ℕ). take (40 * n) after) (calls.count-of w cells perms shapes boxes r body nodes front index out e)
+        ∙ ap (take (40 * length list)) (calls.out-of w cells perms shapes boxes r body nodes front index out e)
         ∙ list-front list (drop (40 * length list) out)
 
     pub read-back : InF64 r → answer .outcome ≡ Found → RouteList sp r body (take (40 * answer .count) after)
-    read-back f e = rw (front-is e) (route-list f list (calls.route-of w cells perms shapes boxes r body nodes front out e))
+    read-back f e = rw (front-is e) (route-list f list (calls.route-of w cells perms shapes boxes r body nodes front index out e))
 
     pub accepted : InF64 r → answer .outcome ≡ Found → walked w cells perms shapes boxes r body (take (40 * answer .count) after) ≡ Yes
     accepted f e =
         a-route-is-yes w cells perms shapes boxes r body (take (40 * answer .count) after)
-        (calls.good-world w cells perms shapes boxes r body nodes front out e)
-        (calls.small-sizes w cells perms shapes boxes r body nodes front out e)
+        (calls.good-world w cells perms shapes boxes r body nodes front index out e)
+        (calls.small-sizes w cells perms shapes boxes r body nodes front index out e)
         (read-back f e)

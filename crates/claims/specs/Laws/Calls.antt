@@ -2,7 +2,7 @@
 use Prim.Native.Nat.{ℕ, _+_, _*_, _≤_, _<_}
 use native.Mathlib.Omega.{arith}
 use mathlib.Core.Path.{_≡_, refl, sym, ap, _∙_}
-use mathlib.Core.Bool.{Bool, true, false, cond}
+use mathlib.Core.Bool.{Bool, true, false, _||_, cond}
 use mathlib.Core.Option.{Option, none, some}
 use mathlib.Core.List.{List, _++_, map}
 use mathlib.Core.Logic.{_⊎_, inl, inr, _≢_, ⊎-elim}
@@ -34,7 +34,8 @@ use Rattle.outcomes.specs.declared.Outcome.the-variants.{Found, Unreachable, Bu
 use Rattle.outcomes.specs.declared.Answer.{Answer}
 use Rattle.outcomes.specs.Outcomes.{outcomeNumber, toldBy, listIn}
 use Rattle.refusals.specs.Refusals.{noRoom, withoutSearch}
-use Rattle.search.specs.FindWalkPath.{ended, endOf, answerBy, found, nodesAfter, outAfter}
+use Rattle.index.specs.Size.{wrongSize}
+use Rattle.search.specs.FindWalkPath.{ended, endOf, answerBy, beforeSearch, found, nodesAfter, outAfter}
 use Rattle.walk_back.specs.WalkBack.{IsRoute}
 use Rattle.claims.specs.Words.{withBudget, InF64, keptPoints, closedWords}
 use Rattle.claims.specs.Laws.Budget.{valid-budget, ends-budget}
@@ -54,12 +55,12 @@ module _ (w : Window) (cells perms shapes boxes : List ℕ) where
   abbrev bad : Bool
   bad = badWorld w cells shapes boxes
 
-  module _ (r : Request) (body : Body) (nodes front out : List ℕ) where
+  module _ (r : Request) (body : Body) (nodes front index out : List ℕ) where
     abbrev pub answer : Answer
-    answer = found w cells perms shapes boxes r body (length nodes) (length front) (length out)
+    answer = found w cells perms shapes boxes r body (length nodes) (length front) (length index) (length out)
 
     abbrev pub without : Option Outcome
-    without = withoutSearch w cells perms shapes boxes r body (length nodes) (length front) (length out)
+    without = beforeSearch w cells perms shapes boxes r body (length nodes) (length front) (length index) (length out)
 
     -- what the search comes to, and its list
     abbrev came : Outcome
@@ -70,10 +71,10 @@ module _ (w : Window) (cells perms shapes boxes : List ℕ) where
 
     -- what it leaves in the node room
     abbrev room : List ℕ
-    room = nodesAfter w cells perms shapes boxes r body nodes front out
+    room = nodesAfter w cells perms shapes boxes r body nodes front index out
 
     abbrev full : Bool
-    full = noRoom (r .«node_budget») (length nodes) (length front) (length out)
+    full = noRoom (r .«node_budget») (length nodes) (length front) (length out) || wrongSize (length index) (r .«node_budget»)
 
     abbrev nought : Bool
     nought = eqb (r .«node_budget») 0
@@ -111,7 +112,7 @@ module _ (w : Window) (cells perms shapes boxes : List ℕ) where
     unfolding found
     count-of e = let n = by-tests ∙ begun e .0 .begun in rw n
 
-    pub out-of : answer .outcome ≡ Found → outAfter w cells perms shapes boxes r body nodes front out ≡ listBytes list ++ drop (40 * length list) out
+    pub out-of : answer .outcome ≡ Found → outAfter w cells perms shapes boxes r body nodes front index out ≡ listBytes list ++ drop (40 * length list) out
     unfolding outAfter
     out-of e = let n = by-tests ∙ begun e .0 .begun in rw n
 
@@ -257,12 +258,12 @@ module _ (w : Window) (cells perms shapes boxes : List ℕ) where
 
   -- ---- a call with another budget, and other rooms
 
-  module _ (r : Request) (body : Body) (nodes front out : List ℕ) (b : ℕ) (nodes′ front′ out′ : List ℕ) where
+  module _ (r : Request) (body : Body) (nodes front index out : List ℕ) (b : ℕ) (nodes′ front′ index′ out′ : List ℕ) where
     abbrev more : Answer
-    more = answer (withBudget b r) body nodes′ front′ out′
+    more = answer (withBudget b r) body nodes′ front′ index′ out′
 
     abbrev full′ : Bool
-    full′ = noRoom b (length nodes′) (length front′) (length out′)
+    full′ = noRoom b (length nodes′) (length front′) (length out′) || wrongSize (length index′) b
 
     abbrev large′ : Bool
     large′ = tooLarge (withBudget b r) body
@@ -272,38 +273,38 @@ module _ (w : Window) (cells perms shapes boxes : List ℕ) where
 
     more-by-order : more .outcome ≡ told came′ (order bad (validRequest r body) large′ full′ (endsGood sp r body) (eqb b 0))
     more-by-order =
-        by-order (withBudget b r) body nodes′ front′ out′ ∙ (let v = valid-budget b r body in let g = ends-budget b sp r body in rw (v, g))
+        by-order (withBudget b r) body nodes′ front′ index′ out′ ∙ (let v = valid-budget b r body in let g = ends-budget b sp r body in rw (v, g))
 
     -- as many as were kept are enough
-    pub retained-enough : answer r body nodes front out .outcome ≡ Unreachable → answer r body nodes front out .retained ≤ b → more .outcome ≢ BudgetExceeded
+    pub retained-enough : answer r body nodes front index out .outcome ≡ Unreachable → answer r body nodes front index out .retained ≤ b → more .outcome ≢ BudgetExceeded
     retained-enough e h x =
         let o = on-exceeded came′ bad (validRequest r body) large′ full′ (endsGood sp r body) (eqb b 0) (sym more-by-order ∙ x) in
-        let s = of-search r body nodes front out e (o .0) (o .1) in
+        let s = of-search r body nodes front index out e (o .0) (o .1) in
         let K : List Feet = points (ended sp r body) in
         let cover = search.covers-still sp r body b K (search.kept-all sp r body (s .0)) in
-        not-exceeded (withBudget b r) body nodes′ front′ out′ K cover (omega (arith, points-many r body nodes front out (s .1))) x
+        not-exceeded (withBudget b r) body nodes′ front′ index′ out′ K cover (omega (arith, points-many r body nodes front index out (s .1))) x
 
     -- and fewer are not
-    pub fewer-exceeded : answer r body nodes front out .outcome ≡ Unreachable → b < answer r body nodes front out .retained →
+    pub fewer-exceeded : answer r body nodes front index out .outcome ≡ Unreachable → b < answer r body nodes front index out .retained →
         outcomeNumber (more .outcome) < 3 → more .outcome ≡ BudgetExceeded
     fewer-exceeded e h n = go (more .outcome) refl
       where
-        s : (came r body nodes front out ≡ Unreachable) × (without r body nodes front out ≡ none)
-        s = searched r body nodes front out e (λ z. omega arith)
+        s : (came r body nodes front index out ≡ Unreachable) × (without r body nodes front index out ≡ none)
+        s = searched r body nodes front index out e (λ z. omega arith)
 
-        o : Began bad (validRequest r body) (tooLarge r body) (endsGood sp r body) (nought r body nodes front out) (tests r body nodes front out)
-        o = began r body nodes front out (s .1)
+        o : Began bad (validRequest r body) (tooLarge r body) (endsGood sp r body) (nought r body nodes front index out) (tests r body nodes front index out)
+        o = began r body nodes front index out (s .1)
 
         below : b ≤ r .«node_budget»
-        below = omega (arith, retained-within r body nodes front out)
+        below = omega (arith, retained-within r body nodes front index out)
 
         go : (x : Outcome) → more .outcome ≡ x → more .outcome ≡ BudgetExceeded
         go Found i =
-            let z = search.found-again sp (withBudget b r) body (r .«node_budget») below (begun (withBudget b r) body nodes′ front′ out′ i .1) in
+            let z = search.found-again sp (withBudget b r) body (r .«node_budget») below (begun (withBudget b r) body nodes′ front′ index′ out′ i .1) in
             absurd (let q : _≡_ {A = ℕ} 0 1 = cc (z, s .0) in omega arith)
         go Unreachable i =
-            let u = of-search (withBudget b r) body nodes′ front′ out′ i (valid-budget b r body ∙ o .valid) (ends-budget b sp r body ∙ o .ends) in
-            absurd (omega (arith, search.kept-within sp r body b below (u .0), retained-is r body nodes front out (s .1)))
+            let u = of-search (withBudget b r) body nodes′ front′ index′ out′ i (valid-budget b r body ∙ o .valid) (ends-budget b sp r body ∙ o .ends) in
+            absurd (omega (arith, search.kept-within sp r body b below (u .0), retained-is r body nodes front index out (s .1)))
         go BudgetExceeded i = i
         go BadWorld i = let z : outcomeNumber (more .outcome) ≡ 3 = ap outcomeNumber i in absurd (omega arith)
         go TooLarge i = let z : outcomeNumber (more .outcome) ≡ 4 = ap outcomeNumber i in absurd (omega arith)
@@ -314,16 +315,16 @@ module _ (w : Window) (cells perms shapes boxes : List ℕ) where
       still : eqb (r .«node_budget») 0 ≡ false → eqb b 0 ≡ false
       still e = ne-eqb b 0 (λ z. eqb-false (r .«node_budget») 0 e (omega arith))
 
-      pub stays-found : answer r body nodes front out .outcome ≡ Found → outcomeNumber (more .outcome) < 3 → more .outcome ≡ Found
+      pub stays-found : answer r body nodes front index out .outcome ≡ Found → outcomeNumber (more .outcome) < 3 → more .outcome ≡ Found
       stays-found e h =
           more-by-order
-          ∙ found-stays (came r body nodes front out) came′ bad (validRequest r body) (endsGood sp r body)
-          (tooLarge r body) (full r body nodes front out) (eqb (r .«node_budget») 0) large′ full′ (eqb b 0) still
-          (search.found-again sp r body b above) (sym (by-order r body nodes front out) ∙ e) (rw more-by-order at h)
+          ∙ found-stays (came r body nodes front index out) came′ bad (validRequest r body) (endsGood sp r body)
+          (tooLarge r body) (full r body nodes front index out) (eqb (r .«node_budget») 0) large′ full′ (eqb b 0) still
+          (search.found-again sp r body b above) (sym (by-order r body nodes front index out) ∙ e) (rw more-by-order at h)
 
-      pub stays-unreachable : answer r body nodes front out .outcome ≡ Unreachable → outcomeNumber (more .outcome) < 3 → more .outcome ≡ Unreachable
+      pub stays-unreachable : answer r body nodes front index out .outcome ≡ Unreachable → outcomeNumber (more .outcome) < 3 → more .outcome ≡ Unreachable
       stays-unreachable e h =
           more-by-order
-          ∙ unreachable-stays (came r body nodes front out) came′ bad (validRequest r body) (endsGood sp r body)
-          (tooLarge r body) (full r body nodes front out) (eqb (r .«node_budget») 0) large′ full′ (eqb b 0) still
-          (search.unreachable-again sp r body b above) (sym (by-order r body nodes front out) ∙ e) (rw more-by-order at h)
+          ∙ unreachable-stays (came r body nodes front index out) came′ bad (validRequest r body) (endsGood sp r body)
+          (tooLarge r body) (full r body nodes front index out) (eqb (r .«node_budget») 0) large′ full′ (eqb b 0) still
+          (search.unreachable-again sp r body b above) (sym (by-order r body nodes front index out) ∙ e) (rw more-by-order at h)

@@ -1,12 +1,11 @@
 -- `reach::visit` meets its contract. Assumes nothing.
-use Prim.Native.Nat.{ℕ, _≤_, _<_}
+use Prim.Native.Nat.{_<_}
 use mathlib.Core.Path.{_≡_, refl, sym, subst, _∙_}
 use mathlib.Core.Bool.{true}
 use lib.ListN.{length}
 use borrow.Author.Tests.{not-true, not-false}
 use denote.Ref.{now}
 use Rattle.rooms.specs.declared.Entry.{Entry}
-use Rattle.rooms.specs.Scans.{firstAt}
 use Rattle.rooms.specs.Laws.Writes.{WroteEntry}
 use Rattle.costs.specs.Costs.{costBy, pushedAs}
 use Rattle.visits.specs.Visits.{Ready, ready}
@@ -23,22 +22,15 @@ known s =
     let a = s .before .before .before .before .args in
     ready-is (now (a .nodes)) (now (a .front)) (a .aim .budget) (a .k) (a .c) (passed s)
 
--- no node is at the point, once the second test failed
-missing : (s : tie.Else2) → let a = s .before .before .before .before .before .before .before .args in a .c .retained ≤ firstAt (now (a .nodes)) (a .c .retained) (a .to)
-missing s = subst (λ (j : ℕ). s .before .before .before .before .before .before .before .args .c .retained ≤ j) (s .before .seek .ensures) (s .if2 .left)
-
 is-ready-requires : tie.Need-is-ready-requires
 is-ready-requires c κs = tt
 
 returns : tie.Need-returns
 returns c = visited-not (sym (c .before .is-ready .ensures) ∙ not-true _ (c .if1 .taken))
 
-seek-requires : tie.Need-seek-requires
-seek-requires c κs = tt
-
 again-requires : tie.Need-again-requires
 again-requires c κs =
-    let r = known (c .before .before .before .before .before) in
+    let r = known (c .before .before .before) in
     (r .0, (c .before .before .if2 .taken, r .1))
 
 same-length : tie.Need-same-length
@@ -49,23 +41,19 @@ same-length-2 c = c .before .before .before .before .again .kept .1 .0
 
 returns-2 : tie.Need-returns-2
 returns-2 c =
-    let a = c .before .before .before .before .before .before .before .before .before .before .before .before .before .before .args in
-    let r = known (c .before .before .before .before .before .before .before .before .before .before) in
-    let at = c .before .before .before .before .before .before .before .before .seek .ensures in
-    let v = visited-known (a .aim) (a .k) (a .c) (now (a .nodes)) (now (a .front)) (r .0 .few) (a .from) (a .to) (a .label) (c .before .before .before .before .before .before .before .before .seek .result) (costBy (a .from .cost) (a .from .feet) (a .to)) at refl (c .before .before .before .before .before .before .before .if2 .taken) (c .before .before .before .before .again .ensures .0) in
-    visited-if (passed (c .before .before .before .before .before .before .before .before .before .before)) (c .before .before .before .before .again .ensures .1 ∙ sym (shut-known (now (a .nodes)) (a .c .retained) (a .to) (c .before .before .before .before .before .before .before .before .seek .result) at (c .before .before .before .before .before .before .before .if2 .taken))) v
+    let a = c .before .before .before .before .before .before .before .before .before .before .before .before .args in
+    let r = known (c .before .before .before .before .before .before .before .before) in
+    let v = visited-known (a .aim) (a .k) (a .c) (now (a .nodes)) (now (a .front)) (r .0 .few) (a .from) (a .to) (a .label) (a .j) (costBy (a .from .cost) (a .from .feet) (a .to)) refl (c .before .before .before .before .before .before .before .if2 .taken) (c .before .before .before .before .again .ensures .0) in
+    visited-if (passed (c .before .before .before .before .before .before .before .before)) (c .before .before .before .before .again .ensures .1 ∙ sym (shut-known (now (a .nodes)) (a .c .retained) (a .j) (c .before .before .before .before .before .before .before .if2 .taken))) v
 
 add-c : tie.Need-add-c
-add-c c = drops-fit (known (c .before .before .before .before .before .before) .0)
-
-same-length-3 : tie.Need-same-length-3
-same-length-3 c = refl
+add-c c = drops-fit (known (c .before .before .before .before) .0)
 
 returns-3 : tie.Need-returns-3
 returns-3 c =
-    let a = c .before .before .before .before .before .before .before .before .before .before .args in
-    let v = visited-drop (a .aim) (a .k) (a .c) (now (a .nodes)) (now (a .front)) (known (c .before .before .before .before .before .before) .0 .few) (a .from) (a .to) (a .label) (missing (c .before .before .before)) (c .before .if3 .taken) in
-    visited-if (passed (c .before .before .before .before .before .before)) (sym (shut-none (now (a .nodes)) (a .c .retained) (a .to) (missing (c .before .before .before)))) v
+    let a = c .before .before .before .before .before .before .before .before .args in
+    let v = visited-drop (a .aim) (a .k) (a .c) (now (a .nodes)) (now (a .front)) (known (c .before .before .before .before) .0 .few) (a .from) (a .to) (a .label) (a .j) (c .before .before .before .if2 .left) (c .before .if3 .taken) in
+    visited-if (passed (c .before .before .before .before)) (sym (shut-none (now (a .nodes)) (a .c .retained) (a .j) (c .before .before .before .if2 .left))) v
 
 cost-by-requires : tie.Need-cost-by-requires
 cost-by-requires c κs = tt
@@ -78,30 +66,29 @@ pushed-as-requires c κs = tt
 
 put-open-requires : tie.Need-put-open-requires
 put-open-requires c κs =
-    let a = c .before .before .before .before .before .before .before .before .before .before .before .before .before .before .args in
-    let r = known (c .before .before .before .before .before .before .before .before .before .before) in
+    let a = c .before .before .before .before .before .before .before .before .before .before .before .before .args in
+    let r = known (c .before .before .before .before .before .before .before .before) in
     (node-inside (r .0) (a .c .retained) (c .before .before .before .before .before .if3 .left), entry-inside (r .0) (a .c .retained) (c .before .before .before .before .before .if3 .left), numbered (r .0) (a .k) (r .1))
 
 add-c-2 : tie.Need-add-c-2
-add-c-2 c = retains-fit (known (c .before .before .before .before .before .before .before .before .before .before .before .before .before .before .before) .0)
+add-c-2 c = retains-fit (known (c .before .before .before .before .before .before .before .before .before .before .before .before .before) .0)
 
 add-c-3 : tie.Need-add-c-3
-add-c-3 c = pushes-fit (known (c .before .before .before .before .before .before .before .before .before .before .before .before .before .before .before .before) .0)
+add-c-3 c = pushes-fit (known (c .before .before .before .before .before .before .before .before .before .before .before .before .before .before) .0)
+
+same-length-3 : tie.Need-same-length-3
+same-length-3 c = c .before .before .before .before .before .put-open .kept .0
 
 same-length-4 : tie.Need-same-length-4
-same-length-4 c = c .before .before .before .before .before .put-open .kept .0
-
-same-length-5 : tie.Need-same-length-5
-same-length-5 c = c .before .before .before .before .before .put-open .kept .1 .0
+same-length-4 c = c .before .before .before .before .before .put-open .kept .1 .0
 
 returns-4 : tie.Need-returns-4
 returns-4 c =
-    let a = c .before .before .before .before .before .before .before .before .before .before .before .before .before .before .before .before .before .before .before .before .args in
-    let r = known (c .before .before .before .before .before .before .before .before .before .before .before .before .before .before .before .before) in
-    let none = missing (c .before .before .before .before .before .before .before .before .before .before .before .before .before) in
+    let a = c .before .before .before .before .before .before .before .before .before .before .before .before .before .before .before .before .before .before .args in
+    let r = known (c .before .before .before .before .before .before .before .before .before .before .before .before .before .before) in
     let w = subst (λ (e : Entry). WroteEntry (now (a .front)) (a .c .retained) e (c .before .before .before .before .before .put-open .last .1 .0)) (c .before .before .before .before .before .before .before .before .pushed-as .ensures ∙ (λ i. pushedAs (c .before .before .before .before .before .before .before .before .before .estimate .ensures i) (a .c .pushed))) (c .before .before .before .before .before .put-open .ensures .1) in
-    let v = visited-new (a .aim) (a .k) (a .c) (now (a .nodes)) (now (a .front)) (r .0 .few) (a .from) (a .to) (a .label) (c .before .before .before .before .before .before .before .before .before .before .cost-by .result) (c .before .before .before .before .before .before .before .before .before .before .cost-by .ensures) none (c .before .before .before .before .before .before .before .before .before .before .before .if3 .left) (numbered (r .0) (a .k) (r .1)) (c .before .before .before .before .before .put-open .ensures .0) w in
-    visited-if (passed (c .before .before .before .before .before .before .before .before .before .before .before .before .before .before .before .before)) (sym (shut-none (now (a .nodes)) (a .c .retained) (a .to) none)) v
+    let v = visited-new (a .aim) (a .k) (a .c) (now (a .nodes)) (now (a .front)) (r .0 .few) (a .from) (a .to) (a .label) (a .j) (c .before .before .before .before .before .before .before .before .before .before .cost-by .result) (c .before .before .before .before .before .before .before .before .before .before .cost-by .ensures) (c .before .before .before .before .before .before .before .before .before .before .before .before .before .if2 .left) (c .before .before .before .before .before .before .before .before .before .before .before .if3 .left) (numbered (r .0) (a .k) (r .1)) (c .before .before .before .before .before .put-open .ensures .0) w in
+    visited-if (passed (c .before .before .before .before .before .before .before .before .before .before .before .before .before .before)) (sym (shut-none (now (a .nodes)) (a .c .retained) (a .j) (c .before .before .before .before .before .before .before .before .before .before .before .before .before .if2 .left))) v
 
 pub visit-spec : {M : Type 1} → statement M
 visit-spec =
@@ -109,13 +96,11 @@ visit-spec =
     (tie.spec
     is-ready-requires
     returns
-    seek-requires
     again-requires
     same-length
     same-length-2
     returns-2
     add-c
-    same-length-3
     returns-3
     cost-by-requires
     estimate-requires
@@ -123,6 +108,6 @@ visit-spec =
     put-open-requires
     add-c-2
     add-c-3
+    same-length-3
     same-length-4
-    same-length-5
     returns-4)

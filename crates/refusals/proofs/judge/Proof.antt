@@ -17,7 +17,7 @@ bad-world-requires c κs = tt
 returns : tie.Need-returns
 returns c =
     let a = c .before .before .before .before .before .before .args in
-    ap numberIf (out-bad-world (a .w) (now (a .cells)) (now (a .perms)) (now (a .shapes)) (now (a .boxes)) (a .r) (a .body) (a .nodes) (a .front) (a .out)
+    ap numberIf (out-bad-world (a .w) (now (a .cells)) (now (a .perms)) (now (a .shapes)) (now (a .boxes)) (a .r) (a .body) (a .nodes) (a .front) (a .out) (a .wrong-index)
     (sym (c .before .bad-world .ensures) ∙ c .if1 .taken))
 
 valid-request-requires : tie.Need-valid-request-requires
@@ -26,7 +26,7 @@ valid-request-requires c κs = tt
 returns-2 : tie.Need-returns-2
 returns-2 c =
     let a = c .before .before .before .before .before .before .before .before .args in
-    ap numberIf (out-invalid (a .w) (now (a .cells)) (now (a .perms)) (now (a .shapes)) (now (a .boxes)) (a .r) (a .body) (a .nodes) (a .front) (a .out)
+    ap numberIf (out-invalid (a .w) (now (a .cells)) (now (a .perms)) (now (a .shapes)) (now (a .boxes)) (a .r) (a .body) (a .nodes) (a .front) (a .out) (a .wrong-index)
     (sym (c .before .before .before .bad-world .ensures) ∙ c .before .before .if1 .left)
     (sym (c .before .valid-request .ensures) ∙ not-true _ (c .if2 .taken)))
 
@@ -36,7 +36,7 @@ too-large-requires c κs = tt
 returns-3 : tie.Need-returns-3
 returns-3 c =
     let a = c .before .before .before .before .before .before .before .before .before .before .args in
-    ap numberIf (out-too-large (a .w) (now (a .cells)) (now (a .perms)) (now (a .shapes)) (now (a .boxes)) (a .r) (a .body) (a .nodes) (a .front) (a .out)
+    ap numberIf (out-too-large (a .w) (now (a .cells)) (now (a .perms)) (now (a .shapes)) (now (a .boxes)) (a .r) (a .body) (a .nodes) (a .front) (a .out) (a .wrong-index)
     (sym (c .before .before .before .before .before .bad-world .ensures) ∙ c .before .before .before .before .if1 .left)
     (sym (c .before .before .before .valid-request .ensures) ∙ not-false _ (c .before .before .if2 .left))
     (sym (c .before .too-large .ensures) ∙ c .if3 .taken))
@@ -44,11 +44,11 @@ returns-3 c =
 returns-4 : tie.Need-returns-4
 returns-4 c =
     let a = c .before .before .before .before .before .before .before .before .before .before .before .args in
-    ap numberIf (out-no-room (a .w) (now (a .cells)) (now (a .perms)) (now (a .shapes)) (now (a .boxes)) (a .r) (a .body) (a .nodes) (a .front) (a .out)
+    ap numberIf (out-no-room (a .w) (now (a .cells)) (now (a .perms)) (now (a .shapes)) (now (a .boxes)) (a .r) (a .body) (a .nodes) (a .front) (a .out) (a .wrong-index)
     (sym (c .before .before .before .before .before .before .bad-world .ensures) ∙ c .before .before .before .before .before .if1 .left)
     (sym (c .before .before .before .before .valid-request .ensures) ∙ not-false _ (c .before .before .before .if2 .left))
     (sym (c .before .before .too-large .ensures) ∙ c .before .if3 .left)
-    (sym (room-divided (a .r .«node_budget») (a .nodes) (a .front) (a .out)) ∙ c .if4 .taken))
+    (sym (room-divided (a .r .«node_budget») (a .nodes) (a .front) (a .out) (a .wrong-index)) ∙ c .if4 .taken))
 
 ends-good-requires : tie.Need-ends-good-requires
 ends-good-requires c κs = tt
@@ -56,23 +56,23 @@ ends-good-requires c κs = tt
 returns-5 : tie.Need-returns-5
 returns-5 c =
     let a = c .before .before .before .before .before .before .before .before .before .before .before .before .before .args in
-    ap numberIf (out-bad-end (a .w) (now (a .cells)) (now (a .perms)) (now (a .shapes)) (now (a .boxes)) (a .r) (a .body) (a .nodes) (a .front) (a .out)
+    ap numberIf (out-bad-end (a .w) (now (a .cells)) (now (a .perms)) (now (a .shapes)) (now (a .boxes)) (a .r) (a .body) (a .nodes) (a .front) (a .out) (a .wrong-index)
     (sym (c .before .before .before .before .before .before .before .before .bad-world .ensures) ∙ c .before .before .before .before .before .before .before .if1 .left)
     (sym (c .before .before .before .before .before .before .valid-request .ensures) ∙ not-false _ (c .before .before .before .before .before .if2 .left))
     (sym (c .before .before .before .before .too-large .ensures) ∙ c .before .before .before .if3 .left)
-    (sym (room-divided (a .r .«node_budget») (a .nodes) (a .front) (a .out)) ∙ c .before .before .if4 .left)
+    (sym (room-divided (a .r .«node_budget») (a .nodes) (a .front) (a .out) (a .wrong-index)) ∙ c .before .before .if4 .left)
     (sym (c .before .ends-good .ensures) ∙ not-true _ (c .if5 .taken)))
 
 -- past all tests but the last: a search, or none where it has nothing to spend
 last : (c : tie.Else5) → let a = c .before .before .before .before .before .before .before .before .before .before .before .before .before .args in (nothing : Bool) → eqb (a .r .«node_budget») 0 ≡ nothing →
-    cond nothing (some BudgetExceeded) none ≡ withoutSearch (a .w) (now (a .cells)) (now (a .perms)) (now (a .shapes)) (now (a .boxes)) (a .r) (a .body) (a .nodes) (a .front) (a .out)
+    cond nothing (some BudgetExceeded) none ≡ withoutSearch (a .w) (now (a .cells)) (now (a .perms)) (now (a .shapes)) (now (a .boxes)) (a .r) (a .body) (a .nodes) (a .front) (a .out) (a .wrong-index)
 last c =
     let a = c .before .before .before .before .before .before .before .before .before .before .before .before .before .args in
-    out-last (a .w) (now (a .cells)) (now (a .perms)) (now (a .shapes)) (now (a .boxes)) (a .r) (a .body) (a .nodes) (a .front) (a .out)
+    out-last (a .w) (now (a .cells)) (now (a .perms)) (now (a .shapes)) (now (a .boxes)) (a .r) (a .body) (a .nodes) (a .front) (a .out) (a .wrong-index)
     (sym (c .before .before .before .before .before .before .before .before .bad-world .ensures) ∙ c .before .before .before .before .before .before .before .if1 .left)
     (sym (c .before .before .before .before .before .before .valid-request .ensures) ∙ not-false _ (c .before .before .before .before .before .if2 .left))
     (sym (c .before .before .before .before .too-large .ensures) ∙ c .before .before .before .if3 .left)
-    (sym (room-divided (a .r .«node_budget») (a .nodes) (a .front) (a .out)) ∙ c .before .before .if4 .left)
+    (sym (room-divided (a .r .«node_budget») (a .nodes) (a .front) (a .out) (a .wrong-index)) ∙ c .before .before .if4 .left)
     (sym (c .before .ends-good .ensures) ∙ not-false _ (c .if5 .left))
 
 returns-6 : tie.Need-returns-6

@@ -7,7 +7,7 @@ use Rattle.replay_check.proofs.main.Statement.{statement}
 use Rattle.replay_check.proofs.main.Tie as tie
 
 abbrev Inv-loop : tie.InvT-loop
-Inv-loop scene₀ sheet₀ count counter₀ scene sheet counter = (length scene ≡ 24576) × (length sheet ≡ 352)
+Inv-loop scene₀ sheet₀ count counter₀ scene sheet counter = (length scene ≡ 24576) × (length sheet ≡ 356)
 
 abbrev μ-loop : tie.MeasureT-loop
 μ-loop scene₀ sheet₀ count counter₀ scene sheet counter = count - counter

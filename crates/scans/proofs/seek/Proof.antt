@@ -1,28 +1,25 @@
 -- `scans::seek` meets its contract. Assumes nothing.
 use native.Mathlib.Omega.{arith}
-use Prim.Native.Nat.{_≤_, _-_, _+_}
-use mathlib.Core.Path.{_≡_, sym, ap, _∙_}
+use Prim.Native.Nat.{_-_, _+_}
+use mathlib.Core.Path.{_≡_, refl, sym, ap, _∙_}
 use denote.Ref.{now}
 use Rattle.rooms.specs.declared.Feet.{Feet}
 use Rattle.rooms.specs.Waypoints.{samePoint}
-use Rattle.rooms.specs.Scans.{firstOf, isAt, firstAt}
+use Rattle.rooms.specs.Scans.{firstOf, isAt}
 use Rattle.scans.specs.Laws.{first-here, first-later, first-end}
 use Rattle.scans.proofs.seek.Statement.{statement}
 use Rattle.scans.proofs.seek.Tie as tie
 
 abbrev Inv-loop : tie.InvT-loop
-Inv-loop nodes n q i₀ i =
-    (i ≤ n) × (firstOf (isAt nodes q) 0 n ≡ firstOf (isAt nodes q) i (n - i))
+Inv-loop nodes from n q i₀ i =
+    (firstOf (isAt nodes q) from (n - from) ≡ firstOf (isAt nodes q) i (n - i))
 
 abbrev μ-loop : tie.MeasureT-loop
-μ-loop nodes n q i₀ i =
+μ-loop nodes from n q i₀ i =
     n - i
 
 loop-holds : tie.Need-loop-holds Inv-loop μ-loop
-loop-holds c =
-    let a = c .before .args in
-    let e : a .n ≡ a .n - 0 = omega arith in
-    (omega arith, ap (firstOf (isAt (now (a .nodes)) (a .q)) 0) e)
+loop-holds c = refl
 
 get-feet-requires : tie.Need-get-feet-requires Inv-loop μ-loop
 get-feet-requires c κs = tt
@@ -35,12 +32,11 @@ tested : (s : tie.After-same-point Inv-loop μ-loop) → s .same-point .result �
 tested s = s .same-point .ensures ∙ ap (λ (p : Feet). samePoint p (s .before .before .before .before .before .args .q)) (s .before .get-feet .ensures)
 
 returns : tie.Need-returns Inv-loop μ-loop
-unfolding firstAt
 returns c =
     let a = c .before .before .before .before .before .before .args in
     let p = isAt (now (a .nodes)) (a .q) in
     let i = c .before .before .before .before .loop .i in
-    sym (c .before .before .before .before .loop .inv .1 ∙ first-here p i (a .n - i) (sym (tested (c .before)) ∙ c .if1 .taken) (omega arith))
+    sym (c .before .before .before .before .loop .inv ∙ first-here p i (a .n - i) (sym (tested (c .before)) ∙ c .if1 .taken) (omega arith))
 
 add-next-near : tie.Need-add-next-near Inv-loop μ-loop
 add-next-near c = omega arith
@@ -56,19 +52,15 @@ loop-again c =
     let a = c .before .before .before .before .before .before .before .args in
     let p = isAt (now (a .nodes)) (a .q) in
     let i = c .before .before .before .before .before .loop .i in
-    let e : a .n - i - 1 ≡ a .n - (i + 1) = omega arith in (
-      c .next-near .ensures .1,
-      c .before .before .before .before .before .loop .inv .1 ∙ first-later p i (a .n - i) (sym (tested (c .before .before)) ∙ c .before .if1 .left) (omega arith)
-          ∙ ap (firstOf p (i + 1)) e ∙ c .next-near .ensures .2,
-    )
+    let e : a .n - i - 1 ≡ a .n - (i + 1) = omega arith in
+      c .before .before .before .before .before .loop .inv ∙ first-later p i (a .n - i) (sym (tested (c .before .before)) ∙ c .before .if1 .left) (omega arith)
+          ∙ ap (firstOf p (i + 1)) e ∙ c .next-near .ensures .2
 
 returns-2 : tie.Need-returns-2 Inv-loop μ-loop
-unfolding firstAt
 returns-2 c =
     let a = c .before .before .before .args in
     let p = isAt (now (a .nodes)) (a .q) in
-    let e : c .before .loop .i ≡ a .n = omega arith in
-    sym (c .before .loop .inv .1 ∙ first-end p (c .before .loop .i) (a .n - c .before .loop .i) (omega arith) ∙ e)
+    sym (c .before .loop .inv ∙ first-end p (c .before .loop .i) (a .n - c .before .loop .i) (omega arith))
 
 pub seek-spec : {M : Type 1} → statement M
 seek-spec =

@@ -22,11 +22,12 @@ use Rattle.words.specs.Words.{feetOf, labelOf, stepOf}
 use Rattle.rooms.specs.declared.Feet.{Feet}
 use Rattle.rooms.specs.declared.Label.{Label}
 use Rattle.rooms.specs.declared.Counts.{Counts}
+use Rattle.rooms.specs.Scans.{firstAt}
 use Rattle.rooms.specs.Rooms.{Note, stateOf}
 use Rattle.visits.specs.declared.Aim.{Aim}
 use Rattle.visits.specs.Best.{best}
 use Rattle.visits.specs.Visits.{Ready, Near, Visited}
-use Rattle.visits.specs.Laws.Visits.{kept-none, kept-trans, near-none, near-trans, is-ready}
+use Rattle.visits.specs.Laws.Visits.{kept-none, kept-trans, still-none, still-trans, near-none, near-trans, is-ready, visit-sought}
 use Rattle.strides.specs.declared.Place.{Place}
 use Rattle.strides.specs.declared.Column.{Column}
 use Rattle.search.specs.declared.Around.{Around}
@@ -51,11 +52,15 @@ map-append h (x ∷ xs) ys = ap (λ (zs : List _). h x ∷ zs) (map-append h xs 
 
 module _ {aim : Aim} {at : Place} where
   pub stepped-none : {c : Counts} (a f : List ℕ) → c .retained ≤ aim .budget → Stepped aim at [] c c a f a f
-  stepped-none a f h = record { state = λ 𝓖 s n p q. refl; kept = kept-none _ a f; near = near-none h }
+  stepped-none a f h = record { state = λ 𝓖 s n p q. refl; kept = kept-none _ a f; still = still-none _ a; near = near-none h }
 
-  pub stepped-one : {c r : Counts} {a f b g : List ℕ} (w : Waypoint) → Visited aim (at .number) (at .node) c (feetOf (w .feet)) (labelOf w) r a f b g → Stepped aim at (w ∷ []) c r a f b g
+  -- where the lookup found the first node at the step's point
+  pub stepped-one : {c r : Counts} {a f b g : List ℕ} (w : Waypoint) (j : ℕ) → j ≡ firstAt a (c .retained) (feetOf (w .feet)) → c .retained ≤ aim .budget →
+      Visited aim (at .number) (at .node) c j (feetOf (w .feet)) (labelOf w) r a f b g → Stepped aim at (w ∷ []) c r a f b g
   unfolding stepOf
-  stepped-one w v = record { state = v .state; kept = v .kept; near = v .near }
+  stepped-one {c} {a = a} {f = f} w j e h v = record {
+    state = λ 𝓖 s n p q. v .state 𝓖 n p q ∙ sym (visit-sought aim (at .number) c a f h (at .node) (feetOf (w .feet)) (labelOf w) 𝓖 s n j e);
+    kept = v .kept; still = v .still; near = v .near }
 
   pub stepped-more : {c r t : Counts} {a f b g x y : List ℕ} {ws vs : List Waypoint} → Stepped aim at ws c r a f b g → Stepped aim at vs r t b g x y → Stepped aim at (ws ++ vs) c t a f x y
   stepped-more {c} {a = a} {f = f} {ws = ws} {vs = vs} u v = record {
@@ -64,6 +69,7 @@ module _ {aim : Aim} {at : Place} where
         ∙ sym (visits-append 𝓖 (best (aim .goal)) (aim .budget) (at .number) n (stateOf a f c) (map stepOf ws) (map stepOf vs))
         ∙ ap (visits 𝓖 (best (aim .goal)) (aim .budget) (at .number) n (stateOf a f c)) (sym (map-append stepOf ws vs));
     kept = kept-trans (v .near .more) (u .kept) (v .kept);
+    still = still-trans (u .near .more) (u .still) (v .still);
     near = rw length-append (near-trans (u .near) (v .near)) }
 
   pub went-none : {c : Column} (a f : List ℕ) → c .counts .retained ≤ aim .budget → Went aim at [] c c a f a f
@@ -77,15 +83,15 @@ module _ {aim : Aim} {at : Place} where
 
   -- ---- one height
 
-  -- by the edge to it, where the rooms are ready
-  pub went-by : {c r : Column} {a f b g : List ℕ} (e : EdgeAnswer) → Strode aim at e c r a f b g → Ready a f (aim .budget) 1 (c .counts) → at .number < c .counts .retained
-      → Went aim at (ahead e []) c r a f b g
+  -- by the edge to it, where the rooms are ready and the lookup found the first node there
+  pub went-by : {c r : Column} {a f b g : List ℕ} (e : EdgeAnswer) (to : Point) (j : ℕ) → ((w : Waypoint) → e ≡ To w → w .feet ≡ to) → j ≡ firstAt a (c .counts .retained) (feetOf to)
+      → Strode aim at e j c r a f b g → Ready a f (aim .budget) 1 (c .counts) → at .number < c .counts .retained → Went aim at (ahead e []) c r a f b g
   unfolding level
-  went-by {c} {r} {a} {f} Nowhere s h n = record {
+  went-by {c} {r} {a} {f} Nowhere to j i o s h n = record {
     steps = rw (s .visited .nodes) (rw (s .visited .front) (rw (s .visited .counts) (stepped-none a f (h .few))));
     noted = s .noted }
-  went-by {c} {r} {a} {f} (To w) s h n = record {
-    steps = stepped-one w (s .visited .0 (is-ready a f (aim .budget) (at .number) (c .counts) h n));
+  went-by {c} {r} {a} {f} (To w) to j i o s h n = record {
+    steps = stepped-one w j (o ∙ ap (λ (p : Point). firstAt a (c .counts .retained) (feetOf p)) (sym (i w refl))) (h .few) (s .visited .0 (is-ready a f (aim .budget) (at .number) (c .counts) h n));
     noted = s .noted ∙ ap (λ (x : Bool). c .level || x) (sym (or-false (levelTo (at .point) (w .feet)))) }
 
 -- ---- a loop over steps: those gone, and those left

@@ -32,7 +32,7 @@ use Rattle.visits.specs.declared.Aim.{Aim}
 use Rattle.visits.specs.Best.{best}
 use Rattle.visits.specs.declared.Closing.{Closing}
 use Rattle.visits.specs.Visits.{Ready, Closed, ClosedIf}
-use Rattle.visits.specs.Laws.Visits.{kept-none, kept-trans, near-none, near-trans, near-le, is-ready}
+use Rattle.visits.specs.Laws.Visits.{kept-none, kept-trans, still-none, still-trans, near-none, near-trans, near-le, is-ready}
 use Rattle.outcomes.specs.declared.Turn.the-variants.{Rest, Going, At, By}
 use Rattle.strides.specs.declared.Place.{Place}
 use Rattle.search.specs.Steps.{Stepped}
@@ -59,7 +59,7 @@ module _ (aim : Aim) (sp : Space) (r : Request) (body : Body) (c : Counts) (a f 
 
   pub turned-rest : c .retained ≤ aim .budget → c .retained ≤ nextOf (c .retained) f → Turned aim sp r body c (Rest c) a f a f
   unfolding advance stateOf best
-  turned-rest few h = let e = pick-none a f (c .retained) h in record { state = sym (ap from-pick e); kept = kept-none _ a f; near = near-none few; quiet = e }
+  turned-rest few h = let e = pick-none a f (c .retained) h in record { state = sym (ap from-pick e); kept = kept-none _ a f; still = still-none _ a; near = near-none few; quiet = e }
 
   module _ (goal : aim .goal ≡ feetOf (r .goal)) (k : ℕ) (e : k ≡ nextOf (c .retained) f) (h : k < c .retained) where
     abbrev from : Feet
@@ -92,7 +92,7 @@ module _ (aim : Aim) (sp : Space) (r : Request) (body : Body) (c : Counts) (a f 
       unfolding expanding
       turned-at i = record {
         state = ap (λ (x : State Feet Label Note ℕ). arrive x k []) (shut .state 𝓖) ∙ sym (advance-some ∙ ap expanding (ending-at i));
-        kept = shut .kept; near = near-le (mostSteps + 1) (omega arith) (shut .near); quiet = tt }
+        kept = shut .kept; still = shut .still; near = near-le (mostSteps + 1) (omega arith) (shut .near); quiet = tt }
 
       pub turned-by : (l : Label) (way : Waypoint) → samePoint from (aim .goal) ≡ false → To way ≡ connector sp r body (pointOf from) → l ≡ labelOf way → Turned aim sp r body c (By s k l) a f b g
       unfolding expanding
@@ -101,7 +101,7 @@ module _ (aim : Aim) (sp : Space) (r : Request) (body : Body) (c : Counts) (a f 
             ∙ ap (λ (x : Feet). arrive (close 𝓖 𝓟 (stateOf a f c) k (nodeIn a f k)) k ((x, l) ∷ [])) (sym graph-goal)
             ∙ ap (λ (x : Label). arrive (close 𝓖 𝓟 (stateOf a f c) k (nodeIn a f k)) k ((𝓖 .goal, x) ∷ [])) m
             ∙ sym (advance-some ∙ ap expanding (ending-by (To way) i j));
-        kept = shut .kept; near = near-le (mostSteps + 1) (omega arith) (shut .near); quiet = tt }
+        kept = shut .kept; still = shut .still; near = near-le (mostSteps + 1) (omega arith) (shut .near); quiet = tt }
 
       pub turned-going : (at : Place) {t : Counts} {x y : List ℕ} → Bounded sp r body → samePoint from (aim .goal) ≡ false → Nowhere ≡ connector sp r body (pointOf from) → at .number ≡ k → at .node ≡ nodeAt a k → at .point ≡ pointOf from
           → Stepped aim at (stepsFrom sp r body (at .point)) s t b g x y → Turned aim sp r body c (Going t) a f x y
@@ -113,4 +113,5 @@ module _ (aim : Aim) (sp : Space) (r : Request) (body : Body) (c : Counts) (a f 
             ∙ ap (λ (z : Point). visits 𝓖 𝓟 (aim .budget) k (closedNode 𝓖 𝓟 (nodeIn a f k)) (close 𝓖 𝓟 (stateOf a f c) k (nodeIn a f k)) (map stepOf (stepsFrom sp r body z))) m
             ∙ sym (advance-some ∙ ap expanding (ending-by Nowhere i j));
         kept = kept-trans (v .near .more) (shut .kept) (v .kept);
+        still = still-trans (shut .near .more) (shut .still) (v .still);
         near = near-le (mostSteps + 1) (omega (arith, bound (at .point))) (near-trans (shut .near) (v .near)); quiet = tt }

@@ -12,7 +12,7 @@ use Rattle.strides.proofs.step_to.Tie as tie
 
 -- an edge that was visited, whatever the visit answers
 visited : (c : tie.After-visit) {r : Counts} → let a = c .before .before .before .before .before .before .before .before .before .before .before .before .args in countsBy (a .c .counts) (c .visit .result) ≡ r →
-    Strode (a .aim) (a .at) (a .edge) (a .c) (record { counts = r; level = a .c .level || c .before .before .before .before .before .before .is-level .result }) (now (a .nodes)) (now (a .front)) (c .visit .last .0) (c .visit .last .1 .0)
+    Strode (a .aim) (a .at) (a .edge) (a .j) (a .c) (record { counts = r; level = a .c .level || c .before .before .before .before .before .before .is-level .result }) (now (a .nodes)) (now (a .front)) (c .visit .last .0) (c .visit .last .1 .0)
 visited c e =
     strode-to _ (c .before .before .before .before .before .before .before .before .edge .given .0 .0) (c .before .before .feet-of .result) (c .before .label-of .result) (c .before .before .before .before .before .before .is-level .result) (sym (c .before .before .before .before .before .before .before .before .edge .given .1)) (c .before .before .feet-of .ensures) (c .before .label-of .ensures) (c .before .before .before .before .before .before .is-level .ensures) (c .visit .ensures) e
 

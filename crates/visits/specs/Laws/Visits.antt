@@ -1,20 +1,20 @@
 -- The paths of the code through one step, one closing and the start, each in the definitions' words; and how they compose.
-use mathlib.Core.Path.{_≡_, refl, sym, ap, _∙_}
-use mathlib.Core.Bool.{true, false, _&&_}
+use mathlib.Core.Path.{_≡_, refl, sym, ap, subst, _∙_}
+use mathlib.Core.Bool.{Bool, true, false, _&&_}
 use mathlib.Core.Option.{Option, none, some}
 use mathlib.Core.List.{List, [], _∷_, _++_}
-use mathlib.Core.Logic.{_≢_}
+use mathlib.Core.Logic.{_≢_, ⊎-elim}
 use Prim.Native.Nat.{ℕ, zero, suc, _+_, _*_, _/_, _^_, _≤_, _<_}
 use native.Mathlib.Omega.{arith}
 use native.Mathlib.Numerals.{add-one}
-use lib.Dec.{ltb, leb}
+use lib.Dec.{eqb, ltb, leb}
 use lib.ListN.{length, set}
 use mir.Syntax.{w64}
 use mir.Val.{Fits}
-use borrow.Author.Tests.{eq-eqb, ne-eqb, lt-ltb, le-ltb, le-leb, ltb-true, leb-true}
+use borrow.Author.Tests.{eq-eqb, ne-eqb, lt-ltb, le-ltb, le-leb, ltb-true, leb-true, eqb-true, eqb-false}
 use Rattle.exploration.specs.Graph.{Graph}
 use Rattle.exploration.specs.Policy.{Node}
-use Rattle.exploration.specs.Explore.{State, child, apply, effect, effectAt, visit, begin}
+use Rattle.exploration.specs.Explore.{State, child, apply, effect, effectAt, seek, visit, begin}
 use Rattle.exploration.specs.Laws.Lists.{and-both, and-first, and-second, true-false}
 use Rattle.fields.specs.RecordLaws.{length-firsts}
 use Rattle.rooms.specs.declared.Feet.{Feet}
@@ -27,12 +27,13 @@ use Rattle.rooms.specs.Scans.{firstAt}
 use Rattle.rooms.specs.Rooms.{Note, nobody, parentOf, nodeOf, nodeIn, nodesOf, stateOf}
 use Rattle.rooms.specs.Laws.Writes.{WroteNode, WroteEntry}
 use Rattle.rooms.specs.Laws.Rooms.{BySamePoint, nodes-set, nodes-more, seek-none, seek-some}
+use Rattle.rooms.specs.Laws.Lists.{in-or-out}
 use Rattle.visits.specs.declared.Aim.{Aim}
 use Rattle.visits.specs.declared.Visit.{Visit}
 use Rattle.visits.specs.declared.Visit.the-variants.{Counted}
 use Rattle.costs.specs.Costs.{costBy, estimateBy, cheaper, pushedAs, lowered}
 use Rattle.visits.specs.Best.{opened, idle, relaxed, best}
-use Rattle.visits.specs.Visits.{Ready, ready, Kept, Untouched, Near, Seen, countsBy, saysClosed, isShut, shutAt, Visited, VisitedIf, Closed, startRecord, counted, Started, Begun}
+use Rattle.visits.specs.Visits.{Ready, ready, Kept, Still, Untouched, Near, Seen, countsBy, saysClosed, isShut, foundAt, shutAt, Visited, VisitedIf, Closed, startRecord, counted, Started, Begun}
 
 -- ---- the bytes that stay, and the counts
 
@@ -41,6 +42,23 @@ kept-none m a f = record { nodes = λ j h. refl; front = λ j h. refl }
 
 pub kept-wrote : {a f b g : List ℕ} {k : ℕ} {r : NodeRecord} {e : Entry} (m : ℕ) → k < m → WroteNode a k r b → WroteEntry f k e g → Kept m a f b g
 kept-wrote m l p q = record { nodes = λ j h. p .past j (omega arith); front = λ j h. q .past j (omega arith) }
+
+-- a record written over one with the same point, and one written behind the others
+pub still-none : (n : ℕ) (a : List ℕ) → Still n a a
+still-none n a = record { feet = λ j h. refl }
+
+pub still-over : {a b : List ℕ} {k : ℕ} {r : NodeRecord} (n : ℕ) → r .feet ≡ nodeAt a k .feet → WroteNode a k r b → Still n a b
+still-over {a} {b} {k} {r} n e p = record { feet = λ j h. go j (eqb j k) refl }
+  where
+    go : (j : ℕ) (t : Bool) → eqb j k ≡ t → nodeAt b j .feet ≡ nodeAt a j .feet
+    go j true i = let y = eqb-true j k i in rw y (ap (λ (x : NodeRecord). x .feet) (p .here) ∙ e)
+    go j false i = ap (λ (x : NodeRecord). x .feet) (p .there j (eqb-false j k i))
+
+pub still-behind : {a b : List ℕ} {k : ℕ} {r : NodeRecord} → WroteNode a k r b → Still k a b
+still-behind p = record { feet = λ j h. ap (λ (x : NodeRecord). x .feet) (p .there j (λ e. omega arith)) }
+
+pub still-trans : {a b d : List ℕ} {m n : ℕ} → m ≤ n → Still m a b → Still n b d → Still m a d
+still-trans l p q = record { feet = λ j h. q .feet j (omega arith) ∙ p .feet j h }
 
 pub kept-trans : {a f b g d h : List ℕ} {m n : ℕ} → m ≤ n → Kept m a f b g → Kept n b g d h → Kept n a f d h
 kept-trans l p q = record { nodes = λ j i. q .nodes j i ∙ p .nodes j (omega arith); front = λ j i. q .front j i ∙ p .front j (omega arith) }
@@ -127,11 +145,11 @@ module _ (aim : Aim) (k : ℕ) (c : Counts) (a f : List ℕ) (few : c .retained 
   module _ (j cost : ℕ) (to : Feet) (label : Label) where
     pub seen-shut : nodeAt a j .closed ≢ 0 → Seen aim k c j cost to label c a f a f
     unfolding nodeOf
-    seen-shut h = record { state = (let e = ne-eqb (nodeAt a j .closed) 0 h in rw e); kept = kept-none _ a f; near = near-none few }
+    seen-shut h = record { state = (let e = ne-eqb (nodeAt a j .closed) 0 h in rw e); kept = kept-none _ a f; still = still-none _ a; near = near-none few }
 
     pub seen-dear : nodeAt a j .closed ≡ 0 → cheaper cost (nodeAt a j .cost) ≡ false → Seen aim k c j cost to label c a f a f
     unfolding nodeOf relaxed
-    seen-dear h l = record { state = (let e = eq-eqb (nodeAt a j .closed) 0 h in rw (e, l)); kept = kept-none _ a f; near = near-none few }
+    seen-dear h l = record { state = (let e = eq-eqb (nodeAt a j .closed) 0 h in rw (e, l)); kept = kept-none _ a f; still = still-none _ a; near = near-none few }
 
     abbrev pub pushed : Counts
     pushed = record { retained = c .retained; closed = c .closed; pushed = c .pushed + 1; dropped = c .dropped }
@@ -142,6 +160,7 @@ module _ (aim : Aim) (k : ℕ) (c : Counts) (a f : List ℕ) (few : c .retained 
     seen-lower {b} {g} hk hj h l p w = record {
       state = (let e = eq-eqb (nodeAt a j .closed) 0 h in rw (e, l) (λ i. record { nodes = ns i; book = c .pushed + 1; closings = c .closed; dropped = c .dropped; found = none }));
       kept = kept-wrote (c .retained) hj p w;
+      still = still-over (c .retained) refl p;
       near = record { more = omega arith; few = few; pushes = omega arith; drops = omega arith; closes = omega arith };
     }
       where
@@ -152,45 +171,56 @@ module _ (aim : Aim) (k : ℕ) (c : Counts) (a f : List ℕ) (few : c .retained 
     abbrev seeing : Graph Feet Label → Node Feet Label Note → Option (ℕ × Node Feet Label Note) → State Feet Label Note ℕ
     seeing 𝓖 n o = apply (aim .budget) (stateOf a f c) (effectAt 𝓖 (best (aim .goal)) k n (c .pushed) (to, label) o)
 
-    abbrev first : ℕ
-    first = firstAt a (c .retained) to
+    abbrev found : ℕ → Option (ℕ × Node Feet Label Note)
+    found j = foundAt a f (c .retained) j
 
-    visit-none : (𝓖 : Graph Feet Label) → BySamePoint 𝓖 → (n : Node Feet Label Note) → c .retained ≤ first → visit 𝓖 (best (aim .goal)) (aim .budget) k n (stateOf a f c) (to, label) ≡ seeing 𝓖 n none
+    sought-none : (j : ℕ) → c .retained ≤ j → found j ≡ none
+    unfolding foundAt
+    sought-none j l = let z = le-ltb j (c .retained) l in rw z
+
+    sought-some : (j : ℕ) → j < c .retained → found j ≡ some (j, nodeIn a f j)
+    unfolding foundAt
+    sought-some j l = let z = lt-ltb j (c .retained) l in rw z
+
+    -- where the lookup found the first node at the point, that is the theory's visit, over every graph whose points compare as 01 says
+    pub visit-sought : (𝓖 : Graph Feet Label) → BySamePoint 𝓖 → (n : Node Feet Label Note) (j : ℕ) → j ≡ firstAt a (c .retained) to → visit 𝓖 (best (aim .goal)) (aim .budget) k n (stateOf a f c) (to, label) ≡ seeing 𝓖 n (found j)
     unfolding effect stateOf
-    visit-none 𝓖 same n l = ap (seeing 𝓖 n) (seek-none 𝓖 same a f (c .retained) to l)
+    visit-sought 𝓖 same n j e = ⊎-elim
+        (λ l. ap (seeing 𝓖 n) (subst (λ (i : ℕ). seek 𝓖 (nodesOf (c .retained) a f) to ≡ some (i, nodeIn a f i)) (sym e) (seek-some 𝓖 same a f (c .retained) to (rw e at l)) ∙ sym (sought-some j l)))
+        (λ l. ap (seeing 𝓖 n) (seek-none 𝓖 same a f (c .retained) to (rw e at l) ∙ sym (sought-none j l)))
+        (in-or-out j (c .retained))
 
-    visit-some : (𝓖 : Graph Feet Label) → BySamePoint 𝓖 → (n : Node Feet Label Note) → first < c .retained → visit 𝓖 (best (aim .goal)) (aim .budget) k n (stateOf a f c) (to, label) ≡ seeing 𝓖 n (some (first, nodeIn a f first))
-    unfolding effect stateOf
-    visit-some 𝓖 same n l = ap (seeing 𝓖 n) (seek-some 𝓖 same a f (c .retained) to l)
-
-    pub visited-known : {r : Counts} {b g : List ℕ} (j cost : ℕ) → j ≡ first → cost ≡ costBy (from .cost) (from .feet) to → j < c .retained → Seen aim k c j cost to label r a f b g → Visited aim k from c to label r a f b g
+    pub visited-known : {r : Counts} {b g : List ℕ} (j cost : ℕ) → cost ≡ costBy (from .cost) (from .feet) to → j < c .retained → Seen aim k c j cost to label r a f b g → Visited aim k from c j to label r a f b g
     unfolding best
-    visited-known j cost i e l s = record {
-      state = λ 𝓖 same n p q. (let z : costBy (n .note .cost) (n .point) to ≡ cost = rw (p, q) (sym e) in sym (visit-some 𝓖 same n (rw (← i) l) ∙ rw (z, ← i) (sym (s .state))));
+    visited-known j cost e l s = record {
+      state = λ 𝓖 n p q. (let z : costBy (n .note .cost) (n .point) to ≡ cost = rw (p, q) (sym e) in sym (ap (seeing 𝓖 n) (sought-some j l) ∙ rw z (sym (s .state))));
       kept = s .kept;
+      still = s .still;
       near = s .near;
     }
 
     abbrev pub dropped : Counts
     dropped = record { retained = c .retained; closed = c .closed; pushed = c .pushed; dropped = c .dropped + 1 }
 
-    pub visited-drop : c .retained ≤ first → aim .budget ≤ c .retained → Visited aim k from c to label dropped a f a f
+    pub visited-drop : (j : ℕ) → c .retained ≤ j → aim .budget ≤ c .retained → Visited aim k from c j to label dropped a f a f
     unfolding stateOf
-    visited-drop l m = record {
-      state = λ 𝓖 same n p q. sym (visit-none 𝓖 same n l ∙ (let z = le-ltb (length (nodesOf (c .retained) a f)) (aim .budget) (rw length-firsts m) in rw (z, ← add-one)));
+    visited-drop j l m = record {
+      state = λ 𝓖 n p q. sym (ap (seeing 𝓖 n) (sought-none j l) ∙ (let z = le-ltb (length (nodesOf (c .retained) a f)) (aim .budget) (rw length-firsts m) in rw (z, ← add-one)));
       kept = kept-none _ a f;
+      still = still-none _ a;
       near = record { more = omega arith; few = few; pushes = omega arith; drops = omega arith; closes = omega arith };
     }
 
     abbrev pub grown : Counts
     grown = record { retained = c .retained + 1; closed = c .closed; pushed = c .pushed + 1; dropped = c .dropped }
 
-    pub visited-new : {b g : List ℕ} (cost : ℕ) → cost ≡ costBy (from .cost) (from .feet) to → c .retained ≤ first → c .retained < aim .budget → k < nobody →
-        WroteNode a (c .retained) (childRecord k to label cost) b → WroteEntry f (c .retained) (pushedAs (estimateBy (aim .goal) cost to) (c .pushed)) g → Visited aim k from c to label grown a f b g
+    pub visited-new : {b g : List ℕ} (j cost : ℕ) → cost ≡ costBy (from .cost) (from .feet) to → c .retained ≤ j → c .retained < aim .budget → k < nobody →
+        WroteNode a (c .retained) (childRecord k to label cost) b → WroteEntry f (c .retained) (pushedAs (estimateBy (aim .goal) cost to) (c .pushed)) g → Visited aim k from c j to label grown a f b g
     unfolding stateOf best
-    visited-new {b} {g} cost e l m hk p w = record {
-      state = λ 𝓖 same n x y. (let z : costBy (n .note .cost) (n .point) to ≡ cost = rw (x, y) (sym e) in let t = lt-ltb (length (nodesOf (c .retained) a f)) (aim .budget) (rw length-firsts m) in sym (visit-none 𝓖 same n l ∙ rw (t, z) (λ i. record { nodes = sym ns i; book = c .pushed + 1; closings = c .closed; dropped = c .dropped; found = none })));
+    visited-new {b} {g} j cost e l m hk p w = record {
+      state = λ 𝓖 n x y. (let z : costBy (n .note .cost) (n .point) to ≡ cost = rw (x, y) (sym e) in let t = lt-ltb (length (nodesOf (c .retained) a f)) (aim .budget) (rw length-firsts m) in sym (ap (seeing 𝓖 n) (sought-none j l) ∙ rw (t, z) (λ i. record { nodes = sym ns i; book = c .pushed + 1; closings = c .closed; dropped = c .dropped; found = none })));
       kept = kept-wrote (c .retained + 1) (omega arith) p w;
+      still = still-behind p;
       near = record { more = omega arith; few = omega arith; pushes = omega arith; drops = omega arith; closes = omega arith };
     }
       where
@@ -205,20 +235,20 @@ is-shut r h = let e = ne-eqb (r .closed) 0 h in rw e refl
 pub is-open : (r : NodeRecord) → r .closed ≡ 0 → false ≡ isShut r
 is-open r h = let e = eq-eqb (r .closed) 0 h in rw e refl
 
-module _ (a : List ℕ) (n : ℕ) (q : Feet) where
-  pub shut-known : (j : ℕ) → j ≡ firstAt a n q → j < n → shutAt a n q ≡ isShut (nodeAt a j)
+module _ (a : List ℕ) (n j : ℕ) where
+  pub shut-known : j < n → shutAt a n j ≡ isShut (nodeAt a j)
   unfolding shutAt
-  shut-known j e l = let z = lt-ltb (firstAt a n q) n (rw (← e) l) in rw (z, e)
+  shut-known l = let z = lt-ltb j n l in rw z
 
-  pub shut-none : n ≤ firstAt a n q → shutAt a n q ≡ false
+  pub shut-none : n ≤ j → shutAt a n j ≡ false
   unfolding shutAt
-  shut-none l = let z = le-ltb (firstAt a n q) n l in rw z
+  shut-none l = let z = le-ltb j n l in rw z
 
-module _ {aim : Aim} {k : ℕ} {from : NodeRecord} {c : Counts} {to : Feet} {label : Label} {a f : List ℕ} where
-  pub visited-if : {v : Visit} {b g : List ℕ} → ready (length a) (length f) (aim .budget) k c ≡ true → saysClosed v ≡ shutAt a (c .retained) to → Visited aim k from c to label (countsBy c v) a f b g → VisitedIf aim k from c to label v a f b g
+module _ {aim : Aim} {k : ℕ} {from : NodeRecord} {c : Counts} {j : ℕ} {to : Feet} {label : Label} {a f : List ℕ} where
+  pub visited-if : {v : Visit} {b g : List ℕ} → ready (length a) (length f) (aim .budget) k c ≡ true → saysClosed v ≡ shutAt a (c .retained) j → Visited aim k from c j to label (countsBy c v) a f b g → VisitedIf aim k from c j to label v a f b g
   visited-if p e x = record { done = λ h. x; left = λ h. absurd (true-false p h); closed = rw p e }
 
-  pub visited-not : ready (length a) (length f) (aim .budget) k c ≡ false → VisitedIf aim k from c to label (Counted c) a f a f
+  pub visited-not : ready (length a) (length f) (aim .budget) k c ≡ false → VisitedIf aim k from c j to label (Counted c) a f a f
   visited-not e = record { done = λ h. absurd (true-false h e); left = λ h. record { counts = refl; nodes = refl; front = refl }; closed = rw e refl }
 
 -- ---- a closing
@@ -234,6 +264,7 @@ unfolding stateOf nodeOf best
 closes aim k c a f h few p w = record {
   state = λ 𝓖. (let e = nodes-set p w (c .retained) h in let o = add-one (c .closed) in λ i. record { nodes = e i; book = c .pushed; closings = o i; dropped = c .dropped; found = none });
   kept = kept-wrote (c .retained) h p w;
+  still = still-over (c .retained) refl p;
   near = record { more = omega arith; few = few; pushes = omega arith; drops = omega arith; closes = omega arith };
 }
 

@@ -3,6 +3,7 @@
 use mathlib.Core.Path.{_≡_, refl, sym, ap, _∙_}
 use mathlib.Core.List.{[]}
 use native.Mathlib.Omega.{arith}
+use native.Mathlib.Nat.{le-trans, lt-of-lt-of-le}
 use borrow.Author.Needs.{needs}
 use borrow.Author.Tests.{not-true, not-false}
 use denote.Ref.{now}
@@ -11,6 +12,10 @@ use Rattle.world.specs.Space.{Space, space}
 use Rattle.heights.specs.declared.Height.the-variants.{At}
 use Rattle.moves.specs.Unique.{one-edge}
 use Rattle.edges.specs.Edges.{edge}
+use Rattle.edges.specs.Answers.{edge-feet}
+use Rattle.words.specs.Words.{feetOf}
+use Rattle.rooms.specs.Scans.{firstAt}
+use Rattle.index.specs.Laws.{looked-up, indexed-same}
 use Rattle.steps.specs.Columns.{target, ahead, columnIf}
 use Rattle.sides.specs.declared.Sides.{Sides}
 use Rattle.sides.specs.Sides.{lookedBy}
@@ -21,12 +26,12 @@ use Rattle.search.proofs.columns.column.Statement.{statement}
 use Rattle.search.proofs.columns.column.Tie as tie
 
 abbrev Inv-loop : tie.InvT-loop
-Inv-loop task cells perms shapes boxes nodes₀ front₀ at n c centre band gone₀ after₀ nodes front gone after =
+Inv-loop task cells perms shapes boxes nodes₀ front₀ index known at n c centre band gone₀ after₀ nodes front gone after =
     (length nodes ≡ length nodes₀) × (length front ≡ length front₀)
     × Along (λ ws. Went (task .aim) at ws gone₀ gone nodes₀ front₀ nodes front) (columnIf (space (task .w) cells perms shapes boxes) (task .r) (task .body) (at .point) n) (stepsAfter (space (task .w) cells perms shapes boxes) (task .r) (task .body) (at .point) n after)
 
 abbrev μ-loop : tie.MeasureT-loop
-μ-loop task cells perms shapes boxes nodes₀ front₀ at n c centre band gone₀ after₀ nodes front gone after =
+μ-loop task cells perms shapes boxes nodes₀ front₀ index known at n c centre band gone₀ after₀ nodes front gone after =
     heightsLeft (space (task .w) cells perms shapes boxes) (task .r) (task .body) (at .point) n after
 
 abbrev sp : tie.Start Inv-loop μ-loop → Space
@@ -36,7 +41,7 @@ looked-requires : tie.Need-looked-requires Inv-loop μ-loop
 looked-requires c κs = tt
 
 returns : tie.Need-returns Inv-loop μ-loop
-returns c = looked-not (c .before .before .before .before .before .before .before .before .args .n) (c .before .before .before .before .before .before .before .before .pre .1) (sym (c .before .looked .ensures) ∙ not-true _ (c .if1 .taken)) (c .before .before .before .before .before .before .before .before .pre .0 .0 .few)
+returns c = looked-not (c .before .before .before .before .before .before .before .before .before .args .n) (c .before .before .before .before .before .before .before .before .before .pre .1 .1) (sym (c .before .looked .ensures) ∙ not-true _ (c .if1 .taken)) (c .before .before .before .before .before .before .before .before .before .pre .0 .0 .few)
 
 column-centre-requires : tie.Need-column-centre-requires Inv-loop μ-loop
 column-centre-requires c κs = tt
@@ -46,9 +51,9 @@ band-of-requires c κs = tt
 
 loop-holds : tie.Need-loop-holds Inv-loop μ-loop
 loop-holds c =
-    let s = c .before .before .before .before .before .before .before .before .before .before .before in
-    let z = ap (λ (x : Sides). lookedBy x (s .args .n)) (sym (s .pre .1)) ∙ sym (c .before .before .before .before .looked .ensures) ∙ not-false _ (c .before .before .before .if1 .left) in
-    (refl, refl, along-none (column-begins (sp s) (s .args .task .r) (s .args .task .body) (s .args .at .point) (s .args .n) z) (went-none (now (s .args .nodes)) (now (s .args .front)) (c .before .before .before .before .before .before .before .before .before .before .before .pre .0 .0 .few)))
+    let s = c .before .before .before .before .before .before .before .before .before .before .before .before in
+    let z = ap (λ (x : Sides). lookedBy x (s .args .n)) (sym (s .pre .1 .1)) ∙ sym (c .before .before .before .before .looked .ensures) ∙ not-false _ (c .before .before .before .if1 .left) in
+    (refl, refl, along-none (column-begins (sp s) (s .args .task .r) (s .args .task .body) (s .args .at .point) (s .args .n) z) (went-none (now (s .args .nodes)) (now (s .args .front)) (s .pre .0 .0 .few)))
 
 next-height-requires : tie.Need-next-height-requires Inv-loop μ-loop
 next-height-requires c κs = tt
@@ -70,9 +75,15 @@ same-length-2 c = c .before .before .before .before .before .loop .inv .1
 
 returns-2 : tie.Need-returns-2 Inv-loop μ-loop
 returns-2 c =
-    let s = c .before .before .before .before .before .before .before .before .before .before .before .before .before .before .before .before .before in
+    let s = c .before .before .before .before .before .before .before .before .before .before .before .before .before .before .before .before .before .before in
     let g = along-end (c .before .before .before .before .before .loop .inv .2) (none-left (sp s) (s .args .task .r) (s .args .task .body) (s .args .at .point) (s .args .n) (c .before .before .before .before .before .loop .after) (c .before .before .before .before .before .before .before .band-of .ensures) (c .before .before .before .before .before .before .before .before .column-centre .ensures) (c .before .before .before .before .next-height .ensures) (c .before .before .enum-told .given .1)) in
-    looked-on (s .args .n) (c .before .before .before .before .before .before .before .before .before .before .before .before .before .before .before .before .before .pre .1) (c .before .before .before .before .before .loop .gone) (c .answered .result) (c .answered .ensures) g
+    looked-on (s .args .n) (s .pre .1 .1) (c .before .before .before .before .before .loop .gone) (c .answered .result) (c .answered .ensures) g
+
+feet-of-requires : tie.Need-feet-of-requires Inv-loop μ-loop
+feet-of-requires c κs = tt
+
+find-requires : tie.Need-find-requires Inv-loop μ-loop
+find-requires c κs = tt
 
 edge-requires : tie.Need-edge-requires Inv-loop μ-loop
 edge-requires c κs = tt
@@ -80,22 +91,32 @@ edge-requires c κs = tt
 step-to-requires : tie.Need-step-to-requires Inv-loop μ-loop
 step-to-requires c κs = tt
 
+-- the lookup found the first node at the height: the nodes that are in the index are where they were
+found : (s : tie.After-find Inv-loop μ-loop) → let i = s .before .before .before .before .before .before .before .loop in s .find .result ≡ firstAt (i .nodes) (i .gone .counts .retained) (feetOf (target (s .before .before .before .before .before .before .before .before .before .before .column-centre .result) (s .before .before .before .before .y .given .0 .0)))
+found s =
+    let i = s .before .before .before .before .before .before .before .loop in
+    let u = i .inv .2 .went .steps in
+    let m = s .before .before .before .before .before .before .before .before .before .before .before .before .before .before .before .before .before .before .before .before .pre .1 .0 in
+    let x = indexed-same (λ k l. u .still .feet k (lt-of-lt-of-le l (m .1))) (m .0) in
+    s .find .ensures ∙ looked-up x (s .before .feet-of .result) (i .gone .counts .retained) (le-trans (m .1) (u .near .more)) ∙ ap (firstAt (i .nodes) (i .gone .counts .retained)) (s .before .feet-of .ensures)
+
 loop-less : tie.Need-loop-less Inv-loop μ-loop
 loop-less c =
-    let s = c .before .before .before .before .before .before .before .before .before .before .before .before .before .before .before .before .before .before .before .before .before .before .before .before in
-    fewer (sp s) (s .args .task .r) (s .args .task .body) (s .args .at .point) (s .args .n) (c .before .before .before .before .before .before .before .before .before .before .before .before .loop .after) (c .before .before .before .before .before .before .before .before .before .before .before .before .before .before .band-of .ensures) (c .before .before .before .before .before .before .before .before .before .before .before .before .before .before .before .column-centre .ensures) (c .before .before .before .before .before .before .before .before .before .before .before .next-height .ensures) _ (c .before .before .before .before .before .before .before .before .before .y .given .1)
+    let s = c .before .before .before .before .before .before .before .before .before .before .before .before .before .before .before .before .before .before .before .before .before .before .before .before .before .before .before .before in
+    fewer (sp s) (s .args .task .r) (s .args .task .body) (s .args .at .point) (s .args .n) (c .before .before .before .before .before .before .before .before .before .before .before .before .before .before .before .loop .after) (c .before .before .before .before .before .before .before .before .before .before .before .before .before .before .before .before .before .band-of .ensures) (c .before .before .before .before .before .before .before .before .before .before .before .before .before .before .before .before .before .before .column-centre .ensures) (c .before .before .before .before .before .before .before .before .before .before .before .before .before .before .next-height .ensures) _ (c .before .before .before .before .before .before .before .before .before .before .before .before .y .given .1)
 
 loop-again : tie.Need-loop-again Inv-loop μ-loop
 loop-again c =
-    let s = c .before .before .before .before .before .before .before .before .before .before .before .before .before .before .before .before .before .before .before .before .before .before .before .before in
-    let i = c .before .before .before .before .before .before .before .before .before .before .before .before .loop in
-    let y = c .before .before .before .before .before .before .before .before .before .y .given .0 .0 in
-    let e = edge (sp s) (s .args .task .r) (s .args .task .body) (s .args .at .point) (target (c .before .before .before .before .before .before .before .before .before .before .before .before .before .before .before .column-centre .result) y) in
-    let rest = next-ahead (sp s) (s .args .task .r) (s .args .task .body) (s .args .at .point) (s .args .n) (i .after) (c .before .before .before .before .before .before .before .before .before .before .before .before .before .before .band-of .ensures) (c .before .before .before .before .before .before .before .before .before .before .before .before .before .before .before .column-centre .ensures) (c .before .before .before .before .before .before .before .before .before .before .before .next-height .ensures) y (c .before .before .before .before .before .before .before .before .before .y .given .1) in
+    let s = c .before .before .before .before .before .before .before .before .before .before .before .before .before .before .before .before .before .before .before .before .before .before .before .before .before .before .before .before in
+    let i = c .before .before .before .before .before .before .before .before .before .before .before .before .before .before .before .loop in
+    let y = c .before .before .before .before .before .before .before .before .before .before .before .before .y .given .0 .0 in
+    let to = target (c .before .before .before .before .before .before .before .before .before .before .before .before .before .before .before .before .before .before .column-centre .result) y in
+    let e = edge (sp s) (s .args .task .r) (s .args .task .body) (s .args .at .point) to in
+    let rest = next-ahead (sp s) (s .args .task .r) (s .args .task .body) (s .args .at .point) (s .args .n) (i .after) (c .before .before .before .before .before .before .before .before .before .before .before .before .before .before .before .before .before .band-of .ensures) (c .before .before .before .before .before .before .before .before .before .before .before .before .before .before .before .before .before .before .column-centre .ensures) (c .before .before .before .before .before .before .before .before .before .before .before .before .before .before .next-height .ensures) y (c .before .before .before .before .before .before .before .before .before .before .before .before .y .given .1) in
     let u = i .inv .2 in
     (c .before .before .before .before .step-to .kept .0 ∙ i .inv .0, c .before .before .before .before .step-to .kept .1 .0 ∙ i .inv .1,
     along-on (ahead e []) u (rest ∙ ahead-split e (stepsAfter (sp s) (s .args .task .r) (s .args .task .body) (s .args .at .point) (s .args .n) (At y)))
-        (λ vs g. went-more g (went-by e (rw (one-edge _ _ (c .before .before .before .before .before .before .before .edge .ensures)) at (c .before .before .before .before .step-to .ensures))
+        (λ vs g. went-more g (went-by e to (c .before .before .before .before .before .before .before .before .find .result) (λ w. edge-feet (sp s) (s .args .task .r) (s .args .task .body) (s .args .at .point) to w) (found (c .before .before .before .before .before .before .before .before)) (rw (one-edge _ _ (c .before .before .before .before .before .before .before .edge .ensures)) at (c .before .before .before .before .step-to .ensures))
             (ready-after (s .pre .0 .0) (u .went .steps .near) (omega (arith, along-short u)) (i .inv .0) (i .inv .1)) (omega (arith, s .pre .0 .1, u .went .steps .near .more)))))
 
 pub column-spec : {M : Type 1} → statement M
@@ -116,6 +137,8 @@ column-spec =
     same-length
     same-length-2
     returns-2
+    feet-of-requires
+    find-requires
     edge-requires
     step-to-requires
     loop-less

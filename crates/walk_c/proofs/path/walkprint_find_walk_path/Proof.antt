@@ -12,8 +12,8 @@ use Rattle.walk_c.proofs.path.walkprint_find_walk_path.Tie as tie
 returns : tie.Need-returns
 unfolding questionIn
 returns c =
-    let e = rw (c .before .before .before .before .before .before .before .before .before .before .before .before .before .before .question-in .ensures) at (c .before .before .before .before .before .before .before .before .before .before .find-walk-path .ensures) in
-    told-and (λ (a : Answer). outcomeNumber (a .outcome)) answerWritten (now (c .before .before .before .before .before .before .before .before .before .before .before .before .before .before .before .before .before .before .before .before .before .before .before .before .before .before .args .answer))
+    let e = rw (c .before .before .before .before .before .before .before .before .before .before .before .before .before .before .before .before .before .question-in .ensures) at (c .before .before .before .before .before .before .before .before .before .before .before .before .find-walk-path .ensures) in
+    told-and (λ (a : Answer). outcomeNumber (a .outcome)) answerWritten (now (c .before .before .before .before .before .before .before .before .before .before .before .before .before .before .before .before .before .before .before .before .before .before .before .before .before .before .before .before .before .before .args .answer))
     (one-answer _ _ (e .0), e .1) (c .before .before .put-answer .ensures)
 
 pub walkprint-find-walk-path-spec : {M : Type 1} → statement M
@@ -23,8 +23,9 @@ walkprint-find-walk-path-spec =
     (λ c κs. tt)
     (λ c κs. tt)
     (λ c κs. tt)
-    (λ c. c .before .before .before .before .before .before .before .before .before .nodes .given)
-    (λ c. c .before .before .before .before .before .before .before .front .given)
+    (λ c. c .before .before .before .before .before .before .before .before .before .before .before .nodes .given)
+    (λ c. c .before .before .before .before .before .before .before .before .before .front .given)
+    (λ c. c .before .before .before .before .before .before .before .index .given)
     (λ c. c .before .before .before .before .before .out .given)
     (λ c. c .before .answer .given)
     returns)
