@@ -1,4 +1,5 @@
-// The index of points (02, No. 7: "Keep an index in a room of its own, u32 slots, .. addressed by a hash of the three 64-bit words of a point").
+// The index of points: which node is at a point, found by a hash of the point, as a scan of the nodes would find it. It carries 02, No. 7: "Keep an index in a
+// room of its own, u32 slots, .. addressed by a hash of the three 64-bit words of a point".
 //
 // A slot has 4 bytes: 0 where it is free, else a node's number plus 1. A node stands in the first slot that was free, from its point's own slot on, when it
 // was entered. So whoever looks for a point goes from the point's own slot on, until a node there is at the point or a slot is free. Nodes are entered in the
