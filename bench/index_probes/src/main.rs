@@ -90,7 +90,9 @@ fn shapes() -> bool {
     true
 }
 
+/// Made boxes; a word of the call makes others.
 fn made() -> bool {
+    let other = std::env::args().nth(1).map_or(String::new(), |word| format!(" {word}"));
     Sum::heading("Made boxes");
     let mut all = Sum::default();
     let mut by_step = STEPS.map(|_| Sum::default());
@@ -99,7 +101,7 @@ fn made() -> bool {
         for (size, times) in MADE {
             let mut by_size = Sum::default();
             for (step, by_step) in STEPS.into_iter().zip(&mut by_step) {
-                let mut random = Random::new(size as u64, &format!("{reach} by {step}"));
+                let mut random = Random::new(size as u64, &format!("{reach} by {step}{other}"));
                 for _ in 0..times {
                     let set = sets::made(&mut random, (across, up), size, step);
                     let Some(both) = at_half_load(&set) else {
