@@ -3,7 +3,7 @@ use Prim.Native.Nat.{ℕ, _+_, _-_, _*_, _≤_, _<_}
 use native.Mathlib.Omega.{arith}
 use mathlib.Core.Path.{_≡_, refl, sym}
 use mathlib.Core.Bool.{Bool, true, false, not, _&&_, cond, true≢false}
-use mathlib.Core.List.{List, [], _∷_, map}
+use mathlib.Core.List.{List, [], _∷_, map, foldl}
 use borrow.Author.Tests.{ltb-false}
 use lib.Dec.{ltb}
 use lib.ListN.{drop}
@@ -19,86 +19,63 @@ use Rattle.world.specs.Boxes.{moved}
 use Rattle.world.specs.Laws.{run-none as boxes-none, run-end as boxes-end, run-more as boxes-more}
 use Rattle.world.specs.Space.{Space, Block, run, boxHere, blockOf}
 use Rattle.heights.specs.declared.Band.{Band}
-use Rattle.heights.specs.declared.Height.{Height}
-use Rattle.heights.specs.declared.Height.the-variants.{At}
 use Rattle.heights.specs.Heights.{reaches, topsOf, topsIn, tops}
-use Rattle.heights.specs.Next.{beyond, lower, better, pass, Numbers, numbers-gather}
+use Rattle.heights.specs.Next.{Numbers, numbers-gather}
 
-module _ (band : Band) (x z : Float) (after : Height) where
-  -- ---- a run of boxes, moved by a point
+module _ {S : Type 0} (band : Band) (x z : Float) (g : S → Float → S) where
+  -- ---- a run of boxes, moved by a point, over any fold of tops
 
-  abbrev pub runPass : Point → Height → List ℕ → ℕ → ℕ → Height
-  runPass by best s left at = pass after best (topsOf band x z (map (λ (b : Aabb). moved b by) (run left s at)))
+  abbrev pub runFold : Point → S → List ℕ → ℕ → ℕ → S
+  runFold by t s left at = foldl g t (topsOf band x z (map (λ (b : Aabb). moved b by) (run left s at)))
 
-  -- what one box makes of the best so far
-  abbrev pub taken : Height → Aabb → Height
-  taken best b = cond (reaches band x z b) (better after best (b .max .y)) best
+  -- what one box makes of it
+  abbrev pub added : S → Aabb → S
+  added t b = cond (reaches band x z b) (g t (b .max .y)) t
 
-  -- by the code's test: nothing, or the lower top
-  module _ (best : Height) (b : Aabb) {r n : Bool} (p : r ≡ reaches band x z b) (q : n ≡ beyond after (b .max .y)) where
-    pub left-out : not (r && n) ≡ true → best ≡ taken best b
-    unfolding better
-    left-out e = rw (← p, ← q) (go r n e)
-      where
-        go : (r n : Bool) → not (r && n) ≡ true → best ≡ cond r (cond n (lower best (At (b .max .y))) best) best
-        go true true e = cc
-        go true false e = refl
-        go false n e = refl
-
-    pub let-in : not (r && n) ≡ false → lower best (At (b .max .y)) ≡ taken best b
-    unfolding better
-    let-in e = rw (← p, ← q) (go r n e)
-      where
-        go : (r n : Bool) → not (r && n) ≡ false → lower best (At (b .max .y)) ≡ cond r (cond n (lower best (At (b .max .y))) best) best
-        go true true e = refl
-        go true false e = cc
-        go false n e = cc
-
-  pass-cons : (best : Height) (b : Aabb) (bs : List Aabb) → pass after best (topsOf band x z (b ∷ bs)) ≡ pass after (taken best b) (topsOf band x z bs)
+  fold-cons : (t : S) (b : Aabb) (bs : List Aabb) → foldl g t (topsOf band x z (b ∷ bs)) ≡ foldl g (added t b) (topsOf band x z bs)
   unfolding topsOf
-  pass-cons best b bs = pick (reaches band x z b)
+  fold-cons t b bs = pick (reaches band x z b)
     where
-      pick : (t : Bool) → pass after best (cond t (b .max .y ∷ topsOf band x z bs) (topsOf band x z bs)) ≡ pass after (cond t (better after best (b .max .y)) best) (topsOf band x z bs)
+      pick : (r : Bool) → foldl g t (cond r (b .max .y ∷ topsOf band x z bs) (topsOf band x z bs)) ≡ foldl g (cond r (g t (b .max .y)) t) (topsOf band x z bs)
       pick true = refl
       pick false = refl
 
-  module _ (by : Point) (best : Height) (s : List ℕ) (at left : ℕ) where
+  module _ (by : Point) (t : S) (s : List ℕ) (at left : ℕ) where
     -- the table ends here
-    pub run-end : boxHere s at ≡ End → runPass by best s left at ≡ best
+    pub run-end : boxHere s at ≡ End → runFold by t s left at ≡ t
     unfolding topsOf
     run-end e = rw (boxes-end s at left e)
 
     -- one box more
-    pub run-on : (b : Aabb) → 0 < left → boxHere s at ≡ Here b → runPass by best s left at ≡ runPass by (taken best (moved b by)) s (left - 1) (at + 48)
-    run-on b h e = rw (boxes-more s at left b h e) (pass-cons best (moved b by) _)
+    pub run-on : (b : Aabb) → 0 < left → boxHere s at ≡ Here b → runFold by t s left at ≡ runFold by (added t (moved b by)) s (left - 1) (at + 48)
+    run-on b h e = rw (boxes-more s at left b h e) (fold-cons t (moved b by) _)
 
     -- no box is left
-    pub run-none : left ≤ 0 → runPass by best s left at ≡ best
+    pub run-none : left ≤ 0 → runFold by t s left at ≡ t
     unfolding topsOf
-    run-none h = let z : left ≡ 0 = omega arith in rw (z, boxes-none s at)
+    run-none h = let y : left ≡ 0 = omega arith in rw (y, boxes-none s at)
 
   -- ---- a cell, by the tests on it
 
-  module _ (boxes : List ℕ) (p : Point) (best : Height) where
-    pub unknown-none : pass after best (topsIn band x z (blockOf boxes Unknown p)) ≡ best
+  module _ (boxes : List ℕ) (p : Point) (t : S) where
+    pub unknown-none : foldl g t (topsIn band x z (blockOf boxes Unknown p)) ≡ t
     unfolding topsIn blockOf
     unknown-none = refl
 
     -- no support, or no box
-    pub no-support : (o s : Bool) (first many : ℕ) → (s && ltb 0 many) ≡ false → pass after best (topsIn band x z (blockOf boxes (Known o s first many) p)) ≡ best
+    pub no-support : (o s : Bool) (first many : ℕ) → (s && ltb 0 many) ≡ false → foldl g t (topsIn band x z (blockOf boxes (Known o s first many) p)) ≡ t
     unfolding topsIn blockOf topsOf
     no-support o false first many e = refl
-    no-support o true first many e = let z : many ≡ 0 = omega (arith, ltb-false 0 many e) in rw (z, boxes-none (drop (48 * first) boxes) 0)
+    no-support o true first many e = let y : many ≡ 0 = omega (arith, ltb-false 0 many e) in rw (y, boxes-none (drop (48 * first) boxes) 0)
 
-    pub supports : (o s : Bool) (first many : ℕ) → (s && ltb 0 many) ≡ true →
-        pass after best (topsIn band x z (blockOf boxes (Known o s first many) p)) ≡ runPass p best (drop (48 * first) boxes) many 0
+    pub supports : (o s : Bool) (first many : ℕ) → (s && ltb 0 many) ≡ true → foldl g t (topsIn band x z (blockOf boxes (Known o s first many) p)) ≡ runFold p t (drop (48 * first) boxes) many 0
     unfolding topsIn blockOf
     supports o true first many e = refl
     supports o false first many e = absurd (true≢false (sym e))
 
 -- ---- a top that is in the band is no NaN
 
-last-holds : (a b : Bool) → (a && b) ≡ true → b ≡ true
+pub last-holds : (a b : Bool) → (a && b) ≡ true → b ≡ true
 last-holds true b e = e
 last-holds false true e = refl
 last-holds false false e = e

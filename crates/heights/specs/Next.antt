@@ -1,4 +1,4 @@
--- The next smallest: the least of the tops that are not within E of the last kept, found in one pass, is the next of the heights in order.
+-- The heights one after the other: the next one is the first of the sorted tops that is not within E of the last kept.
 use Prim.Native.Nat.{ℕ, zero, suc}
 use mathlib.Core.Path.{_≡_, refl, sym, ap, _∙_, subst}
 use mathlib.Core.Bool.{Bool, true, false, not, cond}
@@ -10,24 +10,7 @@ use Rattle.regions.specs.Ranges.{gather}
 use Rattle.heights.specs.declared.Height.{Height}
 use Rattle.heights.specs.declared.Height.the-variants.{At, None}
 use Rattle.heights.specs.Heights.{insert, sorted, within, thinned, thinnedAfter, keptAfter, firstOf}
-
--- ---- a pass over the tops in any order
-
-unfoldable pub beyond : Height → Float → Bool
-beyond None t = true
-beyond (At kept) t = not (within kept t)
-
--- the lower of two, the first where they are equal
-unfoldable pub lower : Height → Height → Height
-lower None h = h
-lower (At u) None = At u
-lower (At u) (At t) = cond (lt t u) (At t) (At u)
-
-unfoldable pub better : Height → Height → Float → Height
-better after best t = cond (beyond after t) (lower best (At t)) best
-
-abbrev pub pass : Height → Height → List Float → Height
-pass after best ts = foldl (better after) best ts
+use Rattle.heights.specs.Lowest.{beyond}
 
 -- ---- numbers only
 
@@ -35,7 +18,7 @@ abbrev pub Numbers : List Float → Type 0
 Numbers [] = Unit {0}
 Numbers (t ∷ ts) = (isNan t ≡ false) × Numbers ts
 
-numbers-append : (ts us : List Float) → Numbers ts → Numbers us → Numbers (ts ++ us)
+pub numbers-append : (ts us : List Float) → Numbers ts → Numbers us → Numbers (ts ++ us)
 numbers-append [] us p q = q
 numbers-append (t ∷ ts) us p q = (p .0, numbers-append ts us (p .1) q)
 
@@ -45,11 +28,11 @@ numbers-gather f h k zero = tt
 numbers-gather f h k (suc n) = numbers-append (f k) (gather f (suc k) n) (h k) (numbers-gather f h (suc k) n)
 
 -- t is at most each
-abbrev Least : Float → List Float → Type 0
+abbrev pub Least : Float → List Float → Type 0
 Least t [] = Unit {0}
 Least t (u ∷ us) = (le t u ≡ true) × Least t us
 
-abbrev Upward : List Float → Type 0
+abbrev pub Upward : List Float → Type 0
 Upward [] = Unit {0}
 Upward (t ∷ ts) = (isNan t ≡ false) × Least t ts × Upward ts
 
@@ -75,14 +58,18 @@ upward-insert t (u ∷ us) n p = go (le t u) refl (upward-insert t us n (p .2))
     go true e r = (n, (e, least-trans t u us e (p .1)), p)
     go false e r = (p .0, least-insert t u us (lt-le u t (not-le t u n (p .0) e)) (p .1), r)
 
-upward-sorted : (ts : List Float) → Numbers ts → Upward (sorted ts)
+pub upward-sorted : (ts : List Float) → Numbers ts → Upward (sorted ts)
 unfolding sorted
 upward-sorted [] n = tt
 upward-sorted (t ∷ ts) n = upward-insert t (sorted ts) (n .0) (upward-sorted ts (n .1))
 
+pub upward-numbers : (ts : List Float) → Upward ts → Numbers ts
+upward-numbers [] h = tt
+upward-numbers (t ∷ ts) h = (h .0, upward-numbers ts (h .2))
+
 -- ---- the first of a sorted list that is not within E of the last kept
 
-abbrev firstBeyond : Height → List Float → Height
+abbrev pub firstBeyond : Height → List Float → Height
 firstBeyond after [] = None
 firstBeyond after (t ∷ ts) = cond (beyond after t) (At t) (firstBeyond after ts)
 
@@ -96,39 +83,18 @@ first-thinned kept (t ∷ ts) = pick (within kept t) (first-thinned kept ts)
     pick true r = r
     pick false r = refl
 
-first-kept : (after : Height) (ts : List Float) → firstOf (keptAfter after ts) ≡ firstBeyond after ts
+pub first-kept : (after : Height) (ts : List Float) → firstOf (keptAfter after ts) ≡ firstBeyond after ts
 unfolding keptAfter thinned beyond
 first-kept None [] = refl
 first-kept None (t ∷ ts) = refl
 first-kept (At kept) ts = first-thinned kept ts
 
--- ---- the pass finds it
-
 -- a height that is no NaN
-abbrev Number : Height → Type 0
+abbrev pub Number : Height → Type 0
 Number None = Unit {0}
 Number (At t) = isNan t ≡ false
 
--- of equal ones the first is kept, so it does not matter how three are bracketed
-lower-assoc : (a b c : Height) → Number a → Number b → Number c → lower (lower a b) c ≡ lower a (lower b c)
-unfolding lower
-lower-assoc None b c p q r = refl
-lower-assoc (At u) None c p q r = refl
-lower-assoc (At u) (At v) None p q r = pick (lt v u)
-  where
-    pick : (s : Bool) → lower (cond s (At v) (At u)) None ≡ cond s (At v) (At u)
-    pick true = refl
-    pick false = refl
-lower-assoc (At u) (At v) (At w) p q r = go (lt v u) refl (lt w v) refl
-  where
-    go : (s : Bool) → lt v u ≡ s → (t : Bool) → lt w v ≡ t →
-        lower (cond s (At v) (At u)) (At w) ≡ lower (At u) (cond t (At w) (At v))
-    go true e true f = rw (f, lt-trans w v u f e)
-    go true e false f = rw (f, e)
-    go false e true f = refl
-    go false e false f = rw (e, le-not-lt u w (le-trans u v w (not-lt v u q p e) (not-lt w v r q f)))
-
-number-first : (after : Height) (ts : List Float) → Upward ts → Number (firstBeyond after ts)
+pub number-first : (after : Height) (ts : List Float) → Upward ts → Number (firstBeyond after ts)
 number-first after [] p = tt
 number-first after (t ∷ ts) p = pick (beyond after t) (number-first after ts (p .2))
   where
@@ -136,73 +102,9 @@ number-first after (t ∷ ts) p = pick (beyond after t) (number-first after ts (
     pick true r = p .0
     pick false r = r
 
--- what is at most each is at most the first of them
-lower-least : (t : Float) (after : Height) (us : List Float) → Least t us → lower (At t) (firstBeyond after us) ≡ At t
-unfolding lower
-lower-least t after [] l = refl
-lower-least t after (u ∷ us) l = pick (beyond after u) (lower-least t after us (l .1))
-  where
-    pick : (b : Bool) → lower (At t) (firstBeyond after us) ≡ At t → lower (At t) (cond b (At u) (firstBeyond after us)) ≡ At t
-    pick true r = rw (le-not-lt t u (l .0))
-    pick false r = r
-
--- one more in its place
-first-insert : (after : Height) (t : Float) (us : List Float) → isNan t ≡ false → Upward us →
-    firstBeyond after (insert t us) ≡ cond (beyond after t) (lower (At t) (firstBeyond after us)) (firstBeyond after us)
-unfolding insert lower
-first-insert after t [] n p = refl
-first-insert after t (u ∷ us) n p = go (le t u) refl (beyond after t) refl (beyond after u) refl (first-insert after t us n (p .2))
-  where
-    go : (a : Bool) → le t u ≡ a → (b : Bool) → beyond after t ≡ b → (c : Bool) → beyond after u ≡ c →
-        firstBeyond after (insert t us) ≡ cond (beyond after t) (lower (At t) (firstBeyond after us)) (firstBeyond after us) →
-        firstBeyond after (cond a (t ∷ (u ∷ us)) (u ∷ insert t us)) ≡ cond b (lower (At t) (cond c (At u) (firstBeyond after us))) (cond c (At u) (firstBeyond after us))
-    go true e true f true g r = rw (f, le-not-lt t u e)
-    go true e true f false g r = rw f (sym (lower-least t after us (least-trans t u us e (p .1))))
-    go true e false f true g r = rw (f, g)
-    go true e false f false g r = rw (f, g)
-    go false e true f true g r = rw (g, not-le t u n (p .0) e)
-    go false e true f false g r = rw (g, r, f)
-    go false e false f true g r = rw g
-    go false e false f false g r = rw (g, r, f)
-
-none-lower : (h : Height) → lower h None ≡ h
-unfolding lower
-none-lower None = refl
-none-lower (At u) = refl
-
-number-lower : (best : Height) (t : Float) → Number best → isNan t ≡ false → Number (lower best (At t))
-unfolding lower
-number-lower None t p n = n
-number-lower (At u) t p n = pick (lt t u)
-  where
-    pick : (b : Bool) → Number (cond b (At t) (At u))
-    pick true = n
-    pick false = p
-
-pass-first : (after best : Height) (ts : List Float) → Number best → Numbers ts → pass after best ts ≡ lower best (firstBeyond after (sorted ts))
-unfolding sorted better
-pass-first after best [] p n = sym (none-lower best)
-pass-first after best (t ∷ ts) p n =
-    go (beyond after t) (first-insert after t (sorted ts) (n .0) (upward-sorted ts (n .1)))
-    (pass-first after (lower best (At t)) ts (number-lower best t p (n .0)) (n .1)) (pass-first after best ts p (n .1))
-  where
-    first : Height
-    first = firstBeyond after (sorted ts)
-
-    go : (b : Bool) → firstBeyond after (insert t (sorted ts)) ≡ cond b (lower (At t) first) first →
-        pass after (lower best (At t)) ts ≡ lower (lower best (At t)) first → pass after best ts ≡ lower best first →
-        pass after (cond b (lower best (At t)) best) ts ≡ lower best (firstBeyond after (insert t (sorted ts)))
-    go true e q r = q ∙ lower-assoc best (At t) first p (n .0) (number-first after (sorted ts) (upward-sorted ts (n .1))) ∙ ap (lower best) (sym e)
-    go false e q r = r ∙ ap (lower best) (sym e)
-
--- the least that is not within E of the last kept is the next of those that are kept, in order
-pub next-found : (after : Height) (ts : List Float) → Numbers ts → pass after None ts ≡ firstOf (keptAfter after (sorted ts))
-unfolding lower
-next-found after ts n = pass-first after None ts tt n ∙ sym (first-kept after (sorted ts))
-
 -- ---- for a caller: the heights one after the other
 
-within-self : (h t : Float) → le t h ≡ true → within h t ≡ true
+pub within-self : (h t : Float) → le t h ≡ true → within h t ≡ true
 unfolding within
 within-self h t e = rw e
 

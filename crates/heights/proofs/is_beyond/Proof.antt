@@ -1,6 +1,6 @@
 -- `heights::is_beyond` meets its contract. Assumes nothing.
 use Rattle.heights.specs.Heights.{within}
-use Rattle.heights.specs.Next.{beyond}
+use Rattle.heights.specs.Lowest.{beyond}
 use borrow.Author.Needs.{needs}
 use Rattle.heights.proofs.is_beyond.Statement.{statement}
 use Rattle.heights.proofs.is_beyond.Tie as tie
