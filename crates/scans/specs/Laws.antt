@@ -1,9 +1,10 @@
 -- The scans, turn by turn.
-use mathlib.Core.Path.{_≡_, refl, sym, ap, _∙_}
+use mathlib.Core.Path.{_≡_, refl, sym, ap, subst, _∙_}
+use mathlib.Core.Logic.{⊎-elim}
 use mathlib.Core.Bool.{Bool, true, false, _||_}
 use mathlib.Core.Option.{Option, none, some}
 use mathlib.Core.List.{List}
-use Prim.Native.Nat.{ℕ, zero, suc, _+_, _-_, _*_, _<_}
+use Prim.Native.Nat.{ℕ, zero, suc, _+_, _-_, _*_, _≤_, _<_}
 use native.Mathlib.Omega.{arith}
 use native.Mathlib.Nat.{zero-add, add-zero}
 use native.Mathlib.Numerals.{add-one}
@@ -13,7 +14,7 @@ use Rattle.exploration.specs.Choose.{scan, keep}
 use Rattle.exploration.specs.Laws.Loops.{scan-snoc}
 use Rattle.fields.specs.Little.{field}
 use Rattle.fields.specs.Records.{firsts}
-use Rattle.fields.specs.RecordLaws.{length-firsts}
+use Rattle.fields.specs.RecordLaws.{length-firsts, last-or}
 use Rattle.rooms.specs.declared.Feet.{Feet}
 use Rattle.rooms.specs.declared.Entry.{Entry}
 use Rattle.rooms.specs.Waypoints.{sameWord, samePoint}
@@ -41,6 +42,18 @@ unfolding nodeAt samePoint
 apart a q k h = rw (add-zero (56 * k), h)
 
 -- ---- the next of the frontier
+
+-- none of the nodes from one on and before another waits
+pub record Idle (f : List ℕ) (i r : ℕ) : Type 0 where
+  pub order : i ≤ r
+  pub idle : (j : ℕ) → i ≤ j → j < r → waits (entryAt f j) ≡ false
+
+pub idle-none : (f : List ℕ) (i : ℕ) → Idle f i i
+idle-none f i = record { order = omega arith; idle = λ j p q. absurd (omega arith) }
+
+pub idle-more : {f : List ℕ} {i r : ℕ} → Idle f i r → eqb (field 8 f (24 * r + 16)) 1 ≡ false → Idle f i (r + 1)
+unfolding entryAt
+idle-more {f} {i} {r} h e = record { order = omega (arith, h .order); idle = λ j p q. ⊎-elim (λ l. h .idle j p l) (λ l. subst (λ (k : ℕ). eqb (field 8 f (24 * k + 16)) 1 ≡ false) (sym l) e) (last-or j r (omega arith)) }
 
 module _ (n : ℕ) (f : List ℕ) where
   -- what the first i entries leave
@@ -78,6 +91,13 @@ module _ (n : ℕ) (f : List ℕ) where
     stays t b (something u l) =
         let s : sooner x e ≡ false = rw (ne-eqb at n (λ y. omega arith)) at b in
         something {at = at} {e = e} (one-more i q ∙ rw (t, u, keep, s)) l
+
+  -- over nodes that do not wait
+  pub passes-on : (d : ℕ) {i at : ℕ} {e : Entry} → Idle f i (i + d) → Holds i at e → Holds (i + d) at e
+  passes-on zero h o = rw add-zero o
+  passes-on (suc d) {i} {at} {e} h o =
+      let l : i + 1 + d ≡ i + suc d = omega arith in
+      subst (λ (m : ℕ). Holds m at e) l (passes-on d {i = i + 1} (record { order = omega arith; idle = λ j p q. h .idle j (omega arith) (omega arith) }) (passes refl (h .idle i (omega arith) (omega arith)) o))
 
   pub answers : {at : ℕ} {e : Entry} → Holds n at e → at ≡ nextOf n f
   unfolding nextOf

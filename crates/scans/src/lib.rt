@@ -7,6 +7,7 @@ use rooms::get_entry;
 use rooms::get_feet;
 ghost use mathlib.Core.Path.{_≡_};
 ghost use Prim.Native.Nat.{_-_, _≤_};
+ghost use Rattle.scans.specs.Laws.{Idle};
 ghost use Rattle.rooms.specs.Scans.{firstOf, isAt, sooner, nextOf};
 
 // More nodes than a room can tell apart: a parent's number is a u32.
@@ -51,6 +52,21 @@ fn before(a: Entry, b: Entry) -> bool
     (mine < other) | ((mine == other) & (a.order < b.order))
 }
 
+// Passes over nodes from `from` on that do not wait: most nodes are closed. In a room that has not n entries it passes over none.
+fn next_waiting(front: &[u8], from: usize, n: usize) -> usize
+    requires { ⌜ from ≤ n ⌝ }
+    ensures { λ r. ⌜ Idle (now (front .entry)) from r × (r ≤ n) ⌝ }
+{
+    let border = n % NODES;
+    let mut i = from;
+    if 24 * border <= front.len() {
+        while i < border && fields::u64_at(front, 24 * i + 16) != 1 {
+            i += 1;
+        }
+    }
+    i
+}
+
 // The next of n nodes to be closed, or n where none waits.
 pub fn pick(front: &[u8], n: usize) -> usize
     ensures { λ r. ⌜ r ≡ nextOf n (now (front .entry)) ⌝ }
@@ -62,14 +78,14 @@ pub fn pick(front: &[u8], n: usize) -> usize
         waiting: 0,
     };
     let mut at = n;
-    let mut i = 0;
+    let mut i = next_waiting(front, 0, n);
     while i < n {
         let e = get_entry(front, i);
         if e.waiting == 1 && ((at == n) | before(e, least)) {
             at = i;
             least = e;
         }
-        i += 1;
+        i = next_waiting(front, i + 1, n);
     }
     at
 }
