@@ -1,6 +1,6 @@
 -- What the steps of an expansion make of the rooms: the theory's visits, of the state that the rooms are, in order. Definitions only.
 use mathlib.Core.Path.{_≡_}
-use mathlib.Core.Bool.{_||_}
+use mathlib.Core.Bool.{true, _||_}
 use mathlib.Core.List.{List, map}
 use Prim.Native.Nat.{ℕ, _+_}
 use lib.ListN.{length}
@@ -11,6 +11,7 @@ use Rattle.world.specs.declared.Body.{Body}
 use Rattle.world.specs.declared.Request.{Request}
 use Rattle.world.specs.Space.{Space}
 use Rattle.moves.specs.declared.answer.Waypoint.{Waypoint}
+use Rattle.sides.specs.Sides.{sideAt}
 use Rattle.steps.specs.Columns.{level, columnIf}
 use Rattle.steps.specs.Expansion.{sidesBefore}
 use Rattle.words.specs.Words.{stepOf}
@@ -34,10 +35,10 @@ pub record Stepped (aim : Aim) (at : Place) (ws : List Waypoint) (c r : Counts) 
   pub still : Still (c .retained) a b
   pub near : Near (aim .budget) (length ws) c r
 
--- and noted, whether one of them does not climb
-pub record Went (aim : Aim) (at : Place) (ws : List Waypoint) (c r : Column) (a f b g : List ℕ) : Type 0 where
+-- and noted, at a side, whether one of them does not climb
+pub record Went (aim : Aim) (at : Place) (n : ℕ) (ws : List Waypoint) (c r : Column) (a f b g : List ℕ) : Type 0 where
   pub steps : Stepped aim at ws (c .counts) (r .counts) a f b g
-  pub noted : r .level ≡ (c .level || level (at .point) ws)
+  pub noted : sideAt n ≡ true → r .level ≡ (c .level || level (at .point) ws)
 
 -- column n, with the side answers
 pub record Looked (aim : Aim) (at : Place) (sp : Space) (r : Request) (body : Body) (n : ℕ) (c s : Around) (a f b g : List ℕ) : Type 0 where

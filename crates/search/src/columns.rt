@@ -43,8 +43,11 @@ fn column(
         };
         let to = Point { x: centre.x, y, z: centre.z };
         let j = index::find(index, nodes, known, gone.counts.retained, words::feet_of(to));
-        let edge = edges::edge(task.w, cells, perms, shapes, boxes, task.r, task.body, at.point, to);
-        gone = strides::step_to(nodes, front, task.aim, at, edge, j, gone);
+        // A step to a closed point changes nothing: its edge is asked for only at a side, which still answers (01).
+        if sides::is_side(n) | !visits::is_shut(nodes, gone.counts.retained, j) {
+            let edge = edges::edge(task.w, cells, perms, shapes, boxes, task.r, task.body, at.point, to);
+            gone = strides::step_to(nodes, front, task.aim, at, edge, j, gone);
+        }
         after = Height::At(y);
     }
 }

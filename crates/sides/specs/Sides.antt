@@ -25,9 +25,13 @@ pairAt d = getD sidePairs d (0, 0)
 unfoldable pub lookedBy : Sides → ℕ → Bool
 lookedBy s n = cond (ltb n 5) true (getD (s .level) (pairAt (n - 5) .0) false && getD (s .level) (pairAt (n - 5) .1) false)
 
--- the answers before any side has answered, and with the answer of column n: from column 1 to column 4 it is a side's
+-- whether column n is a side: the columns 1 to 4 are
+abbrev pub sideAt : ℕ → Bool
+sideAt n = ltb 0 n && ltb n 5
+
+-- the answers before any side has answered, and with the answer of column n, where that is a side
 unfoldable pub noSides : Sides
 noSides = record { level = false ∷ false ∷ false ∷ false ∷ [] }
 
 unfoldable pub answeredBy : Sides → ℕ → Bool → Sides
-answeredBy s n b = cond (ltb 0 n && ltb n 5) (record { level = set (s .level) (n - 1) b }) s
+answeredBy s n b = cond (sideAt n) (record { level = set (s .level) (n - 1) b }) s

@@ -1,6 +1,6 @@
 // The four sides of a point, and the diagonals between them (01, The graph, "Graph step": "The four side answers of one expansion").
 ghost use mathlib.Core.Path.{_≡_};
-ghost use Rattle.sides.specs.Sides.{levelTo, pairAt, noSides, lookedBy, answeredBy};
+ghost use Rattle.sides.specs.Sides.{levelTo, pairAt, sideAt, noSides, lookedBy, answeredBy};
 use world::Point;
 
 // The two sides that a diagonal needs, numbered from 0 at (1, 0).
@@ -23,6 +23,13 @@ pub fn is_level(from: Point, to: Point) -> bool
     ensures { λ r. ⌜ r ≡ levelTo from to ⌝ }
 {
     to.y <= from.y + floats::E
+}
+
+// Whether column n is one of the four sides.
+pub fn is_side(n: usize) -> bool
+    ensures { λ r. ⌜ r ≡ sideAt n ⌝ }
+{
+    (0 < n) & (n < 5)
 }
 
 // The sides of diagonal d; past the last twice the first side.
@@ -56,15 +63,13 @@ impl Sides {
         self.level[a] & self.level[b]
     }
 
-    // The answers once column n has been looked at: those of the columns 1 to 4 are the sides'.
+    // The answers once column n has been looked at: only a side's is kept.
     pub fn answered(mut self, n: usize, level: bool) -> Self
         ensures { λ r. ⌜ r ≡ answeredBy self n level ⌝ }
     {
-        if 0 < n {
-            if n < 5 {
-                let k = n - 1;
-                self.level[k] = level;
-            }
+        if is_side(n) {
+            let k = n - 1;
+            self.level[k] = level;
         }
         self
     }

@@ -1,5 +1,5 @@
 // What one step of the search does to its rooms (01, "Search"): the definitions of a visit, a closing and the start, and the code of the last two. A visit
-// itself is the crate `reach`.
+// itself is the crate `reach`; `is_shut` tells beforehand that one would change nothing.
 //
 // `close` and `begin` answer for every input. Where the rooms are too small for the budget, or the counts are no counts of such a search, `close` leaves all
 // as it is.
@@ -9,7 +9,7 @@ use rooms::Feet;
 use rooms::Label;
 use rooms::NodeRecord;
 ghost use mathlib.Core.Path.{_≡_};
-ghost use Rattle.visits.specs.Visits.{ready, ClosedIf, Started};
+ghost use Rattle.visits.specs.Visits.{ready, shutAt, ClosedIf, Started};
 
 // What is searched: how many nodes may be retained, and the goal.
 pub struct Aim {
@@ -40,6 +40,13 @@ pub fn is_ready(nodes: usize, front: usize, budget: usize, k: usize, c: Counts) 
     let there = (c.retained <= budget) & (k < c.retained);
     let grows = (c.pushed < FAR) & (c.dropped < FAR) & (c.closed < FAR);
     roomy & there & grows
+}
+
+// Whether a lookup found a closed node: j is one of the n nodes, and closed.
+pub fn is_shut(nodes: &[u8], n: usize, j: usize) -> bool
+    ensures { λ r. ⌜ r ≡ shutAt (now (nodes .entry)) n j ⌝ }
+{
+    (j < n) & (rooms::get_node(nodes, j).closed != 0)
 }
 
 // Node k closed: it waits no more.

@@ -1,12 +1,13 @@
 -- How steps of an expansion compose, and the paths of the code through a column and through the columns.
 use mathlib.Core.Path.{_≡_, refl, sym, ap, subst, _∙_}
-use mathlib.Core.Bool.{Bool, false, _||_, or-false, or-assoc}
+use mathlib.Core.Bool.{Bool, true, false, _||_, or-false, or-assoc}
 use mathlib.Core.List.{List, [], _∷_, _++_, map, append-nil, append-assoc}
 use Prim.Native.Nat.{ℕ, _+_, _≤_, _<_}
 use native.Mathlib.Omega.{arith}
 use lib.ListN.{length, length-append}
 use Rattle.exploration.specs.Explore.{State, visits}
 use Rattle.exploration.specs.Laws.Loops.{visits-append}
+use Rattle.exploration.specs.Laws.Lists.{true-false}
 use Rattle.world.specs.declared.Point.{Point}
 use Rattle.world.specs.declared.Body.{Body}
 use Rattle.world.specs.declared.Request.{Request}
@@ -15,7 +16,8 @@ use Rattle.moves.specs.declared.answer.Waypoint.{Waypoint}
 use Rattle.moves.specs.declared.answer.EdgeAnswer.{EdgeAnswer}
 use Rattle.moves.specs.declared.answer.EdgeAnswer.the-variants.{To, Nowhere}
 use Rattle.sides.specs.declared.Sides.{Sides}
-use Rattle.sides.specs.Sides.{lookedBy, answeredBy, levelTo}
+use Rattle.sides.specs.Sides.{lookedBy, sideAt, answeredBy, levelTo}
+use Rattle.sides.specs.Laws.{same-answer}
 use Rattle.steps.specs.Columns.{ahead, level, columnIf}
 use Rattle.steps.specs.Expansion.{sidesBefore, sides-on, skipped, sides-skipped}
 use Rattle.words.specs.Words.{feetOf, labelOf, stepOf}
@@ -26,8 +28,8 @@ use Rattle.rooms.specs.Scans.{firstAt}
 use Rattle.rooms.specs.Rooms.{Note, stateOf}
 use Rattle.visits.specs.declared.Aim.{Aim}
 use Rattle.visits.specs.Best.{best}
-use Rattle.visits.specs.Visits.{Ready, Near, Visited}
-use Rattle.visits.specs.Laws.Visits.{kept-none, kept-trans, still-none, still-trans, near-none, near-trans, is-ready, visit-sought}
+use Rattle.visits.specs.Visits.{Ready, Near, shutAt, Visited}
+use Rattle.visits.specs.Laws.Visits.{kept-none, kept-trans, still-none, still-trans, near-none, near-trans, is-ready, visit-sought, visited-shut}
 use Rattle.strides.specs.declared.Place.{Place}
 use Rattle.strides.specs.declared.Column.{Column}
 use Rattle.search.specs.declared.Around.{Around}
@@ -72,27 +74,35 @@ module _ {aim : Aim} {at : Place} where
     still = still-trans (u .near .more) (u .still) (v .still);
     near = rw length-append (near-trans (u .near) (v .near)) }
 
-  pub went-none : {c : Column} (a f : List ℕ) → c .counts .retained ≤ aim .budget → Went aim at [] c c a f a f
+  pub went-none : {n : ℕ} {c : Column} (a f : List ℕ) → c .counts .retained ≤ aim .budget → Went aim at n [] c c a f a f
   unfolding level
-  went-none {c} a f h = record { steps = stepped-none a f h; noted = sym (or-false (c .level)) }
+  went-none {c = c} a f h = record { steps = stepped-none a f h; noted = λ side. sym (or-false (c .level)) }
 
-  pub went-more : {c r t : Column} {a f b g x y : List ℕ} {ws vs : List Waypoint} → Went aim at ws c r a f b g → Went aim at vs r t b g x y → Went aim at (ws ++ vs) c t a f x y
-  went-more {c} {ws = ws} {vs = vs} u v = record {
+  pub went-more : {n : ℕ} {c r t : Column} {a f b g x y : List ℕ} {ws vs : List Waypoint} → Went aim at n ws c r a f b g → Went aim at n vs r t b g x y → Went aim at n (ws ++ vs) c t a f x y
+  went-more {c = c} {ws = ws} {vs = vs} u v = record {
     steps = stepped-more (u .steps) (v .steps);
-    noted = v .noted ∙ ap (λ (b : Bool). b || level (at .point) vs) (u .noted) ∙ or-assoc (c .level) (level (at .point) ws) (level (at .point) vs) ∙ ap (λ (b : Bool). c .level || b) (sym (level-append (at .point) ws vs)) }
+    noted = λ side. v .noted side ∙ ap (λ (b : Bool). b || level (at .point) vs) (u .noted side) ∙ or-assoc (c .level) (level (at .point) ws) (level (at .point) vs) ∙ ap (λ (b : Bool). c .level || b) (sym (level-append (at .point) ws vs)) }
 
   -- ---- one height
 
   -- by the edge to it, where the rooms are ready and the lookup found the first node there
-  pub went-by : {c r : Column} {a f b g : List ℕ} (e : EdgeAnswer) (to : Point) (j : ℕ) → ((w : Waypoint) → e ≡ To w → w .feet ≡ to) → j ≡ firstAt a (c .counts .retained) (feetOf to)
-      → Strode aim at e j c r a f b g → Ready a f (aim .budget) 1 (c .counts) → at .number < c .counts .retained → Went aim at (ahead e []) c r a f b g
+  pub went-by : {n : ℕ} {c r : Column} {a f b g : List ℕ} (e : EdgeAnswer) (to : Point) (j : ℕ) → ((w : Waypoint) → e ≡ To w → w .feet ≡ to) → j ≡ firstAt a (c .counts .retained) (feetOf to)
+      → Strode aim at e j c r a f b g → Ready a f (aim .budget) 1 (c .counts) → at .number < c .counts .retained → Went aim at n (ahead e []) c r a f b g
   unfolding level
-  went-by {c} {r} {a} {f} Nowhere to j i o s h n = record {
+  went-by {a = a} {f = f} Nowhere to j i o s h l = record {
     steps = rw (s .visited .nodes) (rw (s .visited .front) (rw (s .visited .counts) (stepped-none a f (h .few))));
-    noted = s .noted }
-  went-by {c} {r} {a} {f} (To w) to j i o s h n = record {
-    steps = stepped-one w j (o ∙ ap (λ (p : Point). firstAt a (c .counts .retained) (feetOf p)) (sym (i w refl))) (h .few) (s .visited .0 (is-ready a f (aim .budget) (at .number) (c .counts) h n));
-    noted = s .noted ∙ ap (λ (x : Bool). c .level || x) (sym (or-false (levelTo (at .point) (w .feet)))) }
+    noted = λ side. s .noted }
+  went-by {c = c} {a = a} {f = f} (To w) to j i o s h l = record {
+    steps = stepped-one w j (o ∙ ap (λ (p : Point). firstAt a (c .counts .retained) (feetOf p)) (sym (i w refl))) (h .few) (s .visited .0 (is-ready a f (aim .budget) (at .number) (c .counts) h l));
+    noted = λ side. s .noted ∙ ap (λ (x : Bool). c .level || x) (sym (or-false (levelTo (at .point) (w .feet)))) }
+
+  -- or, where the node there is closed and the column is no side, without asking for the edge: whatever it is, nothing changes
+  pub went-shut : {n : ℕ} {c : Column} {a f : List ℕ} (e : EdgeAnswer) (to : Point) (j : ℕ) → ((w : Waypoint) → e ≡ To w → w .feet ≡ to) → j ≡ firstAt a (c .counts .retained) (feetOf to)
+      → sideAt n ≡ false → shutAt a (c .counts .retained) j ≡ true → c .counts .retained ≤ aim .budget → Went aim at n (ahead e []) c c a f a f
+  went-shut {a = a} {f = f} Nowhere to j i o s h few = record { steps = stepped-none a f few; noted = λ side. absurd (true-false side s) }
+  went-shut {c = c} {a = a} (To w) to j i o s h few = record {
+    steps = stepped-one w j (o ∙ ap (λ (p : Point). firstAt a (c .counts .retained) (feetOf p)) (sym (i w refl))) few (visited-shut few h);
+    noted = λ side. absurd (true-false side s) }
 
 -- ---- a loop over steps: those gone, and those left
 
@@ -128,7 +138,7 @@ module _ {aim : Aim} {at : Place} {sp : Space} {r : Request} {body : Body} {c : 
     answered = before ∙ sym (sides-skipped sp r body (at .point) n i) }
 
   pub looked-on : {b g : List ℕ} (gone : Column) (s : Sides) → s ≡ answeredBy (c .sides) n (gone .level)
-      → Went aim at (columnIf sp r body (at .point) n) (record { counts = c .counts; level = false }) gone a f b g → Looked aim at sp r body n c (record { counts = gone .counts; sides = s }) a f b g
+      → Went aim at n (columnIf sp r body (at .point) n) (record { counts = c .counts; level = false }) gone a f b g → Looked aim at sp r body n c (record { counts = gone .counts; sides = s }) a f b g
   looked-on gone s i w = record {
     steps = w .steps;
-    answered = i ∙ ap (λ (x : Sides). answeredBy x n (gone .level)) before ∙ ap (answeredBy (sidesBefore sp r body (at .point) n) n) (w .noted) ∙ sym (sides-on sp r body (at .point) n) }
+    answered = i ∙ ap (λ (x : Sides). answeredBy x n (gone .level)) before ∙ same-answer (sidesBefore sp r body (at .point) n) n (w .noted) ∙ sym (sides-on sp r body (at .point) n) }

@@ -240,6 +240,10 @@ module _ (a : List ℕ) (n j : ℕ) where
   unfolding shutAt
   shut-known l = let z = lt-ltb j n l in rw z
 
+  shut-there : shutAt a n j ≡ true → (j < n) × (nodeAt a j .closed ≢ 0)
+  unfolding shutAt
+  shut-there e = (ltb-true j n (and-first (ltb j n) (isShut (nodeAt a j)) e), λ z. true-false (and-second (ltb j n) (isShut (nodeAt a j)) e) (sym (is-open (nodeAt a j) z)))
+
   pub shut-none : n ≤ j → shutAt a n j ≡ false
   unfolding shutAt
   shut-none l = let z = le-ltb j n l in rw z
@@ -250,6 +254,13 @@ module _ {aim : Aim} {k : ℕ} {from : NodeRecord} {c : Counts} {j : ℕ} {to : 
 
   pub visited-not : ready (length a) (length f) (aim .budget) k c ≡ false → VisitedIf aim k from c j to label (Counted c) a f a f
   visited-not e = record { done = λ h. absurd (true-false h e); left = λ h. record { counts = refl; nodes = refl; front = refl }; closed = rw e refl }
+
+  -- a step to a closed node changes nothing
+  pub visited-shut : c .retained ≤ aim .budget → shutAt a (c .retained) j ≡ true → Visited aim k from c j to label c a f a f
+  visited-shut few e =
+      let shut = shut-there a (c .retained) j e in
+      let cost = costBy (from .cost) (from .feet) to in
+      visited-known aim k c a f few from to label j cost refl (shut .0) (seen-shut aim k c a f few j cost to label (shut .1))
 
 -- ---- a closing
 

@@ -1,15 +1,23 @@
 -- `search::columns::column` meets its contract. The loop's invariant: the steps of the heights gone have been visited, and the column's steps are those and the
 -- ones behind the last height. The measure is how many heights are left. Assumes nothing.
 use mathlib.Core.Path.{_≡_, refl, sym, ap, _∙_}
-use mathlib.Core.List.{[]}
+use mathlib.Core.Bool.{false, not}
+use mathlib.Core.List.{List, []}
+use Prim.Native.Nat.{ℕ, _<_}
+use Rattle.exploration.specs.Laws.Lists.{or-false}
+use Rattle.strides.specs.declared.Column.{Column}
 use native.Mathlib.Omega.{arith}
 use native.Mathlib.Nat.{le-trans, lt-of-lt-of-le}
 use borrow.Author.Needs.{needs}
 use borrow.Author.Tests.{not-true, not-false}
 use denote.Ref.{now}
 use lib.ListN.{length}
+use Rattle.world.specs.declared.Point.{Point}
 use Rattle.world.specs.Space.{Space, space}
 use Rattle.heights.specs.declared.Height.the-variants.{At}
+use Rattle.moves.specs.declared.answer.Waypoint.{Waypoint}
+use Rattle.moves.specs.declared.answer.EdgeAnswer.{EdgeAnswer}
+use Rattle.moves.specs.declared.answer.EdgeAnswer.the-variants.{To}
 use Rattle.moves.specs.Unique.{one-edge}
 use Rattle.edges.specs.Edges.{edge}
 use Rattle.edges.specs.Answers.{edge-feet}
@@ -21,14 +29,14 @@ use Rattle.sides.specs.declared.Sides.{Sides}
 use Rattle.sides.specs.Sides.{lookedBy}
 use Rattle.steps.specs.Expansion.{stepsAfter, column-begins, heightsLeft, none-left, next-ahead, fewer}
 use Rattle.search.specs.Steps.{Went}
-use Rattle.search.specs.Laws.Steps.{ready-after, went-none, went-more, went-by, Along, along-none, along-on, along-end, along-short, ahead-split, looked-not, looked-on}
+use Rattle.search.specs.Laws.Steps.{ready-after, went-none, went-more, went-by, went-shut, Along, along-none, along-on, along-end, along-short, ahead-split, looked-not, looked-on}
 use Rattle.search.proofs.columns.column.Statement.{statement}
 use Rattle.search.proofs.columns.column.Tie as tie
 
 abbrev Inv-loop : tie.InvT-loop
 Inv-loop task cells perms shapes boxes nodes₀ front₀ index known at n c centre band gone₀ after₀ nodes front gone after =
     (length nodes ≡ length nodes₀) × (length front ≡ length front₀)
-    × Along (λ ws. Went (task .aim) at ws gone₀ gone nodes₀ front₀ nodes front) (columnIf (space (task .w) cells perms shapes boxes) (task .r) (task .body) (at .point) n) (stepsAfter (space (task .w) cells perms shapes boxes) (task .r) (task .body) (at .point) n after)
+    × Along (λ ws. Went (task .aim) at n ws gone₀ gone nodes₀ front₀ nodes front) (columnIf (space (task .w) cells perms shapes boxes) (task .r) (task .body) (at .point) n) (stepsAfter (space (task .w) cells perms shapes boxes) (task .r) (task .body) (at .point) n after)
 
 abbrev μ-loop : tie.MeasureT-loop
 μ-loop task cells perms shapes boxes nodes₀ front₀ index known at n c centre band gone₀ after₀ nodes front gone after =
@@ -85,39 +93,80 @@ feet-of-requires c κs = tt
 find-requires : tie.Need-find-requires Inv-loop μ-loop
 find-requires c κs = tt
 
+is-side-requires : tie.Need-is-side-requires Inv-loop μ-loop
+is-side-requires c κs = tt
+
+is-shut-requires : tie.Need-is-shut-requires Inv-loop μ-loop
+is-shut-requires c κs = tt
+
 edge-requires : tie.Need-edge-requires Inv-loop μ-loop
 edge-requires c κs = tt
 
 step-to-requires : tie.Need-step-to-requires Inv-loop μ-loop
 step-to-requires c κs = tt
 
--- the lookup found the first node at the height: the nodes that are in the index are where they were
-found : (s : tie.After-find Inv-loop μ-loop) → let i = s .before .before .before .before .before .before .before .loop in s .find .result ≡ firstAt (i .nodes) (i .gone .counts .retained) (feetOf (target (s .before .before .before .before .before .before .before .before .before .before .column-centre .result) (s .before .before .before .before .y .given .0 .0)))
+-- of a height that was looked up: where the column begins, the point, and the edge to it
+abbrev start : tie.After-find Inv-loop μ-loop → tie.Start Inv-loop μ-loop
+start s = s .before .before .before .before .before .before .before .before .before .before .before .before .before .before .before .before .before .before .before .before
+
+abbrev to : tie.After-find Inv-loop μ-loop → Point
+to s = target (s .before .before .before .before .before .before .before .before .before .before .column-centre .result) (s .before .before .before .before .y .given .0 .0)
+
+abbrev step : tie.After-find Inv-loop μ-loop → EdgeAnswer
+step s = let q = start s in edge (sp q) (q .args .task .r) (q .args .task .body) (q .args .at .point) (to s)
+
+leads : (s : tie.After-find Inv-loop μ-loop) (w : Waypoint) → step s ≡ To w → w .feet ≡ to s
+leads s w = let q = start s in edge-feet (sp q) (q .args .task .r) (q .args .task .body) (q .args .at .point) (to s) w
+
+-- the lookup found the first node there: the nodes that are in the index are where they were
+found : (s : tie.After-find Inv-loop μ-loop) → let i = s .before .before .before .before .before .before .before .loop in s .find .result ≡ firstAt (i .nodes) (i .gone .counts .retained) (feetOf (to s))
 found s =
     let i = s .before .before .before .before .before .before .before .loop in
     let u = i .inv .2 .went .steps in
-    let m = s .before .before .before .before .before .before .before .before .before .before .before .before .before .before .before .before .before .before .before .before .pre .1 .0 in
+    let m = start s .pre .1 .0 in
     let x = indexed-same (λ k l. u .still .feet k (lt-of-lt-of-le l (m .1))) (m .0) in
     s .find .ensures ∙ looked-up x (s .before .feet-of .result) (i .gone .counts .retained) (le-trans (m .1) (u .near .more)) ∙ ap (firstAt (i .nodes) (i .gone .counts .retained)) (s .before .feet-of .ensures)
 
+-- whichever way the step goes, one height less is left
+less : (s : tie.After-find Inv-loop μ-loop) → let q = start s in heightsLeft (sp q) (q .args .task .r) (q .args .task .body) (q .args .at .point) (q .args .n) (At (to s .y)) < heightsLeft (sp q) (q .args .task .r) (q .args .task .body) (q .args .at .point) (q .args .n) (s .before .before .before .before .before .before .before .loop .after)
+less s =
+    let q = start s in
+    fewer (sp q) (q .args .task .r) (q .args .task .body) (q .args .at .point) (q .args .n) (s .before .before .before .before .before .before .before .loop .after) (s .before .before .before .before .before .before .before .before .before .band-of .ensures) (s .before .before .before .before .before .before .before .before .before .before .column-centre .ensures) (s .before .before .before .before .before .before .next-height .ensures) (to s .y) (s .before .before .before .before .y .given .1)
+
+-- and the column goes on behind it
+onward : (s : tie.After-find Inv-loop μ-loop) {gone : Column} {nodes front : List ℕ} → let q = start s in let i = s .before .before .before .before .before .before .before .loop in
+    Went (q .args .task .aim) (q .args .at) (q .args .n) (ahead (step s) []) (i .gone) gone (i .nodes) (i .front) nodes front →
+    Along (λ ws. Went (q .args .task .aim) (q .args .at) (q .args .n) ws (record { counts = q .args .c .counts; level = false }) gone (now (q .args .nodes)) (now (q .args .front)) nodes front)
+        (columnIf (sp q) (q .args .task .r) (q .args .task .body) (q .args .at .point) (q .args .n)) (stepsAfter (sp q) (q .args .task .r) (q .args .task .body) (q .args .at .point) (q .args .n) (At (to s .y)))
+onward s g =
+    let q = start s in
+    let i = s .before .before .before .before .before .before .before .loop in
+    let rest = next-ahead (sp q) (q .args .task .r) (q .args .task .body) (q .args .at .point) (q .args .n) (i .after) (s .before .before .before .before .before .before .before .before .before .band-of .ensures) (s .before .before .before .before .before .before .before .before .before .before .column-centre .ensures) (s .before .before .before .before .before .before .next-height .ensures) (to s .y) (s .before .before .before .before .y .given .1) in
+    along-on (ahead (step s) []) (i .inv .2) (rest ∙ ahead-split (step s) (stepsAfter (sp q) (q .args .task .r) (q .args .task .body) (q .args .at .point) (q .args .n) (At (to s .y)))) (λ vs w. went-more w g)
+
 loop-less : tie.Need-loop-less Inv-loop μ-loop
-loop-less c =
-    let s = c .before .before .before .before .before .before .before .before .before .before .before .before .before .before .before .before .before .before .before .before .before .before .before .before .before .before .before .before in
-    fewer (sp s) (s .args .task .r) (s .args .task .body) (s .args .at .point) (s .args .n) (c .before .before .before .before .before .before .before .before .before .before .before .before .before .before .before .loop .after) (c .before .before .before .before .before .before .before .before .before .before .before .before .before .before .before .before .before .band-of .ensures) (c .before .before .before .before .before .before .before .before .before .before .before .before .before .before .before .before .before .before .column-centre .ensures) (c .before .before .before .before .before .before .before .before .before .before .before .before .before .before .next-height .ensures) _ (c .before .before .before .before .before .before .before .before .before .before .before .before .y .given .1)
+loop-less c = less (c .before .before .before .before .before .before .before .before .before .before .before .before)
 
 loop-again : tie.Need-loop-again Inv-loop μ-loop
 loop-again c =
-    let s = c .before .before .before .before .before .before .before .before .before .before .before .before .before .before .before .before .before .before .before .before .before .before .before .before .before .before .before .before in
-    let i = c .before .before .before .before .before .before .before .before .before .before .before .before .before .before .before .loop in
-    let y = c .before .before .before .before .before .before .before .before .before .before .before .before .y .given .0 .0 in
-    let to = target (c .before .before .before .before .before .before .before .before .before .before .before .before .before .before .before .before .before .before .column-centre .result) y in
-    let e = edge (sp s) (s .args .task .r) (s .args .task .body) (s .args .at .point) to in
-    let rest = next-ahead (sp s) (s .args .task .r) (s .args .task .body) (s .args .at .point) (s .args .n) (i .after) (c .before .before .before .before .before .before .before .before .before .before .before .before .before .before .before .before .before .band-of .ensures) (c .before .before .before .before .before .before .before .before .before .before .before .before .before .before .before .before .before .before .column-centre .ensures) (c .before .before .before .before .before .before .before .before .before .before .before .before .before .before .next-height .ensures) y (c .before .before .before .before .before .before .before .before .before .before .before .before .y .given .1) in
+    let s = c .before .before .before .before .before .before .before .before .before .before .before .before in
+    let q = start s in
+    let i = s .before .before .before .before .before .before .before .loop in
     let u = i .inv .2 in
     (c .before .before .before .before .step-to .kept .0 ∙ i .inv .0, c .before .before .before .before .step-to .kept .1 .0 ∙ i .inv .1,
-    along-on (ahead e []) u (rest ∙ ahead-split e (stepsAfter (sp s) (s .args .task .r) (s .args .task .body) (s .args .at .point) (s .args .n) (At y)))
-        (λ vs g. went-more g (went-by e to (c .before .before .before .before .before .before .before .before .find .result) (λ w. edge-feet (sp s) (s .args .task .r) (s .args .task .body) (s .args .at .point) to w) (found (c .before .before .before .before .before .before .before .before)) (rw (one-edge _ _ (c .before .before .before .before .before .before .before .edge .ensures)) at (c .before .before .before .before .step-to .ensures))
-            (ready-after (s .pre .0 .0) (u .went .steps .near) (omega (arith, along-short u)) (i .inv .0) (i .inv .1)) (omega (arith, s .pre .0 .1, u .went .steps .near .more)))))
+    onward s (went-by (step s) (to s) (s .find .result) (leads s) (found s) (rw (one-edge _ _ (c .before .before .before .before .before .before .before .edge .ensures)) at (c .before .before .before .before .step-to .ensures))
+        (ready-after (q .pre .0 .0) (u .went .steps .near) (omega (arith, along-short u)) (i .inv .0) (i .inv .1)) (omega (arith, q .pre .0 .1, u .went .steps .near .more))))
+
+loop-less-2 : tie.Need-loop-less-2 Inv-loop μ-loop
+loop-less-2 c = less (c .before .before .before .before)
+
+loop-again-2 : tie.Need-loop-again-2 Inv-loop μ-loop
+loop-again-2 c =
+    let s = c .before .before .before .before in
+    let i = s .before .before .before .before .before .before .before .loop in
+    let o = or-false (c .before .before .before .is-side .result) (not (c .before .is-shut .result)) (c .if2 .left) in
+    (i .inv .0, i .inv .1,
+    onward s (went-shut (step s) (to s) (s .find .result) (leads s) (found s) (sym (c .before .before .before .is-side .ensures) ∙ o .0) (sym (c .before .is-shut .ensures) ∙ not-false _ (o .1)) (i .inv .2 .went .steps .near .few)))
 
 pub column-spec : {M : Type 1} → statement M
 column-spec =
@@ -139,7 +188,11 @@ column-spec =
     returns-2
     feet-of-requires
     find-requires
+    is-side-requires
+    is-shut-requires
     edge-requires
     step-to-requires
     loop-less
-    loop-again)
+    loop-again
+    loop-less-2
+    loop-again-2)
