@@ -1,6 +1,7 @@
 // The columns of one expansion (01, The graph, "Graph step"; "Pop, close, try the connector .., then the columns").
 use crate::Around;
 use crate::Task;
+use heights::Batch;
 use heights::Height;
 use rooms::Counts;
 use sides::Sides;
@@ -17,11 +18,16 @@ ghost use Rattle.visits.specs.Visits.{Ready};
 ghost use Rattle.index.specs.Indexed.{Indexed};
 ghost use Rattle.search.specs.Steps.{Stepped, Looked};
 
-// Column n, where it is looked at: its heights upwards.
+// How many tops one pass over a column finds. A column of a good world has at most some two thousand (131 layers of 16 boxes), most have one or two.
+const TOPS: usize = 64;
+
+// Column n, where it is looked at: its heights upwards, by batches of its tops in a room for them. What that room held decides nothing: the first batch
+// counts as used up.
 fn column(
     task: Task, cells: &[u8], perms: &[u8], shapes: &[u8], boxes: &[u8],
-    nodes: &mut [u8], front: &mut [u8], index: &[u8], known: usize, at: Place, n: usize, c: Around,
+    nodes: &mut [u8], front: &mut [u8], index: &[u8], known: usize, room: &mut [f64], at: Place, n: usize, c: Around,
 ) -> Around
+    requires { ⌜ 0 < length (now room) ⌝ }
     requires { ⌜ Ready (now nodes) (now front) (task .aim .budget) (length (columnIf (space (task .w) (now cells) (now perms) (now shapes) (now boxes)) (task .r) (task .body) (at .point) n) + 1) (c .counts) × (at .number < c .counts .retained) ⌝ }
     requires { ⌜ Indexed (now index) (now nodes) known × (known ≤ c .counts .retained) ⌝ }
     requires { ⌜ c .sides ≡ sidesBefore (space (task .w) (now cells) (now perms) (now shapes) (now boxes)) (task .r) (task .body) (at .point) n ⌝ }
@@ -35,8 +41,10 @@ fn column(
     let counts = c.counts;
     let mut gone = Column { counts, level: false };
     let mut after = Height::None;
+    let mut batch = Batch { count: room.len(), at: room.len() };
     loop {
-        let Height::At(y) = heights::next_height(task.w, cells, perms, shapes, boxes, band, centre.x, centre.z, after) else {
+        batch = heights::advance(task.w, cells, perms, shapes, boxes, band, centre.x, centre.z, after, room, batch);
+        let Height::At(y) = heights::height_at(room, batch) else {
             let counts = gone.counts;
             let sides = c.sides.answered(n, gone.level);
             return Around { counts, sides };
@@ -63,9 +71,10 @@ pub(crate) fn columns(
 {
     let sides = Sides::none();
     let mut gone = Around { counts: c, sides };
+    let mut room = [0.0; TOPS];
     let mut n: usize = 0;
     while n < 9 {
-        gone = column(task, cells, perms, shapes, boxes, nodes, front, index, known, at, n, gone);
+        gone = column(task, cells, perms, shapes, boxes, nodes, front, index, known, &mut room, at, n, gone);
         n += 1;
     }
     gone.counts
