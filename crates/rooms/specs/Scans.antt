@@ -1,9 +1,9 @@
 -- What a search looks for in its rooms (01, "Search"): the node at a point, and the next of the frontier. Definitions only.
 use Prim.Native.Nat.{ℕ, zero, suc}
-use mathlib.Core.Bool.{Bool, cond}
+use mathlib.Core.Bool.{Bool, _||_, cond}
 use mathlib.Core.Option.{Option, none, some}
 use mathlib.Core.List.{List}
-use lib.Dec.{eqb}
+use lib.Dec.{eqb, ltb}
 use lib.Ieee.{Float, binary64, ofBits, lt, eq}
 use Rattle.exploration.specs.Choose.{choose}
 use Rattle.exploration.specs.Estimates as estimates
@@ -29,6 +29,9 @@ firstAt a n q = firstOf (isAt a q) 0 n
 abbrev pub waits : Entry → Bool
 waits e = eqb (e .waiting) 1
 
+abbrev pub idle : Entry
+idle = record { estimate = 0; order = 0; waiting = 0 }
+
 abbrev pub estimateOf : Entry → Float
 estimateOf e = ofBits binary64 (e .estimate)
 
@@ -43,3 +46,14 @@ indexOr n (some r) = r .0
 -- the next of n nodes, or n where none waits
 unfoldable pub nextOf : ℕ → List ℕ → ℕ
 nextOf n f = indexOr n (choose waits sooner (firsts n (entryAt f)))
+
+-- the same among the nodes from `low` on: the entries before count as idle
+unfoldable pub entryFrom : ℕ → List ℕ → ℕ → Entry
+entryFrom low f k = cond (ltb k low) idle (entryAt f k)
+
+unfoldable pub nextFrom : ℕ → ℕ → List ℕ → ℕ
+nextFrom low n f = indexOr n (choose waits sooner (firsts n (entryFrom low f)))
+
+-- whether node j is not at rest: it is open, or waits
+abbrev pub busy : List ℕ → List ℕ → ℕ → Bool
+busy a f j = eqb (nodeAt a j .closed) 0 || waits (entryAt f j)

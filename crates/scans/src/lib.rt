@@ -8,7 +8,8 @@ use rooms::get_feet;
 ghost use mathlib.Core.Path.{_≡_};
 ghost use Prim.Native.Nat.{_-_, _≤_};
 ghost use Rattle.scans.specs.Laws.{Idle};
-ghost use Rattle.rooms.specs.Scans.{firstOf, isAt, sooner, nextOf};
+ghost use Rattle.rooms.specs.Records.{entryAt};
+ghost use Rattle.rooms.specs.Scans.{firstOf, isAt, sooner, nextFrom, busy};
 
 // More nodes than a room can tell apart: a parent's number is a u32.
 const NODES: usize = 4294967296;
@@ -55,7 +56,7 @@ fn before(a: Entry, b: Entry) -> bool
 // Passes over nodes from `from` on that do not wait: most nodes are closed. In a room that has not n entries it passes over none.
 fn next_waiting(front: &[u8], from: usize, n: usize) -> usize
     requires { ⌜ from ≤ n ⌝ }
-    ensures { λ r. ⌜ Idle (now (front .entry)) from r × (r ≤ n) ⌝ }
+    ensures { λ r. ⌜ Idle (entryAt (now (front .entry))) from r × (r ≤ n) ⌝ }
 {
     let border = n % NODES;
     let mut i = from;
@@ -67,9 +68,9 @@ fn next_waiting(front: &[u8], from: usize, n: usize) -> usize
     i
 }
 
-// The next of n nodes to be closed, or n where none waits.
-pub fn pick(front: &[u8], n: usize) -> usize
-    ensures { λ r. ⌜ r ≡ nextOf n (now (front .entry)) ⌝ }
+// The next of n nodes to be closed, among those from `low` on; if none of them waits, n.
+pub fn pick(front: &[u8], low: usize, n: usize) -> usize
+    ensures { λ r. ⌜ r ≡ nextFrom low n (now (front .entry)) ⌝ }
 {
     // the least entry so far, which is none's while `at` is n
     let mut least = Entry {
@@ -78,7 +79,8 @@ pub fn pick(front: &[u8], n: usize) -> usize
         waiting: 0,
     };
     let mut at = n;
-    let mut i = next_waiting(front, 0, n);
+    let from = if low < n { low } else { n };
+    let mut i = next_waiting(front, from, n);
     while i < n {
         let e = get_entry(front, i);
         if e.waiting == 1 && ((at == n) | before(e, least)) {
@@ -88,4 +90,23 @@ pub fn pick(front: &[u8], n: usize) -> usize
         i = next_waiting(front, i + 1, n);
     }
     at
+}
+
+// Whether node j is not at rest: it is open, or waits.
+fn is_busy(nodes: &[u8], front: &[u8], j: usize) -> bool
+    ensures { λ r. ⌜ r ≡ busy (now (nodes .entry)) (now (front .entry)) j ⌝ }
+{
+    (rooms::get_node(nodes, j).closed == 0) | (get_entry(front, j).waiting == 1)
+}
+
+// The first node that is not at rest among the nodes `from` to n - 1; if none is, n; if `from` is past n, `from`. What is at rest stays so: a search
+// need not look at the nodes before it again.
+pub fn first_busy(nodes: &[u8], front: &[u8], from: usize, n: usize) -> usize
+    ensures { λ r. ⌜ r ≡ firstOf (busy (now (nodes .entry)) (now (front .entry))) from (n - from) ⌝ }
+{
+    let mut i = from;
+    while i < n && !is_busy(nodes, front, i) {
+        i += 1;
+    }
+    i
 }

@@ -22,7 +22,7 @@ use Rattle.rooms.specs.Rooms.{Note, stateOf}
 use Rattle.rooms.specs.Laws.Rooms.{BySamePoint}
 use Rattle.visits.specs.declared.Aim.{Aim}
 use Rattle.visits.specs.Best.{best}
-use Rattle.visits.specs.Visits.{Kept, Still, Near}
+use Rattle.visits.specs.Visits.{Kept, Still, Rests, Near}
 use Rattle.strides.specs.declared.Place.{Place}
 use Rattle.strides.specs.declared.Column.{Column}
 use Rattle.search.specs.declared.Around.{Around}
@@ -33,6 +33,7 @@ pub record Stepped (aim : Aim) (at : Place) (ws : List Waypoint) (c r : Counts) 
       stateOf b g r ≡ visits 𝓖 (best (aim .goal)) (aim .budget) (at .number) n (stateOf a f c) (map stepOf ws)
   pub kept : Kept (r .retained) a f b g
   pub still : Still (c .retained) a b
+  pub rest : Rests (c .retained) a f b g
   pub near : Near (aim .budget) (length ws) c r
 
 -- and noted, at a side, whether one of them does not climb

@@ -2,7 +2,7 @@
 use mathlib.Core.Path.{_≡_}
 use mathlib.Core.Option.{none}
 use mathlib.Core.List.{List, [], _∷_}
-use Prim.Native.Nat.{ℕ, _+_, _≤_}
+use Prim.Native.Nat.{ℕ, _+_, _≤_, _<_}
 use lib.ListN.{length}
 use Rattle.exploration.specs.Explore.{State, arrive, advance}
 use Rattle.world.specs.declared.Point.{Point}
@@ -17,7 +17,7 @@ use Rattle.rooms.specs.declared.Counts.{Counts}
 use Rattle.rooms.specs.Rooms.{Note, nodesOf, stateOf}
 use Rattle.visits.specs.declared.Aim.{Aim}
 use Rattle.visits.specs.Best.{best}
-use Rattle.visits.specs.Visits.{Kept, Still, Near}
+use Rattle.visits.specs.Visits.{Kept, Still, Rested, Rests, Near}
 use Rattle.outcomes.specs.Outcomes.{countsOf}
 use Rattle.outcomes.specs.declared.Turn.{Turn}
 use Rattle.outcomes.specs.declared.Turn.the-variants.{Rest, Going, At, By}
@@ -43,9 +43,14 @@ Quiet aim a f (Going r) = Unit {0}
 Quiet aim a f (At r k) = Unit {0}
 Quiet aim a f (By r k l) = Unit {0}
 
+-- the nodes before `low` are at rest
+pub record Settled (a f : List ℕ) (low : ℕ) : Type 0 where
+  pub rested : (j : ℕ) → j < low → Rested a f j
+
 pub record Turned (aim : Aim) (sp : Space) (r : Request) (body : Body) (c : Counts) (t : Turn) (a f b g : List ℕ) : Type 0 where
   pub state : after aim t b g ≡ advance (graph sp r body) (best (aim .goal)) (aim .budget) (stateOf a f c)
   pub kept : Kept (countsOf t .retained) a f b g
   pub still : Still (c .retained) a b
+  pub rest : Rests (c .retained) a f b g
   pub near : Near (aim .budget) (mostSteps + 1) c (countsOf t)
   pub quiet : Quiet aim b g t

@@ -35,6 +35,7 @@ pub fn find_walk_path(
     let task = Task { w, r, body, aim };
     writes::zero(index); // what it held decides nothing
     let mut known: usize = 0;
+    let mut low: usize = 0; // the nodes before it are at rest
     let mut turn = Turn::Going(visits::begin(nodes, front, budget, words::feet_of(r.start)));
     let mut t: usize = 0;
     while t < budget {
@@ -42,7 +43,8 @@ pub fn find_walk_path(
             break;
         };
         known = index::extend(index, nodes, known, c.retained);
-        turn = expand(task, cells, perms, shapes, boxes, nodes, front, index, known, c);
+        low = scans::first_busy(nodes, front, low, c.retained);
+        turn = expand(task, cells, perms, shapes, boxes, nodes, front, index, known, low, c);
         t += 1;
     }
     writes::zero(index);

@@ -11,19 +11,20 @@ ghost use Rattle.world.specs.Space.{space};
 ghost use Rattle.words.specs.Words.{feetOf};
 ghost use Rattle.visits.specs.Visits.{Ready};
 ghost use Rattle.index.specs.Indexed.{Indexed};
-ghost use Rattle.search.specs.Turns.{mostSteps, Bounded, Turned};
+ghost use Rattle.search.specs.Turns.{mostSteps, Bounded, Settled, Turned};
 
-// One expansion, of whatever state the rooms are. The first `known` nodes are found by the index, the others by a scan: with 0 known, all.
+// One expansion, of whatever state the rooms are. The first `known` nodes are found by the index, the others by a scan: with 0 known, all. The nodes
+// before `low` are at rest, so the next one is picked from `low` on: with 0, from all.
 pub(crate) fn expand(
     task: Task, cells: &[u8], perms: &[u8], shapes: &[u8], boxes: &[u8],
-    nodes: &mut [u8], front: &mut [u8], index: &[u8], known: usize, c: Counts,
+    nodes: &mut [u8], front: &mut [u8], index: &[u8], known: usize, low: usize, c: Counts,
 ) -> Turn
     requires { ⌜ Ready (now nodes) (now front) (task .aim .budget) (mostSteps + 2) c ⌝ }
     requires { ⌜ (task .aim .goal ≡ feetOf (task .r .goal)) × Bounded (space (task .w) (now cells) (now perms) (now shapes) (now boxes)) (task .r) (task .body) ⌝ }
-    requires { ⌜ Indexed (now index) (now nodes) known × (known ≤ c .retained) ⌝ }
+    requires { ⌜ Indexed (now index) (now nodes) known × (known ≤ c .retained) × Settled (now nodes) (now front) low ⌝ }
     ensures { λ t. ⌜ Turned (task .aim) (space (task .w) (now (cells .entry)) (now (perms .entry)) (now (shapes .entry)) (now (boxes .entry))) (task .r) (task .body) c t (now (nodes .entry)) (now (front .entry)) (now (nodes .exit)) (now (front .exit)) ⌝ }
 {
-    let k = scans::pick(front, c.retained);
+    let k = scans::pick(front, low, c.retained);
     if c.retained <= k {
         return Turn::Rest(c);
     }

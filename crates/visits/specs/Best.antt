@@ -8,15 +8,12 @@ use Rattle.exploration.specs.Choose.{choose}
 use Rattle.rooms.specs.declared.Feet.{Feet}
 use Rattle.rooms.specs.declared.Label.{Label}
 use Rattle.rooms.specs.declared.Entry.{Entry}
-use Rattle.rooms.specs.Scans.{waits}
+use Rattle.rooms.specs.Scans.{waits, idle}
 use Rattle.rooms.specs.Rooms.{Note, nodeWaits, nodeSooner}
 use Rattle.costs.specs.Costs.{costBy, estimateBy, cheaper, pushedAs, lowered}
 
 abbrev pub opened : ℕ → Entry → Note
 opened c e = record { cost = c; mark = 0; entry = e }
-
-abbrev pub idle : Entry
-idle = record { estimate = 0; order = 0; waiting = 0 }
 
 abbrev pub given : {A : Type 0} → Bool → A → Option A
 given true x = some x

@@ -20,13 +20,14 @@ use Rattle.rooms.specs.declared.NodeRecord.{NodeRecord}
 use Rattle.rooms.specs.declared.Counts.{Counts}
 use Rattle.rooms.specs.Waypoints.{samePoint, alike, standing}
 use Rattle.rooms.specs.Records.{entryLayout, entryWords, entryAt}
+use Rattle.rooms.specs.Scans.{idle}
 use Rattle.rooms.specs.Rooms.{Note, nodeOf, nodeIn, nodesOf, stateOf, nodeRoom}
 use Rattle.rooms.specs.Laws.Rooms.{node-room}
 use Rattle.visits.specs.declared.Aim.{Aim}
 use Rattle.visits.specs.declared.Closing.{Closing}
 use Rattle.visits.specs.declared.Visit.{Visit}
 use Rattle.visits.specs.declared.Visit.the-variants.{Closed as ToClosed, Counted}
-use Rattle.visits.specs.Best.{idle, best}
+use Rattle.visits.specs.Best.{best}
 use Rattle.visits.specs.Visits.{ready, Kept, Untouched, countsBy, saysClosed, foundAt, Visited, VisitedIf, ClosedIf, Started}
 use Rattle.visits.specs.Laws.Visits.{ready-is}
 

@@ -15,7 +15,8 @@ use Rattle.rooms.specs.declared.Label.{Label}
 use Rattle.rooms.specs.declared.NodeRecord.{NodeRecord}
 use Rattle.rooms.specs.declared.Counts.{Counts}
 use Rattle.rooms.specs.Waypoints.{standing}
-use Rattle.rooms.specs.Records.{nodeAt}
+use Rattle.rooms.specs.Records.{nodeAt, entryAt}
+use Rattle.rooms.specs.Scans.{waits}
 use Rattle.rooms.specs.Rooms.{Note, nobody, nodeIn, stateOf}
 use Rattle.rooms.specs.Laws.Writes.{PutNode, PutEntry}
 use Rattle.visits.specs.declared.Aim.{Aim}
@@ -51,6 +52,15 @@ pub record Kept (m : ℕ) (a f b g : List ℕ) : Type 0 where
 pub record Still (n : ℕ) (a b : List ℕ) : Type 0 where
   pub feet : (j : ℕ) → j < n → nodeAt b j .feet ≡ nodeAt a j .feet
 
+-- node j is closed and waits no more
+pub record Rested (a f : List ℕ) (j : ℕ) : Type 0 where
+  pub closed : nodeAt a j .closed ≢ 0
+  pub idle : waits (entryAt f j) ≡ false
+
+-- and so stay those of the first n nodes that are
+pub record Rests (n : ℕ) (a f b g : List ℕ) : Type 0 where
+  pub rests : (j : ℕ) → j < n → Rested a f j → Rested b g j
+
 -- nothing at all is changed
 pub record Untouched (c r : Counts) (a f b g : List ℕ) : Type 0 where
   pub counts : r ≡ c
@@ -70,6 +80,7 @@ pub record Seen (aim : Aim) (k : ℕ) (c : Counts) (j cost : ℕ) (to : Feet) (l
   pub state : stateOf b g r ≡ apply (aim .budget) (stateOf a f c) (effectKnown k (to, label) (j, nodeIn a f j) (nodeIn a f j .closed) (relaxed (aim .goal) cost to (nodeIn a f j .note) (c .pushed)))
   pub kept : Kept (r .retained) a f b g
   pub still : Still (c .retained) a b
+  pub rest : Rests (c .retained) a f b g
   pub near : Near (aim .budget) 1 c r
 
 -- the counts that a visit answers: at a closed node those from before
@@ -99,6 +110,7 @@ pub record Visited (aim : Aim) (k : ℕ) (from : NodeRecord) (c : Counts) (j : �
       stateOf b g r ≡ apply (aim .budget) (stateOf a f c) (effectAt 𝓖 (best (aim .goal)) k n (c .pushed) (to, label) (foundAt a f (c .retained) j))
   pub kept : Kept (r .retained) a f b g
   pub still : Still (c .retained) a b
+  pub rest : Rests (c .retained) a f b g
   pub near : Near (aim .budget) 1 c r
 
 -- and what it answers, on every input
@@ -112,6 +124,7 @@ pub record Closed (aim : Aim) (k : ℕ) (c r : Counts) (a f b g : List ℕ) : Ty
   pub state : (𝓖 : Graph Feet Label) → stateOf b g r ≡ close 𝓖 (best (aim .goal)) (stateOf a f c) k (nodeIn a f k)
   pub kept : Kept (r .retained) a f b g
   pub still : Still (c .retained) a b
+  pub rest : Rests (c .retained) a f b g
   pub near : Near (aim .budget) 1 c r
 
 pub record ClosedIf (aim : Aim) (k : ℕ) (c : Counts) (r : Closing) (a f b g : List ℕ) : Type 0 where

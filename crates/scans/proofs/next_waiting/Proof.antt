@@ -5,12 +5,13 @@ use Prim.Native.Nat.{ℕ, _≤_, _-_}
 use mathlib.Core.Path.{sym, ap, _∙_}
 use lib.Dec.{eqb}
 use denote.Ref.{now}
+use Rattle.rooms.specs.Records.{entryAt}
 use Rattle.scans.specs.Laws.{Idle, idle-none, idle-more}
 use Rattle.scans.proofs.next_waiting.Statement.{statement}
 use Rattle.scans.proofs.next_waiting.Tie as tie
 
 abbrev Inv-loop : tie.InvT-loop
-Inv-loop front from n border i₀ i = Idle front from i × (i ≤ n)
+Inv-loop front from n border i₀ i = Idle (entryAt front) from i × (i ≤ n)
 
 abbrev μ-loop : tie.MeasureT-loop
 μ-loop front from n border i₀ i = n - i
@@ -37,7 +38,7 @@ loop-less : tie.Need-loop-less Inv-loop μ-loop
 loop-less c = omega arith
 
 loop-again : tie.Need-loop-again Inv-loop μ-loop
-loop-again c = (idle-more (c .before .before .before .loop .inv .0) (sym (ap (λ (w : ℕ). eqb w 1) (c .before .u64-at .ensures)) ∙ not-true _ (c .if2 .taken)), omega arith)
+loop-again c = (idle-more (now (c .before .before .before .before .before .before .args .front)) (c .before .before .before .loop .inv .0) (sym (ap (λ (w : ℕ). eqb w 1) (c .before .u64-at .ensures)) ∙ not-true _ (c .if2 .taken)), omega arith)
 
 returns : tie.Need-returns Inv-loop μ-loop
 returns c = c .before .before .before .loop .inv

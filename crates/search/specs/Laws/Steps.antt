@@ -29,7 +29,7 @@ use Rattle.rooms.specs.Rooms.{Note, stateOf}
 use Rattle.visits.specs.declared.Aim.{Aim}
 use Rattle.visits.specs.Best.{best}
 use Rattle.visits.specs.Visits.{Ready, Near, shutAt, Visited}
-use Rattle.visits.specs.Laws.Visits.{kept-none, kept-trans, still-none, still-trans, near-none, near-trans, is-ready, visit-sought, visited-shut}
+use Rattle.visits.specs.Laws.Visits.{kept-none, kept-trans, still-none, still-trans, rests-none, rests-trans, near-none, near-trans, is-ready, visit-sought, visited-shut}
 use Rattle.strides.specs.declared.Place.{Place}
 use Rattle.strides.specs.declared.Column.{Column}
 use Rattle.search.specs.declared.Around.{Around}
@@ -54,7 +54,7 @@ map-append h (x ∷ xs) ys = ap (λ (zs : List _). h x ∷ zs) (map-append h xs 
 
 module _ {aim : Aim} {at : Place} where
   pub stepped-none : {c : Counts} (a f : List ℕ) → c .retained ≤ aim .budget → Stepped aim at [] c c a f a f
-  stepped-none a f h = record { state = λ 𝓖 s n p q. refl; kept = kept-none _ a f; still = still-none _ a; near = near-none h }
+  stepped-none a f h = record { state = λ 𝓖 s n p q. refl; kept = kept-none _ a f; still = still-none _ a; rest = rests-none _ a f; near = near-none h }
 
   -- where the lookup found the first node at the step's point
   pub stepped-one : {c r : Counts} {a f b g : List ℕ} (w : Waypoint) (j : ℕ) → j ≡ firstAt a (c .retained) (feetOf (w .feet)) → c .retained ≤ aim .budget →
@@ -62,7 +62,7 @@ module _ {aim : Aim} {at : Place} where
   unfolding stepOf
   stepped-one {c} {a = a} {f = f} w j e h v = record {
     state = λ 𝓖 s n p q. v .state 𝓖 n p q ∙ sym (visit-sought aim (at .number) c a f h (at .node) (feetOf (w .feet)) (labelOf w) 𝓖 s n j e);
-    kept = v .kept; still = v .still; near = v .near }
+    kept = v .kept; still = v .still; rest = v .rest; near = v .near }
 
   pub stepped-more : {c r t : Counts} {a f b g x y : List ℕ} {ws vs : List Waypoint} → Stepped aim at ws c r a f b g → Stepped aim at vs r t b g x y → Stepped aim at (ws ++ vs) c t a f x y
   stepped-more {c} {a = a} {f = f} {ws = ws} {vs = vs} u v = record {
@@ -72,6 +72,7 @@ module _ {aim : Aim} {at : Place} where
         ∙ ap (visits 𝓖 (best (aim .goal)) (aim .budget) (at .number) n (stateOf a f c)) (sym (map-append stepOf ws vs));
     kept = kept-trans (v .near .more) (u .kept) (v .kept);
     still = still-trans (u .near .more) (u .still) (v .still);
+    rest = rests-trans (u .near .more) (u .rest) (v .rest);
     near = rw length-append (near-trans (u .near) (v .near)) }
 
   pub went-none : {n : ℕ} {c : Column} (a f : List ℕ) → c .counts .retained ≤ aim .budget → Went aim at n [] c c a f a f

@@ -3,7 +3,11 @@ use mathlib.Core.Path.{_≡_, refl, sym, ap, _∙_}
 use mathlib.Core.Bool.{true, false}
 use mathlib.Core.Option.{Option, none, some}
 use mathlib.Core.List.{List, [], _∷_, map}
-use Prim.Native.Nat.{ℕ, _+_, _≤_, _<_}
+use mathlib.Core.Logic.{⊎-elim}
+use Prim.Native.Nat.{ℕ, _+_, _-_, _≤_, _<_}
+use lib.Dec.{eqb}
+use borrow.Author.Tests.{eq-eqb}
+use Rattle.exploration.specs.Laws.Lists.{true-false, or-false}
 use native.Mathlib.Omega.{arith}
 use Rattle.exploration.specs.Graph.{Graph}
 use Rattle.exploration.specs.Policy.{Node, Policy}
@@ -24,20 +28,23 @@ use Rattle.rooms.specs.declared.Label.{Label}
 use Rattle.rooms.specs.declared.NodeRecord.{NodeRecord}
 use Rattle.rooms.specs.declared.Counts.{Counts}
 use Rattle.rooms.specs.Waypoints.{samePoint}
-use Rattle.rooms.specs.Records.{nodeAt}
-use Rattle.rooms.specs.Scans.{nextOf}
+use Rattle.rooms.specs.Records.{nodeAt, entryAt}
+use Rattle.rooms.specs.Scans.{waits, firstOf, busy, nextFrom, nextOf}
+use Rattle.rooms.specs.Laws.Scans.{first-is}
+use Rattle.rooms.specs.Laws.Lists.{in-or-out}
+use Rattle.scans.specs.Laws.{next-from}
 use Rattle.rooms.specs.Rooms.{Note, nodeOf, nodeIn, stateOf}
 use Rattle.rooms.specs.Laws.Rooms.{BySamePoint, pick-none, pick-some}
 use Rattle.visits.specs.declared.Aim.{Aim}
 use Rattle.visits.specs.Best.{best}
 use Rattle.visits.specs.declared.Closing.{Closing}
-use Rattle.visits.specs.Visits.{Ready, Closed, ClosedIf}
-use Rattle.visits.specs.Laws.Visits.{kept-none, kept-trans, still-none, still-trans, near-none, near-trans, near-le, is-ready}
+use Rattle.visits.specs.Visits.{Ready, Rested, Rests, Closed, ClosedIf}
+use Rattle.visits.specs.Laws.Visits.{kept-none, kept-trans, still-none, still-trans, rests-none, rests-trans, near-none, near-trans, near-le, is-ready}
 use Rattle.outcomes.specs.declared.Turn.the-variants.{Rest, Going, At, By}
 use Rattle.strides.specs.declared.Place.{Place}
 use Rattle.search.specs.Steps.{Stepped}
 use Rattle.search.specs.Laws.Steps.{ready-after}
-use Rattle.search.specs.Turns.{mostSteps, Bounded, Turned}
+use Rattle.search.specs.Turns.{mostSteps, Bounded, Settled, Turned}
 
 pub graph-same : (sp : Space) (r : Request) (body : Body) → BySamePoint (graph sp r body)
 unfolding graph
@@ -59,7 +66,7 @@ module _ (aim : Aim) (sp : Space) (r : Request) (body : Body) (c : Counts) (a f 
 
   pub turned-rest : c .retained ≤ aim .budget → c .retained ≤ nextOf (c .retained) f → Turned aim sp r body c (Rest c) a f a f
   unfolding advance stateOf best
-  turned-rest few h = let e = pick-none a f (c .retained) h in record { state = sym (ap from-pick e); kept = kept-none _ a f; still = still-none _ a; near = near-none few; quiet = e }
+  turned-rest few h = let e = pick-none a f (c .retained) h in record { state = sym (ap from-pick e); kept = kept-none _ a f; still = still-none _ a; rest = rests-none _ a f; near = near-none few; quiet = e }
 
   module _ (goal : aim .goal ≡ feetOf (r .goal)) (k : ℕ) (e : k ≡ nextOf (c .retained) f) (h : k < c .retained) where
     abbrev from : Feet
@@ -92,7 +99,7 @@ module _ (aim : Aim) (sp : Space) (r : Request) (body : Body) (c : Counts) (a f 
       unfolding expanding
       turned-at i = record {
         state = ap (λ (x : State Feet Label Note ℕ). arrive x k []) (shut .state 𝓖) ∙ sym (advance-some ∙ ap expanding (ending-at i));
-        kept = shut .kept; still = shut .still; near = near-le (mostSteps + 1) (omega arith) (shut .near); quiet = tt }
+        kept = shut .kept; still = shut .still; rest = shut .rest; near = near-le (mostSteps + 1) (omega arith) (shut .near); quiet = tt }
 
       pub turned-by : (l : Label) (way : Waypoint) → samePoint from (aim .goal) ≡ false → To way ≡ connector sp r body (pointOf from) → l ≡ labelOf way → Turned aim sp r body c (By s k l) a f b g
       unfolding expanding
@@ -101,7 +108,7 @@ module _ (aim : Aim) (sp : Space) (r : Request) (body : Body) (c : Counts) (a f 
             ∙ ap (λ (x : Feet). arrive (close 𝓖 𝓟 (stateOf a f c) k (nodeIn a f k)) k ((x, l) ∷ [])) (sym graph-goal)
             ∙ ap (λ (x : Label). arrive (close 𝓖 𝓟 (stateOf a f c) k (nodeIn a f k)) k ((𝓖 .goal, x) ∷ [])) m
             ∙ sym (advance-some ∙ ap expanding (ending-by (To way) i j));
-        kept = shut .kept; still = shut .still; near = near-le (mostSteps + 1) (omega arith) (shut .near); quiet = tt }
+        kept = shut .kept; still = shut .still; rest = shut .rest; near = near-le (mostSteps + 1) (omega arith) (shut .near); quiet = tt }
 
       pub turned-going : (at : Place) {t : Counts} {x y : List ℕ} → Bounded sp r body → samePoint from (aim .goal) ≡ false → Nowhere ≡ connector sp r body (pointOf from) → at .number ≡ k → at .node ≡ nodeAt a k → at .point ≡ pointOf from
           → Stepped aim at (stepsFrom sp r body (at .point)) s t b g x y → Turned aim sp r body c (Going t) a f x y
@@ -114,4 +121,29 @@ module _ (aim : Aim) (sp : Space) (r : Request) (body : Body) (c : Counts) (a f 
             ∙ sym (advance-some ∙ ap expanding (ending-by Nowhere i j));
         kept = kept-trans (v .near .more) (shut .kept) (v .kept);
         still = still-trans (shut .near .more) (shut .still) (v .still);
+        rest = rests-trans (shut .near .more) (shut .rest) (v .rest);
         near = near-le (mostSteps + 1) (omega (arith, bound (at .point))) (near-trans (shut .near) (v .near)); quiet = tt }
+
+-- ---- the nodes at rest
+
+pub settled-none : (a f : List ℕ) → Settled a f 0
+settled-none a f = record { rested = λ j h. absurd (omega arith) }
+
+-- none of them waits: the next of all nodes is the next from `low` on
+pub picked : (n : ℕ) {a f : List ℕ} {low k : ℕ} → Settled a f low → k ≡ nextFrom low n f → k ≡ nextOf n f
+picked n {f = f} {low = low} s e = e ∙ next-from low n f (λ j h. s .rested j h .idle)
+
+at-rest : (a f : List ℕ) (j : ℕ) → busy a f j ≡ false → Rested a f j
+at-rest a f j e = record { closed = λ z. true-false (eq-eqb (nodeAt a j .closed) 0 z) (o .0); idle = o .1 }
+  where
+    o : (eqb (nodeAt a j .closed) 0 ≡ false) × (waits (entryAt f j) ≡ false)
+    o = or-false (eqb (nodeAt a j .closed) 0) (waits (entryAt f j)) e
+
+-- more of them, up to the first that is not at rest
+pub settled-more : {a f : List ℕ} {low r : ℕ} (n : ℕ) → Settled a f low → low ≤ n → r ≡ firstOf (busy a f) low (n - low) → Settled a f r × (r ≤ n)
+settled-more {a} {f} {low} {r} n s l e =
+    let x = first-is (busy a f) low (n - low) in
+    rw e (record { rested = λ j h. ⊎-elim (λ b. s .rested j b) (λ b. at-rest a f j (x .missed j b h)) (in-or-out j low) }, omega (arith, x .within))
+
+pub settled-on : {a f b g : List ℕ} {low n : ℕ} → Settled a f low → low ≤ n → Rests n a f b g → Settled b g low
+settled-on s l r = record { rested = λ j h. r .rests j (omega arith) (s .rested j h) }

@@ -23,7 +23,7 @@ use Rattle.rooms.specs.declared.NodeRecord.{NodeRecord}
 use Rattle.rooms.specs.declared.Entry.{Entry}
 use Rattle.rooms.specs.declared.Counts.{Counts}
 use Rattle.rooms.specs.Records.{nodeAt, entryAt}
-use Rattle.rooms.specs.Scans.{firstAt}
+use Rattle.rooms.specs.Scans.{firstAt, waits, idle}
 use Rattle.rooms.specs.Rooms.{Note, nobody, parentOf, nodeOf, nodeIn, nodesOf, stateOf}
 use Rattle.rooms.specs.Laws.Writes.{WroteNode, WroteEntry}
 use Rattle.rooms.specs.Laws.Rooms.{BySamePoint, nodes-set, nodes-more, seek-none, seek-some}
@@ -32,8 +32,8 @@ use Rattle.visits.specs.declared.Aim.{Aim}
 use Rattle.visits.specs.declared.Visit.{Visit}
 use Rattle.visits.specs.declared.Visit.the-variants.{Counted}
 use Rattle.costs.specs.Costs.{costBy, estimateBy, cheaper, pushedAs, lowered}
-use Rattle.visits.specs.Best.{opened, idle, relaxed, best}
-use Rattle.visits.specs.Visits.{Ready, ready, Kept, Still, Untouched, Near, Seen, countsBy, saysClosed, isShut, foundAt, shutAt, Visited, VisitedIf, Closed, startRecord, counted, Started, Begun}
+use Rattle.visits.specs.Best.{opened, relaxed, best}
+use Rattle.visits.specs.Visits.{Ready, ready, Kept, Still, Rested, Rests, Untouched, Near, Seen, countsBy, saysClosed, isShut, foundAt, shutAt, Visited, VisitedIf, Closed, startRecord, counted, Started, Begun}
 
 -- ---- the bytes that stay, and the counts
 
@@ -59,6 +59,29 @@ still-behind p = record { feet = λ j h. ap (λ (x : NodeRecord). x .feet) (p .t
 
 pub still-trans : {a b d : List ℕ} {m n : ℕ} → m ≤ n → Still m a b → Still n b d → Still m a d
 still-trans l p q = record { feet = λ j h. q .feet j (omega arith) ∙ p .feet j h }
+
+-- what rests still does: where an open node's records are written, where new ones are, and where a node is closed
+pub rests-none : (n : ℕ) (a f : List ℕ) → Rests n a f a f
+rests-none n a f = record { rests = λ j h r. r }
+
+rested-other : {a f b g : List ℕ} {k : ℕ} {r : NodeRecord} {e : Entry} → WroteNode a k r b → WroteEntry f k e g → (j : ℕ) → j ≢ k → Rested a f j → Rested b g j
+rested-other p q j h x = record { closed = λ z. x .closed (sym (ap (λ (n : NodeRecord). n .closed) (p .there j h)) ∙ z); idle = ap waits (q .there j h) ∙ x .idle }
+
+pub rests-over : {a f b g : List ℕ} {k : ℕ} {r : NodeRecord} {e : Entry} (n : ℕ) → nodeAt a k .closed ≡ 0 → WroteNode a k r b → WroteEntry f k e g → Rests n a f b g
+rests-over {a} n o p q = record { rests = λ j h x. rested-other p q j (λ i. x .closed (ap (λ (m : ℕ). nodeAt a m .closed) i ∙ o)) x }
+
+pub rests-behind : {a f b g : List ℕ} {k : ℕ} {r : NodeRecord} {e : Entry} → WroteNode a k r b → WroteEntry f k e g → Rests k a f b g
+rests-behind p q = record { rests = λ j h x. rested-other p q j (λ i. omega arith) x }
+
+pub rests-shut : {a f b g : List ℕ} {k : ℕ} {r : NodeRecord} {e : Entry} (n : ℕ) → r .closed ≢ 0 → waits e ≡ false → WroteNode a k r b → WroteEntry f k e g → Rests n a f b g
+rests-shut {a} {f} {b} {g} {k} {r} {e} n o i p q = record { rests = λ j h x. go j x (eqb j k) refl }
+  where
+    go : (j : ℕ) → Rested a f j → (t : Bool) → eqb j k ≡ t → Rested b g j
+    go j x true z = let y = eqb-true j k z in rw y (record { closed = λ w. o (sym (ap (λ (m : NodeRecord). m .closed) (p .here)) ∙ w); idle = ap waits (q .here) ∙ i })
+    go j x false z = rested-other p q j (eqb-false j k z) x
+
+pub rests-trans : {a f b g d h : List ℕ} {m n : ℕ} → m ≤ n → Rests m a f b g → Rests n b g d h → Rests m a f d h
+rests-trans l p q = record { rests = λ j i x. q .rests j (omega arith) (p .rests j i x) }
 
 pub kept-trans : {a f b g d h : List ℕ} {m n : ℕ} → m ≤ n → Kept m a f b g → Kept n b g d h → Kept n a f d h
 kept-trans l p q = record { nodes = λ j i. q .nodes j i ∙ p .nodes j (omega arith); front = λ j i. q .front j i ∙ p .front j (omega arith) }
@@ -145,11 +168,11 @@ module _ (aim : Aim) (k : ℕ) (c : Counts) (a f : List ℕ) (few : c .retained 
   module _ (j cost : ℕ) (to : Feet) (label : Label) where
     pub seen-shut : nodeAt a j .closed ≢ 0 → Seen aim k c j cost to label c a f a f
     unfolding nodeOf
-    seen-shut h = record { state = (let e = ne-eqb (nodeAt a j .closed) 0 h in rw e); kept = kept-none _ a f; still = still-none _ a; near = near-none few }
+    seen-shut h = record { state = (let e = ne-eqb (nodeAt a j .closed) 0 h in rw e); kept = kept-none _ a f; still = still-none _ a; rest = rests-none _ a f; near = near-none few }
 
     pub seen-dear : nodeAt a j .closed ≡ 0 → cheaper cost (nodeAt a j .cost) ≡ false → Seen aim k c j cost to label c a f a f
     unfolding nodeOf relaxed
-    seen-dear h l = record { state = (let e = eq-eqb (nodeAt a j .closed) 0 h in rw (e, l)); kept = kept-none _ a f; still = still-none _ a; near = near-none few }
+    seen-dear h l = record { state = (let e = eq-eqb (nodeAt a j .closed) 0 h in rw (e, l)); kept = kept-none _ a f; still = still-none _ a; rest = rests-none _ a f; near = near-none few }
 
     abbrev pub pushed : Counts
     pushed = record { retained = c .retained; closed = c .closed; pushed = c .pushed + 1; dropped = c .dropped }
@@ -161,6 +184,7 @@ module _ (aim : Aim) (k : ℕ) (c : Counts) (a f : List ℕ) (few : c .retained 
       state = (let e = eq-eqb (nodeAt a j .closed) 0 h in rw (e, l) (λ i. record { nodes = ns i; book = c .pushed + 1; closings = c .closed; dropped = c .dropped; found = none }));
       kept = kept-wrote (c .retained) hj p w;
       still = still-over (c .retained) refl p;
+      rest = rests-over (c .retained) h p w;
       near = record { more = omega arith; few = few; pushes = omega arith; drops = omega arith; closes = omega arith };
     }
       where
@@ -196,6 +220,7 @@ module _ (aim : Aim) (k : ℕ) (c : Counts) (a f : List ℕ) (few : c .retained 
       state = λ 𝓖 n p q. (let z : costBy (n .note .cost) (n .point) to ≡ cost = rw (p, q) (sym e) in sym (ap (seeing 𝓖 n) (sought-some j l) ∙ rw z (sym (s .state))));
       kept = s .kept;
       still = s .still;
+      rest = s .rest;
       near = s .near;
     }
 
@@ -208,6 +233,7 @@ module _ (aim : Aim) (k : ℕ) (c : Counts) (a f : List ℕ) (few : c .retained 
       state = λ 𝓖 n p q. sym (ap (seeing 𝓖 n) (sought-none j l) ∙ (let z = le-ltb (length (nodesOf (c .retained) a f)) (aim .budget) (rw length-firsts m) in rw (z, ← add-one)));
       kept = kept-none _ a f;
       still = still-none _ a;
+      rest = rests-none _ a f;
       near = record { more = omega arith; few = few; pushes = omega arith; drops = omega arith; closes = omega arith };
     }
 
@@ -221,6 +247,7 @@ module _ (aim : Aim) (k : ℕ) (c : Counts) (a f : List ℕ) (few : c .retained 
       state = λ 𝓖 n x y. (let z : costBy (n .note .cost) (n .point) to ≡ cost = rw (x, y) (sym e) in let t = lt-ltb (length (nodesOf (c .retained) a f)) (aim .budget) (rw length-firsts m) in sym (ap (seeing 𝓖 n) (sought-none j l) ∙ rw (t, z) (λ i. record { nodes = sym ns i; book = c .pushed + 1; closings = c .closed; dropped = c .dropped; found = none })));
       kept = kept-wrote (c .retained + 1) (omega arith) p w;
       still = still-behind p;
+      rest = rests-behind p w;
       near = record { more = omega arith; few = omega arith; pushes = omega arith; drops = omega arith; closes = omega arith };
     }
       where
@@ -276,6 +303,7 @@ closes aim k c a f h few p w = record {
   state = λ 𝓖. (let e = nodes-set p w (c .retained) h in let o = add-one (c .closed) in λ i. record { nodes = e i; book = c .pushed; closings = o i; dropped = c .dropped; found = none });
   kept = kept-wrote (c .retained) h p w;
   still = still-over (c .retained) refl p;
+  rest = rests-shut (c .retained) (λ z. omega arith) refl p w;
   near = record { more = omega arith; few = few; pushes = omega arith; drops = omega arith; closes = omega arith };
 }
 

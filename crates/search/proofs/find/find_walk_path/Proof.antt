@@ -26,7 +26,8 @@ use Rattle.outcomes.specs.Unique.{one-answer}
 use Rattle.index.specs.Index.{extended}
 use Rattle.index.specs.Indexed.{Indexed}
 use Rattle.index.specs.Laws.{Longer, longer, indexed-none, zero-slots, indexed-same}
-use Rattle.search.specs.Turns.{Bounded}
+use Rattle.search.specs.Turns.{Bounded, Settled}
+use Rattle.search.specs.Laws.Turns.{settled-none, settled-more, settled-on}
 use Rattle.search.specs.Runs.{Spun}
 use Rattle.search.specs.Laws.Steps.{ready-after}
 use Rattle.search.specs.Laws.Runs.{Ended, spun-none, spun-next, spun-over}
@@ -36,13 +37,13 @@ use Rattle.search.proofs.find.find_walk_path.Statement.{statement}
 use Rattle.search.proofs.find.find_walk_path.Tie as tie
 
 abbrev Inv-loop : tie.InvT-loop
-Inv-loop cells perms shapes boxes nodes₀ front₀ index₀ out budget task known₀ turn₀ t₀ nodes front index known turn t =
+Inv-loop cells perms shapes boxes nodes₀ front₀ index₀ out budget task known₀ low₀ turn₀ t₀ nodes front index known low turn t =
     Spun (task .aim) (space (task .w) cells perms shapes boxes) (task .r) (task .body) (countsOf turn₀) t turn nodes₀ front₀ nodes front
     × (t ≤ budget) × (length nodes ≡ length nodes₀) × (length front ≡ length front₀) × Bytes nodes
-    × (length index ≡ length index₀) × Indexed index nodes known × (known ≤ countsOf turn .retained)
+    × (length index ≡ length index₀) × Indexed index nodes known × (known ≤ countsOf turn .retained) × Settled nodes front low × (low ≤ countsOf turn .retained)
 
 abbrev μ-loop : tie.MeasureT-loop
-μ-loop cells perms shapes boxes nodes₀ front₀ index₀ out budget task known₀ turn₀ t₀ nodes front index known turn t = budget - t
+μ-loop cells perms shapes boxes nodes₀ front₀ index₀ out budget task known₀ low₀ turn₀ t₀ nodes front index known low turn t = budget - t
 
 -- a turn that is not `Going`
 ended : (t : Turn) → OneOf (0 ∷ 2 ∷ 3 ∷ []) (tagOf the-type t) → Ended t
@@ -100,7 +101,7 @@ loop-holds : tie.Need-loop-holds Inv-loop μ-loop
 loop-holds c =
     let h = ready-spin (c .before .before .before .before .before .before .before .before .before .before .before .before .before .before .before .before .before .before .before .before .before .before .before .before .before .args .r) (roomy (c .before .before .before .before)) (c .before .before .before .before .before .feet-of2 .ensures) (c .before .before .before .before .begin .ensures) (c .before .before .before .before .begin .kept .0) (c .before .before .before .before .begin .kept .1 .0) in
     (spun-none _ _ (h .few), omega arith, refl, refl, (λ i. omega (arith, c .before .before .slice-known6 .given i)),
-    refl, rw (c .before .before .before .before .before .before .before .before .before .before .zero .ensures) (indexed-none (c .before .before .before .before .begin .last .0) (zero-slots (length (now (c .before .before .before .before .before .before .before .before .before .before .before .before .before .before .before .before .before .before .before .before .before .before .before .before .before .args .index))))), omega arith)
+    refl, rw (c .before .before .before .before .before .before .before .before .before .before .zero .ensures) (indexed-none (c .before .before .before .before .begin .last .0) (zero-slots (length (now (c .before .before .before .before .before .before .before .before .before .before .before .before .before .before .before .before .before .before .before .before .before .before .before .before .before .args .index))))), omega arith, settled-none _ _, omega arith)
 
 enum-known-turn : tie.Need-enum-known-turn Inv-loop μ-loop
 enum-known-turn c = search needs
@@ -115,28 +116,39 @@ entered s =
     let l = rw (s .before .before .before .before .turn .given .1) at (s .before .before .before .before .before .before .before .loop .inv .7) in
     longer (s .before .before .before .before .turn .given .0 .0 .retained) (s .before .before .before .before .before .before .before .loop .inv .6) l (omega (arith, u .near .few, roomy (s .before .before .before .before .before .before .before .before .before .before .before .before) .few))
 
+first-busy-requires : tie.Need-first-busy-requires Inv-loop μ-loop
+first-busy-requires c κs = tt
+
+-- and how far the nodes are at rest
+settled : (s : tie.After-first-busy Inv-loop μ-loop) → Settled (s .before .before .before .before .before .before .before .before .before .before .before .before .loop .nodes) (s .before .before .before .before .before .before .before .before .before .before .before .before .loop .front) (s .first-busy .result) × (s .first-busy .result ≤ s .before .before .before .before .before .before .before .before .before .turn .given .0 .0 .retained)
+settled s =
+    let l = rw (s .before .before .before .before .before .before .before .before .before .turn .given .1) at (s .before .before .before .before .before .before .before .before .before .before .before .before .loop .inv .9) in
+    settled-more (s .before .before .before .before .before .before .before .before .before .turn .given .0 .0 .retained) (s .before .before .before .before .before .before .before .before .before .before .before .before .loop .inv .8) l (s .first-busy .ensures)
+
 expand-requires : tie.Need-expand-requires Inv-loop μ-loop
 expand-requires c κs =
-    let h = ready-spin (c .before .before .before .before .before .before .before .before .before .before .before .before .before .before .before .before .before .before .before .before .before .before .before .before .before .before .before .before .before .before .before .before .before .before .before .before .before .before .args .r) (roomy (c .before .before .before .before .before .before .before .before .before .before .before .before .before .before .before .before .before)) (c .before .before .before .before .before .before .before .before .before .before .before .before .before .before .before .before .before .before .feet-of2 .ensures) (c .before .before .before .before .before .before .before .before .before .before .before .before .before .before .before .before .before .begin .ensures) (c .before .before .before .before .before .before .before .before .before .before .before .before .before .before .before .before .before .begin .kept .0) (c .before .before .before .before .before .before .before .before .before .before .before .before .before .before .before .before .before .begin .kept .1 .0) in
-    let u = rw (c .before .before .before .before .before .before .before .before .before .turn .given .1) at (c .before .before .before .before .before .before .before .before .before .before .before .before .loop .inv .0) in
-    let x = entered (c .before .before .before .before .before) in
-    (ready-after h (u .near) (omega (arith, c .before .before .before .before .before .before .before .before .before .before .before .loop-test .taken)) (c .before .before .before .before .before .before .before .before .before .before .before .before .loop .inv .2) (c .before .before .before .before .before .before .before .before .before .before .before .before .loop .inv .3), ((c .before .before .before .before .before .before .before .before .before .before .before .before .before .before .before .before .before .before .before .before .before .before .before .before .before .feet-of .ensures, bounded (c .before .before .before .before .before .before .before .before .before .before .before .before .before .before .before .before .before)), (rw (c .before .before .before .before .before .extend .ensures .1, c .before .before .before .before .before .extend .ensures .0) (x .indexed), rw (c .before .before .before .before .before .extend .ensures .0) (x .most))))
+    let h = ready-spin (c .before .before .before .before .before .before .before .before .before .before .before .before .before .before .before .before .before .before .before .before .before .before .before .before .before .before .before .before .before .before .before .before .before .before .before .before .before .before .before .before .before .args .r) (roomy (c .before .before .before .before .before .before .before .before .before .before .before .before .before .before .before .before .before .before .before .before)) (c .before .before .before .before .before .before .before .before .before .before .before .before .before .before .before .before .before .before .before .before .before .feet-of2 .ensures) (c .before .before .before .before .before .before .before .before .before .before .before .before .before .before .before .before .before .before .before .before .begin .ensures) (c .before .before .before .before .before .before .before .before .before .before .before .before .before .before .before .before .before .before .before .before .begin .kept .0) (c .before .before .before .before .before .before .before .before .before .before .before .before .before .before .before .before .before .before .before .before .begin .kept .1 .0) in
+    let u = rw (c .before .before .before .before .before .before .before .before .before .before .before .before .turn .given .1) at (c .before .before .before .before .before .before .before .before .before .before .before .before .before .before .before .loop .inv .0) in
+    let x = entered (c .before .before .before .before .before .before .before .before) in
+    (ready-after h (u .near) (omega (arith, c .before .before .before .before .before .before .before .before .before .before .before .before .before .before .loop-test .taken)) (c .before .before .before .before .before .before .before .before .before .before .before .before .before .before .before .loop .inv .2) (c .before .before .before .before .before .before .before .before .before .before .before .before .before .before .before .loop .inv .3), ((c .before .before .before .before .before .before .before .before .before .before .before .before .before .before .before .before .before .before .before .before .before .before .before .before .before .before .before .before .feet-of .ensures, bounded (c .before .before .before .before .before .before .before .before .before .before .before .before .before .before .before .before .before .before .before .before)), (rw (c .before .before .before .before .before .before .before .before .extend .ensures .1, c .before .before .before .before .before .before .before .before .extend .ensures .0) (x .indexed), rw (c .before .before .before .before .before .before .before .before .extend .ensures .0) (x .most), settled (c .before .before .before) .0)))
 
 add-t : tie.Need-add-t Inv-loop μ-loop
-add-t c = omega (arith, c .before .before .before .before .before .before .before .before .before .before .before .before .before .before .before .before .loop-test .taken, roomy (c .before .before .before .before .before .before .before .before .before .before .before .before .before .before .before .before .before .before .before .before .before .before) .few)
+add-t c = omega (arith, c .before .before .before .before .before .before .before .before .before .before .before .before .before .before .before .before .before .before .before .loop-test .taken, roomy (c .before .before .before .before .before .before .before .before .before .before .before .before .before .before .before .before .before .before .before .before .before .before .before .before .before) .few)
 
 loop-less : tie.Need-loop-less Inv-loop μ-loop
-loop-less c = omega (arith, c .before .before .before .before .before .before .before .before .before .before .before .before .before .before .before .before .loop-test .taken)
+loop-less c = omega (arith, c .before .before .before .before .before .before .before .before .before .before .before .before .before .before .before .before .before .before .before .loop-test .taken)
 
 loop-again : tie.Need-loop-again Inv-loop μ-loop
 loop-again c =
-    let u = rw (c .before .before .before .before .before .before .before .before .before .before .before .before .before .before .turn .given .1) at (c .before .before .before .before .before .before .before .before .before .before .before .before .before .before .before .before .before .loop .inv .0) in
-    let x = entered (c .before .before .before .before .before .before .before .before .before .before) in
+    let u = rw (c .before .before .before .before .before .before .before .before .before .before .before .before .before .before .before .before .before .turn .given .1) at (c .before .before .before .before .before .before .before .before .before .before .before .before .before .before .before .before .before .before .before .before .loop .inv .0) in
+    let x = entered (c .before .before .before .before .before .before .before .before .before .before .before .before .before) in
     let e = c .before .before .before .before .expand .ensures in
-    let k = c .before .before .before .before .before .before .before .before .before .before .extend .ensures in
-    let m : c .before .before .before .before .before .before .before .before .before .before .extend .result ≤ c .before .before .before .before .before .before .before .before .before .before .before .before .before .before .turn .given .0 .0 .retained = rw (k .0) (x .most) in
-    (spun-next (c .before .before .before .before .before .before .before .before .before .before .before .before .before .before .before .before .before .loop .t) u e, omega (arith, c .before .before .before .before .before .before .before .before .before .before .before .before .before .before .before .before .loop-test .taken), c .before .before .before .before .expand .kept .1 .1 .1 .1 .1 .0 ∙ c .before .before .before .before .before .before .before .before .before .before .before .before .before .before .before .before .before .loop .inv .2, c .before .before .before .before .expand .kept .1 .1 .1 .1 .1 .1 .0 ∙ c .before .before .before .before .before .before .before .before .before .before .before .before .before .before .before .before .before .loop .inv .3, (λ i. omega (arith, c .before .before .slice-known9 .given i)),
-    c .before .before .before .before .before .before .before .before .before .before .extend .kept .0 ∙ c .before .before .before .before .before .before .before .before .before .before .before .before .before .before .before .before .before .loop .inv .5, indexed-same (λ i h. e .still .feet i (lt-of-lt-of-le h m)) (rw (k .1, k .0) (x .indexed)), le-trans m (e .near .more))
+    let k = c .before .before .before .before .before .before .before .before .before .before .before .before .before .extend .ensures in
+    let s = settled (c .before .before .before .before .before .before .before .before) in
+    let m : c .before .before .before .before .before .before .before .before .before .before .before .before .before .extend .result ≤ c .before .before .before .before .before .before .before .before .before .before .before .before .before .before .before .before .before .turn .given .0 .0 .retained = rw (k .0) (x .most) in
+    (spun-next (c .before .before .before .before .before .before .before .before .before .before .before .before .before .before .before .before .before .before .before .before .loop .t) u e, omega (arith, c .before .before .before .before .before .before .before .before .before .before .before .before .before .before .before .before .before .before .before .loop-test .taken), c .before .before .before .before .expand .kept .1 .1 .1 .1 .1 .0 ∙ c .before .before .before .before .before .before .before .before .before .before .before .before .before .before .before .before .before .before .before .before .loop .inv .2, c .before .before .before .before .expand .kept .1 .1 .1 .1 .1 .1 .0 ∙ c .before .before .before .before .before .before .before .before .before .before .before .before .before .before .before .before .before .before .before .before .loop .inv .3, (λ i. omega (arith, c .before .before .slice-known9 .given i)),
+    c .before .before .before .before .before .before .before .before .before .before .before .before .before .extend .kept .0 ∙ c .before .before .before .before .before .before .before .before .before .before .before .before .before .before .before .before .before .before .before .before .loop .inv .5, indexed-same (λ i h. e .still .feet i (lt-of-lt-of-le h m)) (rw (k .1, k .0) (x .indexed)), le-trans m (e .near .more),
+    settled-on (s .0) (s .1) (e .rest), le-trans (s .1) (e .near .more))
 
 zero-requires-2 : tie.Need-zero-requires-2 Inv-loop μ-loop
 zero-requires-2 c κs = tt
@@ -194,6 +206,7 @@ find-walk-path-spec =
     loop-holds
     enum-known-turn
     extend-requires
+    first-busy-requires
     expand-requires
     add-t
     loop-less

@@ -16,7 +16,7 @@ use Rattle.rooms.specs.Records.{nodeAt}
 use Rattle.rooms.specs.Scans.{nextOf}
 use Rattle.index.specs.Laws.{indexed-same}
 use Rattle.search.specs.Laws.Steps.{ready-after}
-use Rattle.search.specs.Laws.Turns.{is-closed, turned-rest, turned-at, turned-by, turned-going}
+use Rattle.search.specs.Laws.Turns.{is-closed, picked, turned-rest, turned-at, turned-by, turned-going}
 use Rattle.search.proofs.turns.expand.Statement.{statement}
 use Rattle.search.proofs.turns.expand.Tie as tie
 
@@ -32,7 +32,7 @@ same-length c = search needs
 returns : tie.Need-returns
 returns c =
     let s = c .before .before .before .before .before .before .before .before .before .before .before in
-    let h : s .args .c .retained ≤ nextOf (s .args .c .retained) (now (s .args .front)) = rw (← (c .before .before .pick .ensures)) (c .if1 .taken) in
+    let h : s .args .c .retained ≤ nextOf (s .args .c .retained) (now (s .args .front)) = rw (← (picked (s .args .c .retained) (s .pre .1 .1 .2) (c .before .before .pick .ensures))) (c .if1 .taken) in
     turned-rest (s .args .task .aim) (sp s) (s .args .task .r) (s .args .task .body) (s .args .c) (now (s .args .nodes)) (now (s .args .front)) (s .pre .0 .few) h
 
 close-requires : tie.Need-close-requires
@@ -54,7 +54,7 @@ returns-2 c =
     let k = closed .before .before .before .before .before .pick .result in
     let shut = is-closed (s .pre .0) (closed .before .before .before .if1 .left) (closed .close .ensures) in
     let i : samePoint (nodeAt (now (s .args .nodes)) k .feet) (s .args .task .aim .goal) ≡ true = rw (← (closed .close .ensures .node)) (sym (c .before .same-point .ensures) ∙ c .if2 .taken) in
-    turned-at (s .args .task .aim) (sp s) (s .args .task .r) (s .args .task .body) (s .args .c) (now (s .args .nodes)) (now (s .args .front)) (s .pre .1 .0 .0) k (closed .before .before .before .before .before .pick .ensures) (closed .before .before .before .if1 .left) shut i
+    turned-at (s .args .task .aim) (sp s) (s .args .task .r) (s .args .task .body) (s .args .c) (now (s .args .nodes)) (now (s .args .front)) (s .pre .1 .0 .0) k (picked (s .args .c .retained) (s .pre .1 .1 .2) (closed .before .before .before .before .before .pick .ensures)) (closed .before .before .before .if1 .left) shut i
 
 point-of-requires : tie.Need-point-of-requires
 point-of-requires c κs = tt
@@ -83,7 +83,7 @@ returns-3 c =
     let shut = is-closed (s .pre .0) (closed .before .before .before .if1 .left) (closed .close .ensures) in
     let i : samePoint (nodeAt (now (s .args .nodes)) k .feet) (s .args .task .aim .goal) ≡ false = rw (← n) (sym (c .before .before .before .before .before .before .before .same-point .ensures) ∙ c .before .before .before .before .before .before .if2 .left) in
     let j : To (c .before .before .way .given .0 .0) ≡ connector (sp s) (s .args .task .r) (s .args .task .body) (pointOf (nodeAt (now (s .args .nodes)) k .feet)) = rw (← n, ← (c .before .before .before .before .before .point-of .ensures)) (sym (c .before .before .way .given .1) ∙ one-edge _ _ (c .before .before .before .before .connector .ensures)) in
-    turned-by (s .args .task .aim) (sp s) (s .args .task .r) (s .args .task .body) (s .args .c) (now (s .args .nodes)) (now (s .args .front)) (s .pre .1 .0 .0) k (closed .before .before .before .before .before .pick .ensures) (closed .before .before .before .if1 .left) shut (c .label-of .result) (c .before .before .way .given .0 .0) i j (c .label-of .ensures)
+    turned-by (s .args .task .aim) (sp s) (s .args .task .r) (s .args .task .body) (s .args .c) (now (s .args .nodes)) (now (s .args .front)) (s .pre .1 .0 .0) k (picked (s .args .c .retained) (s .pre .1 .1 .2) (closed .before .before .before .before .before .pick .ensures)) (closed .before .before .before .if1 .left) shut (c .label-of .result) (c .before .before .way .given .0 .0) i j (c .label-of .ensures)
 
 enum-told : tie.Need-enum-told
 enum-told c = search needs
@@ -112,7 +112,7 @@ returns-4 c =
     let i : samePoint (nodeAt (now (s .args .nodes)) k .feet) (s .args .task .aim .goal) ≡ false = rw (← n) (sym (c .before .before .before .before .before .before .before .before .before .before .before .before .same-point .ensures) ∙ c .before .before .before .before .before .before .before .before .before .before .before .if2 .left) in
     let j : Nowhere ≡ connector (sp s) (s .args .task .r) (s .args .task .body) (pointOf (nodeAt (now (s .args .nodes)) k .feet)) = rw (← n, ← (c .before .before .before .before .before .before .before .before .before .before .point-of .ensures)) (sym (c .before .before .before .before .before .before .before .enum-told .given .1) ∙ one-edge _ _ (c .before .before .before .before .before .before .before .before .before .connector .ensures)) in
     let m : c .before .before .before .before .before .before .before .before .before .before .point-of .result ≡ pointOf (nodeAt (now (s .args .nodes)) k .feet) = rw (← n) (c .before .before .before .before .before .before .before .before .before .before .point-of .ensures) in
-    turned-going (s .args .task .aim) (sp s) (s .args .task .r) (s .args .task .body) (s .args .c) (now (s .args .nodes)) (now (s .args .front)) (s .pre .1 .0 .0) k (closed .before .before .before .before .before .pick .ensures) (closed .before .before .before .if1 .left) shut (record { number = k; node = closed .close .result .node; point = c .before .before .before .before .before .before .before .before .before .before .point-of .result }) (s .pre .1 .0 .1) i j refl n m (c .before .before .before .before .columns .ensures)
+    turned-going (s .args .task .aim) (sp s) (s .args .task .r) (s .args .task .body) (s .args .c) (now (s .args .nodes)) (now (s .args .front)) (s .pre .1 .0 .0) k (picked (s .args .c .retained) (s .pre .1 .1 .2) (closed .before .before .before .before .before .pick .ensures)) (closed .before .before .before .if1 .left) shut (record { number = k; node = closed .close .result .node; point = c .before .before .before .before .before .before .before .before .before .before .point-of .result }) (s .pre .1 .0 .1) i j refl n m (c .before .before .before .before .columns .ensures)
 
 pub expand-spec : {M : Type 1} → statement M
 expand-spec =
