@@ -9,10 +9,13 @@ use world::Point;
 pub fn intersects(a: Aabb, b: Aabb) -> bool
     ensures { λ r. ⌜ r ≡ meets a b ⌝ }
 {
+    // Of a cell's boxes most lie above or below an area: x and z of these are not worked out.
+    let level = (a.min.y < b.max.y) & (b.min.y < a.max.y);
+    if !level {
+        return false;
+    }
     (a.min.x < b.max.x)
         & (b.min.x < a.max.x)
-        & (a.min.y < b.max.y)
-        & (b.min.y < a.max.y)
         & (a.min.z < b.max.z)
         & (b.min.z < a.max.z)
 }

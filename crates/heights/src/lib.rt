@@ -32,12 +32,15 @@ pub enum Height {
 fn reaches_to(band: Band, x: f64, z: f64, b: Aabb) -> bool
     ensures { λ r. ⌜ r ≡ reaches band x z b ⌝ }
 {
+    // A column's boxes may be many, and those off the band are known by their top alone.
+    let level = (band.low - floats::E <= b.max.y) & (b.max.y <= band.high + floats::E);
+    if !level {
+        return false;
+    }
     (b.min.x <= x)
         & (x <= b.max.x)
         & (b.min.z <= z)
         & (z <= b.max.z)
-        & (band.low - floats::E <= b.max.y)
-        & (b.max.y <= band.high + floats::E)
 }
 
 // Whether a top is not within E of the last kept.

@@ -32,9 +32,13 @@ pub fn footprint(width: f64, from: Point, to: Point) -> Aabb
 fn counts(f: Aabb, b: Aabb) -> bool
     ensures { λ r. ⌜ r ≡ counts f b ⌝ }
 {
-    (f.min.y - floats::E <= b.max.y)
-        & (b.max.y <= f.max.y + floats::E)
-        & (b.min.x < f.max.x)
+    // Most shapes under a way lie lower: x and z of these are not worked out.
+    let level = (f.min.y - floats::E <= b.max.y)
+        & (b.max.y <= f.max.y + floats::E);
+    if !level {
+        return false;
+    }
+    (b.min.x < f.max.x)
         & (f.min.x < b.max.x)
         & (b.min.z < f.max.z)
         & (f.min.z < b.max.z)
