@@ -18,9 +18,6 @@ ghost use Rattle.visits.specs.Visits.{Ready};
 ghost use Rattle.index.specs.Indexed.{Indexed};
 ghost use Rattle.search.specs.Steps.{Stepped, Looked};
 
-// How many tops one pass over a column finds. A column of a good world has at most some two thousand (131 layers of 16 boxes), most have one or two.
-const TOPS: usize = 64;
-
 // Column n, where it is looked at: its heights upwards, by batches of its tops in a room for them. What that room held decides nothing: the first batch
 // counts as used up.
 fn column(
@@ -63,18 +60,18 @@ fn column(
 // The columns around a point, in order.
 pub(crate) fn columns(
     task: Task, cells: &[u8], perms: &[u8], shapes: &[u8], boxes: &[u8],
-    nodes: &mut [u8], front: &mut [u8], index: &[u8], known: usize, at: Place, c: Counts,
+    nodes: &mut [u8], front: &mut [u8], index: &[u8], known: usize, room: &mut [f64], at: Place, c: Counts,
 ) -> Counts
+    requires { ⌜ 0 < length (now room) ⌝ }
     requires { ⌜ Ready (now nodes) (now front) (task .aim .budget) (length (stepsFrom (space (task .w) (now cells) (now perms) (now shapes) (now boxes)) (task .r) (task .body) (at .point)) + 1) c × (at .number < c .retained) ⌝ }
     requires { ⌜ Indexed (now index) (now nodes) known × (known ≤ c .retained) ⌝ }
     ensures { λ a. ⌜ Stepped (task .aim) at (stepsFrom (space (task .w) (now (cells .entry)) (now (perms .entry)) (now (shapes .entry)) (now (boxes .entry))) (task .r) (task .body) (at .point)) c a (now (nodes .entry)) (now (front .entry)) (now (nodes .exit)) (now (front .exit)) ⌝ }
 {
     let sides = Sides::none();
     let mut gone = Around { counts: c, sides };
-    let mut room = [0.0; TOPS];
     let mut n: usize = 0;
     while n < 9 {
-        gone = column(task, cells, perms, shapes, boxes, nodes, front, index, known, &mut room, at, n, gone);
+        gone = column(task, cells, perms, shapes, boxes, nodes, front, index, known, room, at, n, gone);
         n += 1;
     }
     gone.counts

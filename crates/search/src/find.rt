@@ -13,6 +13,9 @@ ghost use lib.ListN.{length};
 ghost use Rattle.outcomes.specs.Outcomes.{answerGiven};
 ghost use Rattle.search.specs.FindWalkPath.{found, nodesAfter, frontAfter, indexAfter, outAfter};
 
+// How many tops one pass over a column finds. A column of a good world has at most some two thousand (131 layers of 16 boxes), most have one or two.
+const TOPS: usize = 256;
+
 // A way from the request's start to its goal, through the world of the tables: the list is written to `out`; `nodes`, `front` and `index` are the search's
 // rooms.
 pub fn find_walk_path(
@@ -36,6 +39,7 @@ pub fn find_walk_path(
     writes::zero(index); // what it held decides nothing
     let mut known: usize = 0;
     let mut low: usize = 0; // the nodes before it are at rest
+    let mut room = [0.0; TOPS];
     let mut turn = Turn::Going(visits::begin(nodes, front, budget, words::feet_of(r.start)));
     let mut t: usize = 0;
     while t < budget {
@@ -44,7 +48,7 @@ pub fn find_walk_path(
         };
         known = index::extend(index, nodes, known, c.retained);
         low = scans::first_busy(nodes, front, low, c.retained);
-        turn = expand(task, cells, perms, shapes, boxes, nodes, front, index, known, low, c);
+        turn = expand(task, cells, perms, shapes, boxes, nodes, front, index, known, low, &mut room, c);
         t += 1;
     }
     writes::zero(index);

@@ -6,7 +6,8 @@ use outcomes::Turn;
 use rooms::Counts;
 use strides::Place;
 ghost use mathlib.Core.Path.{_≡_};
-ghost use Prim.Native.Nat.{_+_, _≤_};
+ghost use Prim.Native.Nat.{_+_, _≤_, _<_};
+ghost use lib.ListN.{length};
 ghost use Rattle.world.specs.Space.{space};
 ghost use Rattle.words.specs.Words.{feetOf};
 ghost use Rattle.visits.specs.Visits.{Ready};
@@ -17,8 +18,9 @@ ghost use Rattle.search.specs.Turns.{mostSteps, Bounded, Settled, Turned
 // before `low` are at rest, so the next one is picked from `low` on: with 0, from all.
 pub(crate) fn expand(
     task: Task, cells: &[u8], perms: &[u8], shapes: &[u8], boxes: &[u8],
-    nodes: &mut [u8], front: &mut [u8], index: &[u8], known: usize, low: usize, c: Counts,
+    nodes: &mut [u8], front: &mut [u8], index: &[u8], known: usize, low: usize, room: &mut [f64], c: Counts,
 ) -> Turn
+    requires { ⌜ 0 < length (now room) ⌝ }
     requires { ⌜ Ready (now nodes) (now front) (task .aim .budget) (mostSteps + 2) c ⌝ }
     requires { ⌜ (task .aim .goal ≡ feetOf (task .r .goal)) × Bounded (space (task .w) (now cells) (now perms) (now shapes) (now boxes)) (task .r) (task .body) ⌝ }
     requires { ⌜ Indexed (now index) (now nodes) known × (known ≤ c .retained) × Settled (now nodes) (now front) low ⌝ }
@@ -40,6 +42,6 @@ pub(crate) fn expand(
         return Turn::By(shut, k, label);
     }
     let at = Place { number: k, node, point };
-    let counts = columns(task, cells, perms, shapes, boxes, nodes, front, index, known, at, shut);
+    let counts = columns(task, cells, perms, shapes, boxes, nodes, front, index, known, room, at, shut);
     Turn::Going(counts)
 }

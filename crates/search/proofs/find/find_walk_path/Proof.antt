@@ -10,7 +10,8 @@ use native.Mathlib.Nat.{le-trans, lt-of-lt-of-le}
 use borrow.Author.Needs.{needs}
 use denote.Enum.Declared.{tagOf}
 use denote.Ref.{now}
-use lib.ListN.{length, replicate}
+use lib.Ieee.{binary64, ofBits}
+use lib.ListN.{length, replicate, length-replicate}
 use types.Run.{OneOf}
 use Rattle.world.specs.Space.{space}
 use Rattle.fields.specs.Pieces.{Bytes}
@@ -37,13 +38,13 @@ use Rattle.search.proofs.find.find_walk_path.Statement.{statement}
 use Rattle.search.proofs.find.find_walk_path.Tie as tie
 
 abbrev Inv-loop : tie.InvT-loop
-Inv-loop cells perms shapes boxes nodes₀ front₀ index₀ out budget task known₀ low₀ turn₀ t₀ nodes front index known low turn t =
+Inv-loop cells perms shapes boxes nodes₀ front₀ index₀ out budget task known₀ low₀ room₀ turn₀ t₀ nodes front index known low room turn t =
     Spun (task .aim) (space (task .w) cells perms shapes boxes) (task .r) (task .body) (countsOf turn₀) t turn nodes₀ front₀ nodes front
     × (t ≤ budget) × (length nodes ≡ length nodes₀) × (length front ≡ length front₀) × Bytes nodes
-    × (length index ≡ length index₀) × Indexed index nodes known × (known ≤ countsOf turn .retained) × Settled nodes front low × (low ≤ countsOf turn .retained)
+    × (length index ≡ length index₀) × Indexed index nodes known × (known ≤ countsOf turn .retained) × Settled nodes front low × (low ≤ countsOf turn .retained) × (length room ≡ 256)
 
 abbrev μ-loop : tie.MeasureT-loop
-μ-loop cells perms shapes boxes nodes₀ front₀ index₀ out budget task known₀ low₀ turn₀ t₀ nodes front index known low turn t = budget - t
+μ-loop cells perms shapes boxes nodes₀ front₀ index₀ out budget task known₀ low₀ room₀ turn₀ t₀ nodes front index known low room turn t = budget - t
 
 -- a turn that is not `Going`
 ended : (t : Turn) → OneOf (0 ∷ 2 ∷ 3 ∷ []) (tagOf the-type t) → Ended t
@@ -101,7 +102,7 @@ loop-holds : tie.Need-loop-holds Inv-loop μ-loop
 loop-holds c =
     let h = ready-spin (c .before .before .before .before .before .before .before .before .before .before .before .before .before .before .before .before .before .before .before .before .before .before .before .before .before .args .r) (roomy (c .before .before .before .before)) (c .before .before .before .before .before .feet-of2 .ensures) (c .before .before .before .before .begin .ensures) (c .before .before .before .before .begin .kept .0) (c .before .before .before .before .begin .kept .1 .0) in
     (spun-none _ _ (h .few), omega arith, refl, refl, (λ i. omega (arith, c .before .before .slice-known6 .given i)),
-    refl, rw (c .before .before .before .before .before .before .before .before .before .before .zero .ensures) (indexed-none (c .before .before .before .before .begin .last .0) (zero-slots (length (now (c .before .before .before .before .before .before .before .before .before .before .before .before .before .before .before .before .before .before .before .before .before .before .before .before .before .args .index))))), omega arith, settled-none _ _, omega arith)
+    refl, rw (c .before .before .before .before .before .before .before .before .before .before .zero .ensures) (indexed-none (c .before .before .before .before .begin .last .0) (zero-slots (length (now (c .before .before .before .before .before .before .before .before .before .before .before .before .before .before .before .before .before .before .before .before .before .before .before .before .before .args .index))))), omega arith, settled-none _ _, omega arith, length-replicate 256 (ofBits binary64 0))
 
 enum-known-turn : tie.Need-enum-known-turn Inv-loop μ-loop
 enum-known-turn c = search needs
@@ -125,30 +126,33 @@ settled s =
     let l = rw (s .before .before .before .before .before .before .before .before .before .turn .given .1) at (s .before .before .before .before .before .before .before .before .before .before .before .before .loop .inv .9) in
     settled-more (s .before .before .before .before .before .before .before .before .before .turn .given .0 .0 .retained) (s .before .before .before .before .before .before .before .before .before .before .before .before .loop .inv .8) l (s .first-busy .ensures)
 
+slice-aggregate-expand : tie.Need-slice-aggregate-expand Inv-loop μ-loop
+slice-aggregate-expand c = search needs
+
 expand-requires : tie.Need-expand-requires Inv-loop μ-loop
 expand-requires c κs =
-    let h = ready-spin (c .before .before .before .before .before .before .before .before .before .before .before .before .before .before .before .before .before .before .before .before .before .before .before .before .before .before .before .before .before .before .before .before .before .before .before .before .before .before .before .before .before .args .r) (roomy (c .before .before .before .before .before .before .before .before .before .before .before .before .before .before .before .before .before .before .before .before)) (c .before .before .before .before .before .before .before .before .before .before .before .before .before .before .before .before .before .before .before .before .before .feet-of2 .ensures) (c .before .before .before .before .before .before .before .before .before .before .before .before .before .before .before .before .before .before .before .before .begin .ensures) (c .before .before .before .before .before .before .before .before .before .before .before .before .before .before .before .before .before .before .before .before .begin .kept .0) (c .before .before .before .before .before .before .before .before .before .before .before .before .before .before .before .before .before .before .before .before .begin .kept .1 .0) in
-    let u = rw (c .before .before .before .before .before .before .before .before .before .before .before .before .turn .given .1) at (c .before .before .before .before .before .before .before .before .before .before .before .before .before .before .before .loop .inv .0) in
-    let x = entered (c .before .before .before .before .before .before .before .before) in
-    (ready-after h (u .near) (omega (arith, c .before .before .before .before .before .before .before .before .before .before .before .before .before .before .loop-test .taken)) (c .before .before .before .before .before .before .before .before .before .before .before .before .before .before .before .loop .inv .2) (c .before .before .before .before .before .before .before .before .before .before .before .before .before .before .before .loop .inv .3), ((c .before .before .before .before .before .before .before .before .before .before .before .before .before .before .before .before .before .before .before .before .before .before .before .before .before .before .before .before .feet-of .ensures, bounded (c .before .before .before .before .before .before .before .before .before .before .before .before .before .before .before .before .before .before .before .before)), (rw (c .before .before .before .before .before .before .before .before .extend .ensures .1, c .before .before .before .before .before .before .before .before .extend .ensures .0) (x .indexed), rw (c .before .before .before .before .before .before .before .before .extend .ensures .0) (x .most), settled (c .before .before .before) .0)))
+    let h = ready-spin (c .before .before .before .before .before .before .before .before .before .before .before .before .before .before .before .before .before .before .before .before .before .before .before .before .before .before .before .before .before .before .before .before .before .before .before .before .before .before .before .before .before .before .args .r) (roomy (c .before .before .before .before .before .before .before .before .before .before .before .before .before .before .before .before .before .before .before .before .before)) (c .before .before .before .before .before .before .before .before .before .before .before .before .before .before .before .before .before .before .before .before .before .before .feet-of2 .ensures) (c .before .before .before .before .before .before .before .before .before .before .before .before .before .before .before .before .before .before .before .before .before .begin .ensures) (c .before .before .before .before .before .before .before .before .before .before .before .before .before .before .before .before .before .before .before .before .before .begin .kept .0) (c .before .before .before .before .before .before .before .before .before .before .before .before .before .before .before .before .before .before .before .before .before .begin .kept .1 .0) in
+    let u = rw (c .before .before .before .before .before .before .before .before .before .before .before .before .before .turn .given .1) at (c .before .before .before .before .before .before .before .before .before .before .before .before .before .before .before .before .loop .inv .0) in
+    let x = entered (c .before .before .before .before .before .before .before .before .before) in
+    (omega (arith, c .before .before .before .before .before .before .before .before .before .before .before .before .before .before .before .before .loop .inv .10), (ready-after h (u .near) (omega (arith, c .before .before .before .before .before .before .before .before .before .before .before .before .before .before .before .loop-test .taken)) (c .before .before .before .before .before .before .before .before .before .before .before .before .before .before .before .before .loop .inv .2) (c .before .before .before .before .before .before .before .before .before .before .before .before .before .before .before .before .loop .inv .3), ((c .before .before .before .before .before .before .before .before .before .before .before .before .before .before .before .before .before .before .before .before .before .before .before .before .before .before .before .before .before .feet-of .ensures, bounded (c .before .before .before .before .before .before .before .before .before .before .before .before .before .before .before .before .before .before .before .before .before)), (rw (c .before .before .before .before .before .before .before .before .before .extend .ensures .1, c .before .before .before .before .before .before .before .before .before .extend .ensures .0) (x .indexed), rw (c .before .before .before .before .before .before .before .before .before .extend .ensures .0) (x .most), settled (c .before .before .before .before) .0))))
 
 add-t : tie.Need-add-t Inv-loop μ-loop
-add-t c = omega (arith, c .before .before .before .before .before .before .before .before .before .before .before .before .before .before .before .before .before .before .before .loop-test .taken, roomy (c .before .before .before .before .before .before .before .before .before .before .before .before .before .before .before .before .before .before .before .before .before .before .before .before .before) .few)
+add-t c = omega (arith, c .before .before .before .before .before .before .before .before .before .before .before .before .before .before .before .before .before .before .before .before .before .loop-test .taken, roomy (c .before .before .before .before .before .before .before .before .before .before .before .before .before .before .before .before .before .before .before .before .before .before .before .before .before .before .before) .few)
 
 loop-less : tie.Need-loop-less Inv-loop μ-loop
-loop-less c = omega (arith, c .before .before .before .before .before .before .before .before .before .before .before .before .before .before .before .before .before .before .before .loop-test .taken)
+loop-less c = omega (arith, c .before .before .before .before .before .before .before .before .before .before .before .before .before .before .before .before .before .before .before .before .before .loop-test .taken)
 
 loop-again : tie.Need-loop-again Inv-loop μ-loop
 loop-again c =
-    let u = rw (c .before .before .before .before .before .before .before .before .before .before .before .before .before .before .before .before .before .turn .given .1) at (c .before .before .before .before .before .before .before .before .before .before .before .before .before .before .before .before .before .before .before .before .loop .inv .0) in
-    let x = entered (c .before .before .before .before .before .before .before .before .before .before .before .before .before) in
-    let e = c .before .before .before .before .expand .ensures in
-    let k = c .before .before .before .before .before .before .before .before .before .before .before .before .before .extend .ensures in
-    let s = settled (c .before .before .before .before .before .before .before .before) in
-    let m : c .before .before .before .before .before .before .before .before .before .before .before .before .before .extend .result ≤ c .before .before .before .before .before .before .before .before .before .before .before .before .before .before .before .before .before .turn .given .0 .0 .retained = rw (k .0) (x .most) in
-    (spun-next (c .before .before .before .before .before .before .before .before .before .before .before .before .before .before .before .before .before .before .before .before .loop .t) u e, omega (arith, c .before .before .before .before .before .before .before .before .before .before .before .before .before .before .before .before .before .before .before .loop-test .taken), c .before .before .before .before .expand .kept .1 .1 .1 .1 .1 .0 ∙ c .before .before .before .before .before .before .before .before .before .before .before .before .before .before .before .before .before .before .before .before .loop .inv .2, c .before .before .before .before .expand .kept .1 .1 .1 .1 .1 .1 .0 ∙ c .before .before .before .before .before .before .before .before .before .before .before .before .before .before .before .before .before .before .before .before .loop .inv .3, (λ i. omega (arith, c .before .before .slice-known9 .given i)),
-    c .before .before .before .before .before .before .before .before .before .before .before .before .before .extend .kept .0 ∙ c .before .before .before .before .before .before .before .before .before .before .before .before .before .before .before .before .before .before .before .before .loop .inv .5, indexed-same (λ i h. e .still .feet i (lt-of-lt-of-le h m)) (rw (k .1, k .0) (x .indexed)), le-trans m (e .near .more),
-    settled-on (s .0) (s .1) (e .rest), le-trans (s .1) (e .near .more))
+    let u = rw (c .before .before .before .before .before .before .before .before .before .before .before .before .before .before .before .before .before .before .before .turn .given .1) at (c .before .before .before .before .before .before .before .before .before .before .before .before .before .before .before .before .before .before .before .before .before .before .loop .inv .0) in
+    let x = entered (c .before .before .before .before .before .before .before .before .before .before .before .before .before .before .before) in
+    let e = c .before .before .before .before .before .expand .ensures in
+    let k = c .before .before .before .before .before .before .before .before .before .before .before .before .before .before .before .extend .ensures in
+    let s = settled (c .before .before .before .before .before .before .before .before .before .before) in
+    let m : c .before .before .before .before .before .before .before .before .before .before .before .before .before .before .before .extend .result ≤ c .before .before .before .before .before .before .before .before .before .before .before .before .before .before .before .before .before .before .before .turn .given .0 .0 .retained = rw (k .0) (x .most) in
+    (spun-next (c .before .before .before .before .before .before .before .before .before .before .before .before .before .before .before .before .before .before .before .before .before .before .loop .t) u e, omega (arith, c .before .before .before .before .before .before .before .before .before .before .before .before .before .before .before .before .before .before .before .before .before .loop-test .taken), c .before .before .before .before .before .expand .kept .1 .1 .1 .1 .1 .0 ∙ c .before .before .before .before .before .before .before .before .before .before .before .before .before .before .before .before .before .before .before .before .before .before .loop .inv .2, c .before .before .before .before .before .expand .kept .1 .1 .1 .1 .1 .1 .0 ∙ c .before .before .before .before .before .before .before .before .before .before .before .before .before .before .before .before .before .before .before .before .before .before .loop .inv .3, (λ i. omega (arith, c .before .before .before .slice-known9 .given i)),
+    c .before .before .before .before .before .before .before .before .before .before .before .before .before .before .before .extend .kept .0 ∙ c .before .before .before .before .before .before .before .before .before .before .before .before .before .before .before .before .before .before .before .before .before .before .loop .inv .5, indexed-same (λ i h. e .still .feet i (lt-of-lt-of-le h m)) (rw (k .1, k .0) (x .indexed)), le-trans m (e .near .more),
+    settled-on (s .0) (s .1) (e .rest), le-trans (s .1) (e .near .more), c .before .before .before .before .before .expand .kept .1 .1 .1 .1 .1 .1 .1 .1 .1 .1 .0 ∙ c .before .before .before .before .before .before .before .before .before .before .before .before .before .before .before .before .before .before .before .before .before .before .loop .inv .10)
 
 zero-requires-2 : tie.Need-zero-requires-2 Inv-loop μ-loop
 zero-requires-2 c κs = tt
@@ -207,6 +211,7 @@ find-walk-path-spec =
     enum-known-turn
     extend-requires
     first-busy-requires
+    slice-aggregate-expand
     expand-requires
     add-t
     loop-less
