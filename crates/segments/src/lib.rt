@@ -1,8 +1,9 @@
 // Supported segments (01, The graph): whether what lies under the way from one point to another carries a body.
 //
-// There is no list to gather intervals in. So the shapes under the footprint are passed over as often as the part of the centre line that is covered
-// grows. The first pass sees every shape, and so any that refuses. `pass` has the loop over the cells; one shape, and the definitions, are the crate
-// `support`.
+// The shapes under the footprint are passed over as often as the part of the centre line that is covered grows. The first pass sees every shape, and so any
+// that refuses. `pass` has the loop over the cells; one shape, and the definitions, are the crate `support`. Where passes are many, because the boxes come in
+// another order than the way, `far` joins many of them in one.
+mod far;
 mod pass;
 
 ghost use mathlib.Core.Path.{_≡_};
@@ -13,6 +14,9 @@ use regions::Region;
 use support::Way;
 use world::Point;
 use world::Window;
+
+// So many passes are made before parts that lie further ahead are gathered. Of nearly all ways two are enough.
+const PATIENCE: u8 = 8;
 
 // Passes over the shapes under a way, as long as they cover more of it.
 fn carries(
@@ -27,6 +31,7 @@ fn carries(
     ensures { λ r. ⌜ r ≡ carried (way .under) (way .from) (way .to) (shapesAt (space w (now (cells .entry)) (now (perms .entry)) (now (shapes .entry)) (now (boxes .entry))) (cellsOf region)) ⌝ }
 {
     let mut covered = 0.0;
+    let mut passes: u8 = 0;
     loop {
         let reach = pass::reach_all(w, cells, perms, shapes, boxes, way, region, covered);
         let enough = 1.0 - floats::E <= reach.to;
@@ -34,6 +39,11 @@ fn carries(
             return enough & !reach.refused;
         }
         covered = reach.to;
+        if passes < PATIENCE {
+            passes += 1;
+        } else {
+            covered = far::join_far(w, cells, perms, shapes, boxes, way, region, covered);
+        }
     }
 }
 

@@ -24,7 +24,7 @@ one-covers {is} {c} i m h = go (joins c i) refl
     go true e = joint h m e
     go false e = h
 
-round-covers : (is js : List Interval) (c : Float) → ((i : Interval) → List·Memᴰ i js → List·Memᴰ i is) → CoversTo is c → CoversTo is (round c js)
+pub round-covers : (is js : List Interval) (c : Float) → ((i : Interval) → List·Memᴰ i js → List·Memᴰ i is) → CoversTo is c → CoversTo is (round c js)
 unfolding round
 round-covers is [] c f h = h
 round-covers is (j ∷ js) c f h = round-covers is js (reachOne c j) (λ i m. f i (List·Memᴰ·tail m)) (one-covers j (f j (List·Memᴰ·head refl)) h)
@@ -66,7 +66,7 @@ ends-within c i e p = go (lt c (i .end)) refl
 
 -- ---- what is covered is reached by rounds
 
-not-below : {is : List Interval} {c : Float} → CoversTo is c → le nought c ≡ true
+pub not-below : {is : List Interval} {c : Float} → CoversTo is c → le nought c ≡ true
 unfolding larger
 not-below nothing = le-refl nought (unfold isNan ofBits in refl)
 not-below (joint {c} {i} h m p) = go (not-below h) (lt c (i .end)) refl
@@ -76,7 +76,7 @@ not-below (joint {c} {i} h m p) = go (not-below h) (lt c (i .end)) refl
     go a false q = a
 
 module _ (is : List Interval) (l : Float) (fixed : round l is ≡ l) (low : le nought l ≡ true) where
-  within : {c : Float} → CoversTo is c → le c l ≡ true
+  pub within : {c : Float} → CoversTo is c → le c l ≡ true
   unfolding larger joins
   within nothing = low
   within (joint {c} {i} h m p) = go (within h) (lt c (i .end)) refl

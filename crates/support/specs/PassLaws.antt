@@ -1,7 +1,7 @@
 -- A pass over the shapes is a round over the intervals of those that count, unless one refuses; and what the loops of a pass go by.
 use Prim.Native.Nat.{ℕ, _+_, _-_, _*_, _≤_, _<_}
 use native.Mathlib.Omega.{arith}
-use mathlib.Core.Path.{_≡_, refl, sym, ap, _∙_}
+use mathlib.Core.Path.{_≡_, refl, sym, ap, _∙_, subst}
 use mathlib.Core.Bool.{Bool, true, false, not, _&&_, _||_, cond}
 use mathlib.Core.Option.{Option, none, some}
 use mathlib.Core.List.{List, [], _∷_, foldl-append}
@@ -9,6 +9,7 @@ use lib.Dec.{ltb}
 use lib.ListN.{drop}
 use lib.Ieee.{Float, binary64, lt, le, add}
 use Rattle.floats.specs.Floats.{E, nought, larger}
+use Rattle.floats.specs.Order.{false-true, le-trans}
 use Rattle.regions.specs.RangeLaws.{fold-stays}
 use Rattle.regions.specs.RegionLaws.{toCome, ended}
 use Rattle.regions.specs.declared.Region.{Region}
@@ -24,8 +25,9 @@ use Rattle.world.specs.Space.{Space, boxHere, blockOf}
 use Rattle.support.specs.declared.Interval.{Interval}
 use Rattle.support.specs.declared.Reach.{Reach}
 use Rattle.support.specs.declared.Way.{Way}
-use Rattle.support.specs.Cover.{joins, reachOne, round, enough}
-use Rattle.support.specs.Rounds.{beyond, limit, begins, falls, goes-on, ends-short, ends-enough}
+use Rattle.support.specs.Cover.{joins, reachOne, round, enough, covers, CoversTo}
+use Rattle.support.specs.Rounds.{beyond, falls, stands}
+use Rattle.support.specs.Laws.{round-covers, not-below, within, covers-sound, covers-complete}
 use Rattle.support.specs.Support.{Shape, counts, interval, counting, ahead, intervals, allSupport, carried, shapesOf, shapesAt}
 use Rattle.support.specs.Pass.{reachBy, reached, step, pass, runShapes}
 
@@ -196,10 +198,7 @@ module _ (w : Way) (sp : Space) where
 -- ---- passes, as long as they cover more
 
 module _ (w : Way) (ss : List Shape) where
-  -- what is decided when c is covered, and how many intervals end beyond c
-  abbrev pub verdict : Float → Bool
-  verdict c = firm w ss && enough (limit (found w ss) c)
-
+  -- how many intervals end beyond c
   abbrev pub left : Float → ℕ
   left c = beyond c (found w ss)
 
@@ -222,30 +221,47 @@ module _ (w : Way) (ss : List Shape) where
         go true p q = (p, cc)
         go false p q = absurd (let z : _≡_ {A = ℕ} 0 1 = cc in omega arith)
 
-    refused-verdict : d .refused ≡ true → verdict c ≡ false
-    refused-verdict h = rw (told-refused h)
-
     more : d .refused ≡ false → lt c (d .to) ≡ true → lt c (round c (found w ss)) ≡ true
     more h k = ap (lt c) (told-to h .1) ∙ k
 
-    enough-verdict : d .refused ≡ false → enough (d .to) ≡ true → verdict c ≡ true
-    enough-verdict h k = rw (told-to h .0) (ends-enough (found w ss) c (ap enough (told-to h .1) ∙ k))
+    -- what a pass reaches is covered, where what it began with is
+    reaches-covered : d .refused ≡ false → CoversTo (found w ss) c → CoversTo (found w ss) (d .to)
+    reaches-covered h cov = subst (CoversTo (found w ss)) (told-to h .1) (round-covers (found w ss) (found w ss) c (λ i m. m) cov)
 
-    short-verdict : d .refused ≡ false → enough (d .to) ≡ false → lt c (d .to) ≡ false → verdict c ≡ false
-    short-verdict h k l = rw (told-to h .0) (ends-short (found w ss) c (ap enough (told-to h .1) ∙ k) (ap (lt c) (told-to h .1) ∙ l))
+    refused-not : d .refused ≡ true → carried (w .under) (w .from) (w .to) ss ≡ false
+    unfolding carried
+    refused-not h = rw (told-refused h)
+
+    enough-carried : d .refused ≡ false → enough (d .to) ≡ true → CoversTo (found w ss) c → carried (w .under) (w .from) (w .to) ss ≡ true
+    unfolding carried
+    enough-carried h k cov = rw (told-to h .0) (covers-complete (found w ss) (d .to, reaches-covered h cov, k))
+
+    -- where nothing is covered further, nothing more can be
+    short-not : d .refused ≡ false → enough (d .to) ≡ false → lt c (d .to) ≡ false → CoversTo (found w ss) c → carried (w .under) (w .from) (w .to) ss ≡ false
+    unfolding carried enough
+    short-not h k l cov = rw (told-to h .0) (go (covers (found w ss)) refl)
+      where
+        fixed : round c (found w ss) ≡ c
+        fixed = stands (found w ss) c (ap (lt c) (told-to h .1) ∙ l)
+
+        go : (b : Bool) → covers (found w ss) ≡ b → b ≡ false
+        go false e = refl
+        go true e =
+            let x = covers-sound (found w ss) e in
+            false-true (sym k ∙ ap enough (sym (told-to h .1) ∙ fixed) ∙ le-trans _ (x .0) c (x .2) (within (found w ss) c fixed (not-below cov) (x .1)))
 
     -- the test of the code: whether this pass is the last
     abbrev pub last : Bool
     last = (d .refused || enough (d .to)) || not (lt c (d .to))
 
-    pub carried-ends : last ≡ true → verdict c ≡ enough (d .to) && not (d .refused)
-    carried-ends t = go (d .refused) refl (enough (d .to)) refl (lt c (d .to)) refl t
+    pub carried-ends : last ≡ true → CoversTo (found w ss) c → carried (w .under) (w .from) (w .to) ss ≡ enough (d .to) && not (d .refused)
+    carried-ends t cov = go (d .refused) refl (enough (d .to)) refl (lt c (d .to)) refl t
       where
-        go : (r : Bool) → d .refused ≡ r → (s : Bool) → enough (d .to) ≡ s → (l : Bool) → lt c (d .to) ≡ l → ((r || s) || not l) ≡ true → verdict c ≡ s && not r
-        go true p true q l k t = refused-verdict p
-        go true p false q l k t = refused-verdict p
-        go false p true q l k t = enough-verdict p q
-        go false p false q false k t = short-verdict p q k
+        go : (r : Bool) → d .refused ≡ r → (s : Bool) → enough (d .to) ≡ s → (l : Bool) → lt c (d .to) ≡ l → ((r || s) || not l) ≡ true → carried (w .under) (w .from) (w .to) ss ≡ s && not r
+        go true p true q l k t = refused-not p
+        go true p false q l k t = refused-not p
+        go false p true q l k t = enough-carried p q cov
+        go false p false q false k t = short-not p q k cov
         go false p false q true k t = cc
 
     goes-further : last ≡ false → (d .refused ≡ false) × (lt c (d .to) ≡ true)
@@ -257,15 +273,8 @@ module _ (w : Way) (ss : List Shape) where
         go false p false true k t = (p, k)
         go false p false false k t = absurd (let z : _≡_ {A = ℕ} 0 1 = cc in omega arith)
 
-    pub carried-on : last ≡ false → verdict c ≡ verdict (d .to)
-    carried-on t =
-        let h = goes-further t .0 in
-        let k = goes-further t .1 in
-        ap (λ (b : Bool). firm w ss && b) (goes-on (found w ss) c (more h k) ∙ ap (λ (x : Float). enough (limit (found w ss) x)) (told-to h .1))
+    pub covered-on : last ≡ false → CoversTo (found w ss) c → CoversTo (found w ss) (d .to)
+    covered-on t cov = reaches-covered (goes-further t .0) cov
 
     pub carried-falls : last ≡ false → left (d .to) < left c
     carried-falls t = let h = goes-further t .0 in let k = goes-further t .1 in rw (told-to h .1) at (falls (found w ss) c (more h k))
-
-  pub carried-begins : carried (w .under) (w .from) (w .to) ss ≡ verdict nought
-  unfolding carried
-  carried-begins = ap (λ (b : Bool). firm w ss && b) (begins (found w ss))

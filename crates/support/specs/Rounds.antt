@@ -7,11 +7,18 @@ use mathlib.Core.Bool.{Bool, true, false, cond}
 use mathlib.Core.Logic.{_⊎_, inl, inr}
 use mathlib.Core.List.{List, [], _∷_, List·Memᴰ, List·Memᴰ·head, List·Memᴰ·tail}
 use lib.ListN.{length}
-use lib.Ieee.{Float, lt}
+use lib.Ieee.{Float, lt, le}
 use Rattle.floats.specs.Floats.{nought, larger}
-use Rattle.floats.specs.Order.{false-true, lt-trans, lt-irrefl, le-trans, lt-le}
+use Rattle.floats.specs.Order.{false-true, lt-trans, lt-irrefl, lt-le, lt-right, le-left, not-lt, le-trans, le-not-lt}
 use Rattle.support.specs.declared.Interval.{Interval}
-use Rattle.support.specs.Cover.{joins, enough, reachOne, round, rounds, covers}
+use Rattle.support.specs.Cover.{joins, reachOne, round, rounds}
+
+le-lt-trans : (x y z : Float) → le x y ≡ true → lt y z ≡ true → lt x z ≡ true
+le-lt-trans x y z h k = go (lt x z) refl
+  where
+    go : (b : Bool) → lt x z ≡ b → b ≡ true
+    go true e = refl
+    go false e = false-true (sym (le-not-lt z y (le-trans z x y (not-lt x z (le-left x y h) (lt-right y z k) e) h)) ∙ k)
 
 pub never : {X : Type 0} (c : Float) → lt c c ≡ true → X
 never c h = false-true (sym (lt-irrefl c) ∙ h)
@@ -47,24 +54,25 @@ beyond-some c (i ∷ is) = go (lt c (i .end)) (beyond-some c is)
     go true h = omega arith
     go false h = omega arith
 
-module _ (c d : Float) (h : lt c d ≡ true) where
-  beyond-no-more : (is : List Interval) → beyond d is ≤ beyond c is
-  unfolding beyond
-  beyond-no-more [] = omega arith
-  beyond-no-more (i ∷ is) = go (beyond-no-more is) (lt d (i .end)) refl (lt c (i .end)) refl
-    where
-      go : beyond d is ≤ beyond c is → (s : Bool) → lt d (i .end) ≡ s → (t : Bool) → lt c (i .end) ≡ t →
-          cond s (suc (beyond d is)) (beyond d is) ≤ cond t (suc (beyond c is)) (beyond c is)
-      go k true p true q = omega arith
-      go k true p false q = false-true (sym q ∙ lt-trans c d (i .end) h p)
-      go k false p true q = omega arith
-      go k false p false q = k
+-- what is covered further leaves no more beyond
+pub beyond-less : (c d : Float) → le c d ≡ true → (is : List Interval) → beyond d is ≤ beyond c is
+unfolding beyond
+beyond-less c d h [] = omega arith
+beyond-less c d h (i ∷ is) = go (beyond-less c d h is) (lt d (i .end)) refl (lt c (i .end)) refl
+  where
+    go : beyond d is ≤ beyond c is → (s : Bool) → lt d (i .end) ≡ s → (t : Bool) → lt c (i .end) ≡ t →
+        cond s (suc (beyond d is)) (beyond d is) ≤ cond t (suc (beyond c is)) (beyond c is)
+    go k true p true q = omega arith
+    go k true p false q = false-true (sym q ∙ le-lt-trans c d (i .end) h p)
+    go k false p true q = omega arith
+    go k false p false q = k
 
+module _ (c d : Float) (h : lt c d ≡ true) where
   beyond-fewer : (is : List Interval) (i : Interval) → List·Memᴰ i is → i .end ≡ d → beyond d is < beyond c is
   unfolding beyond
   beyond-fewer (j ∷ is) i (List·Memᴰ·head e) q =
       let z : j .end ≡ d = sym (ap (λ (k : Interval). k .end) e) ∙ q in
-      rw (z, lt-irrefl d, h) (omega (arith, beyond-no-more is))
+      rw (z, lt-irrefl d, h) (omega (arith, beyond-less c d (lt-le c d h) is))
   beyond-fewer (j ∷ is) i (List·Memᴰ·tail m) q = go (beyond-fewer is i m q) (lt d (j .end)) refl (lt c (j .end)) refl
     where
       go : beyond d is < beyond c is → (s : Bool) → lt d (j .end) ≡ s → (t : Bool) → lt c (j .end) ≡ t →
@@ -136,33 +144,7 @@ module _ (is : List Interval) where
       go (inl e) f = settled c e (suc n) ∙ sym (settled c e (suc m))
       go (inr g) f = f (omega (arith, g .1)) (omega (arith, g .1))
 
-  -- where all rounds lead to
-  abbrev pub limit : Float → Float
-  limit c = rounds (beyond c is) c is
-
-  one-less : (c : Float) (n : ℕ) → beyond (round c is) is < n → rounds n c is ≡ limit (round c is)
-  unfolding rounds
-  one-less c zero h = absurd (omega arith)
-  one-less c (suc n) h = many n (beyond (round c is) is) (round c is) (omega arith) (omega arith)
-
-  enough-round : (c : Float) → enough c ≡ true → enough (round c is) ≡ true
-  unfolding enough
-  enough-round c h = go (turned c is)
-    where
-      go : Turned c is (round c is) → enough (round c is) ≡ true
-      go (inl e) = rw e h
-      go (inr g) = le-trans _ c (round c is) h (lt-le c (round c is) (g .0))
-
-  enough-rounds : (n : ℕ) (c : Float) → enough c ≡ true → enough (rounds n c is) ≡ true
-  unfolding rounds
-  enough-rounds zero c h = h
-  enough-rounds (suc n) c h = enough-rounds n (round c is) (enough-round c h)
-
-  -- ---- what a loop goes by: it begins at 0, goes on where a round grows, and ends where enough is covered, or where nothing grew
-
-  pub begins : covers is ≡ enough (limit nought)
-  unfolding covers
-  begins = ap enough (many (length is) (beyond nought is) nought (beyond-some nought is) (omega arith))
+  -- ---- what a loop goes by: each round that grows leaves fewer beyond, and one that does not leaves what is covered
 
   pub falls : (c : Float) → lt c (round c is) ≡ true → beyond (round c is) is < beyond c is
   falls c h = go (turned c is)
@@ -171,19 +153,9 @@ module _ (is : List Interval) where
       go (inl e) = never c (rw e at h)
       go (inr g) = g .1
 
-  pub goes-on : (c : Float) → lt c (round c is) ≡ true → enough (limit c) ≡ enough (limit (round c is))
-  goes-on c h = ap enough (one-less c (beyond c is) (falls c h))
-
-  pub ends-short : (c : Float) → enough (round c is) ≡ false → lt c (round c is) ≡ false → enough (limit c) ≡ false
-  ends-short c h k = go (turned c is)
+  pub stands : (c : Float) → lt c (round c is) ≡ false → round c is ≡ c
+  stands c k = go (turned c is)
     where
-      go : Turned c is (round c is) → enough (limit c) ≡ false
-      go (inl e) = rw (settled c e (beyond c is)) (rw e at h)
+      go : Turned c is (round c is) → round c is ≡ c
+      go (inl e) = e
       go (inr g) = false-true (sym k ∙ g .0)
-
-  pub ends-enough : (c : Float) → enough (round c is) ≡ true → enough (limit c) ≡ true
-  ends-enough c h = go (turned c is)
-    where
-      go : Turned c is (round c is) → enough (limit c) ≡ true
-      go (inl e) = rw (settled c e (beyond c is)) (rw e at h)
-      go (inr g) = rw (one-less c (beyond c is) (g .1)) (enough-rounds (beyond (round c is) is) (round c is) h)

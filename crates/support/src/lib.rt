@@ -5,6 +5,7 @@ mod line;
 mod shape;
 
 pub use shape::footprint;
+pub use shape::part_over;
 pub use shape::reach_shape;
 use world::Aabb;
 use world::Point;

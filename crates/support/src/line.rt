@@ -25,23 +25,35 @@ fn narrow(start: f64, delta: f64, least: f64, greatest: f64, i: Interval) -> Spa
     })
 }
 
-// What is covered with the part of the centre line above a box, where that begins at most E behind what was.
-pub(crate) fn reach_over(b: Aabb, from: Point, to: Point, covered: f64) -> f64
-    ensures { λ r. ⌜ r ≡ reachBy covered (interval b from to) ⌝ }
+// The part of the centre line above a box: in x, then in z. One that begins behind its end is none.
+pub(crate) fn span_over(b: Aabb, from: Point, to: Point) -> Span
+    ensures { λ r. ⌜ told r ≡ interval b from to ⌝ }
 {
     let all = Interval {
         begin: 0.0,
         end: 1.0,
     };
     let Span::Over(i) = narrow(from.x, to.x - from.x, b.min.x, b.max.x, all) else {
-        return covered;
+        return Span::Nowhere;
     };
     let Span::Over(j) = narrow(from.z, to.z - from.z, b.min.z, b.max.z, i) else {
+        return Span::Nowhere;
+    };
+    if j.begin <= j.end {
+        return Span::Over(j);
+    }
+    Span::Nowhere
+}
+
+// What is covered with the part of the centre line above a box, where that begins at most E behind what was.
+pub(crate) fn reach_over(b: Aabb, from: Point, to: Point, covered: f64) -> f64
+    ensures { λ r. ⌜ r ≡ reachBy covered (interval b from to) ⌝ }
+{
+    let Span::Over(i) = span_over(b, from, to) else {
         return covered;
     };
-    if (j.begin <= j.end) & (j.begin <= covered + floats::E) {
-        floats::max(j.end, covered)
-    } else {
-        covered
+    if i.begin <= covered + floats::E {
+        return floats::max(i.end, covered);
     }
+    covered
 }

@@ -1,9 +1,12 @@
 // What one shape does to a way (01, The graph, supported segments): the footprint that it must lie under, whether it counts, and how far it covers the centre line, of what is covered
 // so far. A shape that counts and is no support refuses the way.
 ghost use mathlib.Core.Path.{_≡_};
-ghost use Rattle.support.specs.Support.{footprint, counts};
+ghost use mathlib.Core.Bool.{cond};
+ghost use mathlib.Core.Option.{none};
+ghost use Rattle.support.specs.Support.{footprint, counts, interval, told};
 ghost use Rattle.support.specs.Pass.{reached, step};
 use crate::Reach;
+use crate::Span;
 use crate::Way;
 use world::Aabb;
 use world::Point;
@@ -59,4 +62,14 @@ pub fn reach_shape(way: Way, support: bool, b: Aabb, covered: f64) -> Reach
         to: covered,
         refused: met,
     }
+}
+
+// The part of a way's centre line above a shape, where the shape counts.
+pub fn part_over(way: Way, b: Aabb) -> Span
+    ensures { λ r. ⌜ told r ≡ cond (counts (way .under) b) (interval b (way .from) (way .to)) none ⌝ }
+{
+    if counts(way.under, b) {
+        return crate::line::span_over(b, way.from, way.to);
+    }
+    Span::Nowhere
 }

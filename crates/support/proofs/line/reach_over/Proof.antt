@@ -1,13 +1,14 @@
 -- `support::line::reach_over` meets its contract. Assumes nothing.
-use mathlib.Core.Path.{sym, ap, _∙_}
+use mathlib.Core.Path.{_≡_, refl, sym, ap, _∙_}
+use mathlib.Core.Option.{some}
 use borrow.Author.Needs.{needs}
-use Rattle.support.specs.PassLaws.{covers-more, covers-none}
+use Rattle.support.specs.Cover.{joins, reachOne}
 use Rattle.support.specs.Support.{told, interval}
 use Rattle.support.proofs.line.reach_over.Statement.{statement}
 use Rattle.support.proofs.line.reach_over.Tie as tie
 
-narrow-requires : tie.Need-narrow-requires
-narrow-requires c κs = tt
+span-over-requires : tie.Need-span-over-requires
+span-over-requires c κs = tt
 
 enum-known-i : tie.Need-enum-known-i
 enum-known-i c = search needs
@@ -16,49 +17,18 @@ enum-told : tie.Need-enum-told
 enum-told c = search needs
 
 returns : tie.Need-returns
-unfolding interval
-returns c = rw (sym (c .before .before .narrow .ensures) ∙ ap told (c .enum-told .given .1))
-
-narrow-requires-2 : tie.Need-narrow-requires-2
-narrow-requires-2 c κs = tt
-
-enum-known-j : tie.Need-enum-known-j
-enum-known-j c = search needs
-
-enum-told-2 : tie.Need-enum-told-2
-enum-told-2 c = search needs
-
-returns-2 : tie.Need-returns-2
-unfolding interval
-returns-2 c = rw (sym (c .before .before .before .before .before .before .before .before .narrow .ensures) ∙ ap told (c .before .before .before .before .before .before .i .given .1), sym (c .before .before .narrow2 .ensures) ∙ ap told (c .enum-told2 .given .1))
+returns c = rw (sym (c .before .before .span-over .ensures) ∙ ap told (c .enum-told .given .1))
 
 max-requires : tie.Need-max-requires
 max-requires c κs = tt
 
-returns-3 : tie.Need-returns-3
-unfolding interval
-returns-3 c =
-    rw (sym (c .before .before .before .before .before .before .before .before .before .before .before .before .before .narrow .ensures) ∙ ap told (c .before .before .before .before .before .before .before .before .before .before .before .i .given .1), sym (c .before .before .before .before .before .before .before .narrow2 .ensures) ∙ ap told (c .before .before .before .before .before .j .given .1))
-    (c .max .ensures ∙ sym (covers-more _ _ (c .before .if1 .taken)))
+returns-2 : tie.Need-returns-2
+unfolding reachOne joins
+returns-2 c = rw (sym (c .before .before .before .before .before .before .span-over .ensures) ∙ ap told (c .before .before .before .before .i .given .1), c .before .if1 .taken) (c .max .ensures)
 
-returns-4 : tie.Need-returns-4
-unfolding interval
-returns-4 c =
-    rw (sym (c .before .before .before .before .before .before .before .before .before .before .before .before .narrow .ensures) ∙ ap told (c .before .before .before .before .before .before .before .before .before .before .i .given .1), sym (c .before .before .before .before .before .before .narrow2 .ensures) ∙ ap told (c .before .before .before .before .j .given .1))
-    (sym (covers-none _ _ (c .if1 .left)))
+returns-3 : tie.Need-returns-3
+unfolding reachOne joins
+returns-3 c = rw (sym (c .before .before .before .before .before .span-over .ensures) ∙ ap told (c .before .before .before .i .given .1), c .if1 .left)
 
 pub reach-over-spec : {M : Type 1} → statement M
-reach-over-spec =
-    tie.close
-    (tie.spec
-    narrow-requires
-    enum-known-i
-    enum-told
-    returns
-    narrow-requires-2
-    enum-known-j
-    enum-told-2
-    returns-2
-    max-requires
-    returns-3
-    returns-4)
+reach-over-spec = tie.close (tie.spec span-over-requires enum-known-i enum-told returns max-requires returns-2 returns-3)
