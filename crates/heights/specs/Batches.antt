@@ -17,7 +17,7 @@ use Rattle.heights.specs.declared.Height.{Height}
 use Rattle.heights.specs.declared.Height.the-variants.{At, None}
 use Rattle.heights.specs.declared.batches.Batch.{Batch}
 use Rattle.heights.specs.Heights.{sorted, within, thinned, thinnedAfter, keptAfter, firstOf}
-use Rattle.heights.specs.Lowest.{beyond, beyonds, lowest, laidOver, firstFrom, filled, placeIn, advanced, heightAt}
+use Rattle.heights.specs.Lowest.{beyond, beyonds, lowest, laidOver, firstFrom, batchCount, placeIn, movedOn, heightAt}
 use Rattle.heights.specs.Put.{length-laid}
 use Rattle.heights.specs.Next.{Numbers, Number, Least, Upward, upward-sorted, firstBeyond, first-kept, number-first, within-self, kept-next}
 
@@ -70,8 +70,8 @@ kept-beyonds (At k) us h = go us h
         pick true e r = r
         pick false e r = rw (e, beyonds-all (At k) u us (h .0) (h .1) (ap not e))
 
-pub filled-le : (room : List Float) (b : Batch) → filled room b ≤ length room
-filled-le room b = go (ltb (b .count) (length room)) refl
+pub batch-count-le : (room : List Float) (b : Batch) → batchCount room b ≤ length room
+batch-count-le room b = go (ltb (b .count) (length room)) refl
   where
     go : (c : Bool) → ltb (b .count) (length room) ≡ c → cond c (b .count) (length room) ≤ length room
     go true e = omega (arith, ltb-true (b .count) (length room) e)
@@ -147,10 +147,10 @@ one-next after ts t = go (lowest 1 after ts) ∙ next-lowest after ts 1 (omega a
 -- ---- a batch, while its column is gone through
 
 -- Either it is used up and was full, so that it is filled again; or it is of a list, and the heights left of the column are those left of the list.
-pub data Held (after : Height) (us room : List Float) (b : Batch) : Type 0 where
-  used-up : length room ≤ b .count → length room ≤ b .at → Held after us room b
-  ahead : (ms : List Float) → b .count ≡ length (take (length room) ms) → take (b .count) room ≡ take (length room) ms → b .at ≤ b .count →
-      keptAfter after us ≡ keptAfter after (drop (b .at) ms) → Held after us room b
+pub data Batched (after : Height) (us room : List Float) (b : Batch) : Type 0 where
+  used-up : length room ≤ b .count → length room ≤ b .at → Batched after us room b
+  of-list : (ms : List Float) → b .count ≡ length (take (length room) ms) → take (b .count) room ≡ take (length room) ms → b .at ≤ b .count →
+      keptAfter after us ≡ keptAfter after (drop (b .at) ms) → Batched after us room b
 
 -- where a batch stands once those within E of the last kept are passed over
 module _ (after : Height) (us room ms : List Float) (count : ℕ) (h : count ≡ length (take (length room) ms)) (g : take count room ≡ take (length room) ms) where
@@ -187,7 +187,7 @@ module _ (ts : List Float) (n : Numbers ts) (after : Height) where
 
   data Goes (s : List Float × Batch) : Type 0 where
     ends : heightAt (s .0) (s .1) ≡ None → firstOf (keptAfter after (sorted ts)) ≡ None → Goes s
-    on : (y : Float) → heightAt (s .0) (s .1) ≡ At y → firstOf (keptAfter after (sorted ts)) ≡ At y → Held (At y) (sorted ts) (s .0) (s .1) → Goes s
+    on : (y : Float) → heightAt (s .0) (s .1) ≡ At y → firstOf (keptAfter after (sorted ts)) ≡ At y → Batched (At y) (sorted ts) (s .0) (s .1) → Goes s
 
   beyond-head : (us : List Float) (y : Float) (rest : List Float) → beyonds after us ≡ y ∷ rest → beyond after y ≡ true
   beyond-head [] y rest e = absurd (let z : _≡_ {A = ℕ} 0 1 = cc in omega arith)
@@ -216,7 +216,7 @@ module _ (ts : List Float) (n : Numbers ts) (after : Height) where
             on y
               (ap (λ (l : List Float). heightAt (state l .0) (state l .1)) first ∙ rw (lt-ltb 0 (suc (length (take (length room - 1) rest))) (omega arith), lt-ltb 0 (suc (length (take (length room - 1) rest ++ drop (suc (length (take (length room - 1) rest))) room))) (omega arith)))
               (b .0)
-              (ahead (beyonds after (sorted ts)) (ap (λ (i : ℕ). length (take i (beyonds after (sorted ts)))) (sym same)) (take-append-seam low (drop (length low) room) ∙ ap (λ (i : ℕ). take i (beyonds after (sorted ts))) (sym same)) (omega arith) (b .1 ∙ ap (keptAfter (At y)) (sym e)))
+              (of-list (beyonds after (sorted ts)) (ap (λ (i : ℕ). length (take i (beyonds after (sorted ts)))) (sym same)) (take-append-seam low (drop (length low) room) ∙ ap (λ (i : ℕ). take i (beyonds after (sorted ts))) (sym same)) (omega arith) (b .1 ∙ ap (keptAfter (At y)) (sym e)))
 
     module _ (b : Batch) where
       -- at the next of those that are there, or at the end of all
@@ -229,7 +229,7 @@ module _ (ts : List Float) (n : Numbers ts) (after : Height) where
         stays i s l =
             let t = there after (sorted ts) room ms (b .count) h g i l in
             let c = behind (getD room i nan) (drop (suc i) ms) (s .left ∙ ap (keptAfter after) t) (s .here l) in
-            on (getD room i nan) (rw (lt-ltb i (b .count) l, lt-ltb i (length room) (omega (arith, count-le)))) (c .0) (ahead ms h g (s .within-count) (c .1 ∙ ap (keptAfter (At (getD room i nan))) (sym t)))
+            on (getD room i nan) (rw (lt-ltb i (b .count) l, lt-ltb i (length room) (omega (arith, count-le)))) (c .0) (of-list ms h g (s .within-count) (c .1 ∙ ap (keptAfter (At (getD room i nan))) (sym t)))
 
         ended : (i : ℕ) → Stands after (sorted ts) room ms (b .count) h g i → b .count ≤ i → b .count < length room → Goes (room, record { count = b .count; at = i })
         unfolding heightAt
@@ -237,8 +237,8 @@ module _ (ts : List Float) (n : Numbers ts) (after : Height) where
             let z : length ms ≤ i = omega (arith, length-take (length room) ms) in
             ends (rw (le-ltb i (b .count) l)) (ap firstOf (s .left ∙ ap (keptAfter after) (drop-of-length-le ms z) ∙ kept-none after))
 
-      goes-on : Held after (sorted ts) room b → Goes (advanced ts after room b)
-      unfolding advanced firstFrom
+      goes-on : Batched after (sorted ts) room b → Goes (movedOn ts after room b)
+      unfolding movedOn firstFrom
       goes-on (used-up h g) =
           let full = le-ltb (b .count) (length room) h in
           let none : length room - b .at ≡ 0 = omega arith in
@@ -246,7 +246,7 @@ module _ (ts : List Float) (n : Numbers ts) (after : Height) where
         where
           at-end : ltb (b .at) (length room) ≡ false → Goes (cond (ltb (firstFrom after room (b .at) 0) (length room) || false) (room, record { count = length room; at = firstFrom after room (b .at) 0 }) (laidOver (lowest (length room) after ts) room, record { count = length (lowest (length room) after ts); at = 0 }))
           at-end e = rw e refilled
-      goes-on (ahead ms h g l k) = rw (fill (ltb (b .count) (length room)) refl) (go (ltb i (b .count)) refl (ltb (b .count) (length room)) refl)
+      goes-on (of-list ms h g l k) = rw (fill (ltb (b .count) (length room)) refl) (go (ltb i (b .count)) refl (ltb (b .count) (length room)) refl)
         where
           i : ℕ
           i = firstFrom after room (b .at) (b .count - b .at)
@@ -264,19 +264,19 @@ module _ (ts : List Float) (n : Numbers ts) (after : Height) where
           go false x true y = ended ms h g i s (ltb-false i (b .count) x) (ltb-true (b .count) (length room) y)
           go false x false y = refilled
 
-      module _ (held : Held after (sorted ts) room b) where
+      module _ (held : Batched after (sorted ts) room b) where
         -- the batch is at the next of the heights
-        pub held-next : heightAt (advanced ts after room b .0) (advanced ts after room b .1) ≡ firstOf (keptAfter after (sorted ts))
+        pub held-next : heightAt (movedOn ts after room b .0) (movedOn ts after room b .1) ≡ firstOf (keptAfter after (sorted ts))
         held-next = go (goes-on held)
           where
-            go : Goes (advanced ts after room b) → heightAt (advanced ts after room b .0) (advanced ts after room b .1) ≡ firstOf (keptAfter after (sorted ts))
+            go : Goes (movedOn ts after room b) → heightAt (movedOn ts after room b .0) (movedOn ts after room b .1) ≡ firstOf (keptAfter after (sorted ts))
             go (ends x y) = x ∙ sym y
             go (on y x z w) = x ∙ sym z
 
         -- and holds for the one behind it
-        pub held-on : (y : Float) → heightAt (advanced ts after room b .0) (advanced ts after room b .1) ≡ At y → Held (At y) (sorted ts) (advanced ts after room b .0) (advanced ts after room b .1)
+        pub held-on : (y : Float) → heightAt (movedOn ts after room b .0) (movedOn ts after room b .1) ≡ At y → Batched (At y) (sorted ts) (movedOn ts after room b .0) (movedOn ts after room b .1)
         held-on y e = go (goes-on held)
           where
-            go : Goes (advanced ts after room b) → Held (At y) (sorted ts) (advanced ts after room b .0) (advanced ts after room b .1)
+            go : Goes (movedOn ts after room b) → Batched (At y) (sorted ts) (movedOn ts after room b .0) (movedOn ts after room b .1)
             go (ends x z) = absurd (let q : _≡_ {A = ℕ} 0 1 = cc in omega arith)
-            go (on v x z w) = let q : v ≡ y = cc in subst (λ (u : Float). Held (At u) (sorted ts) (advanced ts after room b .0) (advanced ts after room b .1)) q w
+            go (on v x z w) = let q : v ≡ y = cc in subst (λ (u : Float). Batched (At u) (sorted ts) (movedOn ts after room b .0) (movedOn ts after room b .1)) q w

@@ -29,10 +29,10 @@ module _ {S : Type 0} (band : Band) (x z : Float) (g : S → Float → S) where
   runFold by t s left at = foldl g t (topsOf band x z (map (λ (b : Aabb). moved b by) (run left s at)))
 
   -- what one box makes of it
-  abbrev pub added : S → Aabb → S
-  added t b = cond (reaches band x z b) (g t (b .max .y)) t
+  abbrev pub withBox : S → Aabb → S
+  withBox t b = cond (reaches band x z b) (g t (b .max .y)) t
 
-  fold-cons : (t : S) (b : Aabb) (bs : List Aabb) → foldl g t (topsOf band x z (b ∷ bs)) ≡ foldl g (added t b) (topsOf band x z bs)
+  fold-cons : (t : S) (b : Aabb) (bs : List Aabb) → foldl g t (topsOf band x z (b ∷ bs)) ≡ foldl g (withBox t b) (topsOf band x z bs)
   unfolding topsOf
   fold-cons t b bs = pick (reaches band x z b)
     where
@@ -47,7 +47,7 @@ module _ {S : Type 0} (band : Band) (x z : Float) (g : S → Float → S) where
     run-end e = rw (boxes-end s at left e)
 
     -- one box more
-    pub run-on : (b : Aabb) → 0 < left → boxHere s at ≡ Here b → runFold by t s left at ≡ runFold by (added t (moved b by)) s (left - 1) (at + 48)
+    pub run-on : (b : Aabb) → 0 < left → boxHere s at ≡ Here b → runFold by t s left at ≡ runFold by (withBox t (moved b by)) s (left - 1) (at + 48)
     run-on b h e = rw (boxes-more s at left b h e) (fold-cons t (moved b by) _)
 
     -- no box is left

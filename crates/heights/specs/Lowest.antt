@@ -36,17 +36,17 @@ firstFrom after room at zero = at
 firstFrom after room at (suc left) = cond (beyond after (getD room at nan)) at (firstFrom after room (at + 1) left)
 
 -- no more than the room has
-abbrev pub filled : List Float → Batch → ℕ
-filled room b = cond (ltb (b .count) (length room)) (b .count) (length room)
+abbrev pub batchCount : List Float → Batch → ℕ
+batchCount room b = cond (ltb (b .count) (length room)) (b .count) (length room)
 
 abbrev pub placeIn : Height → List Float → Batch → ℕ
-placeIn after room b = firstFrom after room (b .at) (filled room b - b .at)
+placeIn after room b = firstFrom after room (b .at) (batchCount room b - b .at)
 
 -- the batch at the next height, filled again from the column's tops where it is used up and was full
-unfoldable pub advanced : List Float → Height → List Float → Batch → List Float × Batch
-advanced ts after room b =
-    cond (ltb (placeIn after room b) (filled room b) || ltb (b .count) (length room))
-      (room, record { count = filled room b; at = placeIn after room b })
+unfoldable pub movedOn : List Float → Height → List Float → Batch → List Float × Batch
+movedOn ts after room b =
+    cond (ltb (placeIn after room b) (batchCount room b) || ltb (b .count) (length room))
+      (room, record { count = batchCount room b; at = placeIn after room b })
       (laidOver (lowest (length room) after ts) room, record { count = length (lowest (length room) after ts); at = 0 })
 
 -- the height that a batch is at

@@ -46,12 +46,12 @@ abbrev pub putBefore : ℕ → Float → List Float → List Float
 putBefore p t ts = take p ts ++ (t ∷ drop p ts)
 
 -- a room whose first places are those of another list
-abbrev pub led : ℕ → List Float → List Float → List Float
-led k ts room = take k ts ++ drop k room
+abbrev pub withFront : ℕ → List Float → List Float → List Float
+withFront k ts room = take k ts ++ drop k room
 
 -- a room and how many of its places are filled, after one top
 abbrev pub put : List Float × ℕ → Float → List Float × ℕ
-put s t = (led (oneMore (length (s .0)) (s .1)) (putBefore (placeOf t (s .0) (s .1)) t (s .0)) (s .0), oneMore (length (s .0)) (s .1))
+put s t = (withFront (oneMore (length (s .0)) (s .1)) (putBefore (placeOf t (s .0) (s .1)) t (s .0)) (s .0), oneMore (length (s .0)) (s .1))
 
 -- where it is not within E of the last kept
 abbrev pub taken : Height → List Float × ℕ → Float → List Float × ℕ
@@ -81,7 +81,7 @@ module _ (t : Float) (room : List Float) (p : ℕ) (h : p ≤ length room) where
   goal-length : length goal ≡ length room + 1
   goal-length = length-append (take p room) (t ∷ drop p room) ∙ (let a = length-take-le p room h in let b = length-drop p room in omega arith)
 
-  pub carry-begins : room ≡ led p goal room
+  pub carry-begins : room ≡ withFront p goal room
   carry-begins = sym (ap (λ (l : List Float). l ++ drop p room) (take-at (take p room) (t ∷ drop p room) p (length-take-le p room h)) ∙ take-append-drop p room)
 
   pub carried-first : t ≡ getD goal p nan
@@ -91,16 +91,16 @@ module _ (t : Float) (room : List Float) (p : ℕ) (h : p ≤ length room) where
     front : length (take i goal) ≡ i
     front = length-take-le i goal (omega (arith, goal-length))
 
-    parts : led i goal room ≡ take i goal ++ (getD room i nan ∷ drop (suc i) room)
+    parts : withFront i goal room ≡ take i goal ++ (getD room i nan ∷ drop (suc i) room)
     parts = ap (λ (x : List Float). take i goal ++ x) (drop-cons room i nan m)
 
-    pub carry-on : set (led i goal room) i (getD goal i nan) ≡ led (i + 1) goal room
+    pub carry-on : set (withFront i goal room) i (getD goal i nan) ≡ withFront (i + 1) goal room
     carry-on =
         ap (λ (x : List Float). set x i (getD goal i nan)) parts ∙ set-at (take i goal) (getD room i nan) (drop (suc i) room) (getD goal i nan) i front
         ∙ sym (append-snoc (take i goal) (getD goal i nan) (drop (suc i) room))
         ∙ ap (λ (x : List Float). x ++ drop (suc i) room) (sym (take-suc goal i nan (omega (arith, goal-length)))) ∙ rw add-one
 
-    pub carried-on : getD (led i goal room) i nan ≡ getD goal (i + 1) nan
+    pub carried-on : getD (withFront i goal room) i nan ≡ getD goal (i + 1) nan
     carried-on =
         let n : i + 1 ≡ length (take p room) + suc (i - p) = omega (arith, length-take-le p room h) in
         let z : p + (i - p) ≡ i = omega arith in
@@ -307,7 +307,7 @@ module _ (room : List Float) where
       longer = goal-length t us p (place-le t us (length us))
 
       go : (b : Bool) → ltb (length us) (length room) ≡ b →
-          _≡_ {A = List Float × ℕ} (led (cond b (length us + 1) (length us)) (ins ++ rest) (us ++ rest), cond b (length us + 1) (length us)) (holding (take (length room) ins))
+          _≡_ {A = List Float × ℕ} (withFront (cond b (length us + 1) (length us)) (ins ++ rest) (us ++ rest), cond b (length us + 1) (length us)) (holding (take (length room) ins))
       go true e =
           let l = ltb-true (length us) (length room) e in
           let w : take (length room) ins ≡ ins = take-all (length room) ins (omega (arith, longer)) in

@@ -9,7 +9,7 @@ ghost use Prim.Native.Nat.{_≤_, _-_};
 ghost use lib.ListN.{length};
 ghost use Rattle.world.specs.Space.{space};
 ghost use Rattle.heights.specs.Heights.{tops};
-ghost use Rattle.heights.specs.Lowest.{firstFrom, advanced, heightAt};
+ghost use Rattle.heights.specs.Lowest.{firstFrom, movedOn, heightAt};
 
 // So many tops at the front of a room, and the place of the one that is next. A batch that is as long as its room may have left tops out.
 pub struct Batch {
@@ -34,7 +34,7 @@ pub fn advance(
     w: Window, cells: &[u8], perms: &[u8], shapes: &[u8], boxes: &[u8],
     band: Band, x: f64, z: f64, after: Height, room: &mut [f64], b: Batch,
 ) -> Batch
-    ensures { λ r. ⌜ (now (room .exit), r) ≡ advanced (tops (space w (now (cells .entry)) (now (perms .entry)) (now (shapes .entry)) (now (boxes .entry))) band x z) after (now (room .entry)) b ⌝ }
+    ensures { λ r. ⌜ (now (room .exit), r) ≡ movedOn (tops (space w (now (cells .entry)) (now (perms .entry)) (now (shapes .entry)) (now (boxes .entry))) band x z) after (now (room .entry)) b ⌝ }
 {
     let short = b.count < room.len();
     let count = if short { b.count } else { room.len() };

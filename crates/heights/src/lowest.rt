@@ -22,7 +22,7 @@ ghost use Rattle.world.specs.Space.{run, space};
 ghost use Rattle.heights.specs.Heights.{topsOf, topsIn, tops};
 ghost use Rattle.heights.specs.Lowest.{lowest, laidOver};
 ghost use Rattle.heights.specs.Put.{placeOf, put, taken};
-ghost use Rattle.heights.specs.Laws.{added};
+ghost use Rattle.heights.specs.Laws.{withBox};
 
 // The place of a top among the first so many of a room: behind all that are not above it. It is sought from behind, since tops come upwards for the most part.
 fn place_of(room: &[f64], count: usize, top: f64) -> usize
@@ -57,7 +57,7 @@ fn put_top(room: &mut [f64], count: usize, top: f64) -> usize
 // What one box makes of the lowest so far.
 fn take_box(room: &mut [f64], count: usize, band: Band, x: f64, z: f64, after: Height, b: Aabb) -> usize
     requires { ⌜ count ≤ length (now room) ⌝ }
-    ensures { λ r. ⌜ (now (room .exit), r) ≡ added band x z (taken after) (now (room .entry), count) b ⌝ }
+    ensures { λ r. ⌜ (now (room .exit), r) ≡ withBox band x z (taken after) (now (room .entry), count) b ⌝ }
     ensures { λ r. ⌜ r ≤ length (now (room .exit)) ⌝ }
 {
     let top = b.max.y;

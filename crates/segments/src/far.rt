@@ -11,7 +11,7 @@ ghost use Rattle.world.specs.Space.{space};
 ghost use Rattle.support.specs.Support.{shapesOf, shapesAt};
 ghost use Rattle.support.specs.Pass.{runShapes};
 ghost use Rattle.support.specs.PassLaws.{found};
-ghost use Rattle.support.specs.Joints.{putPair, Gathers, Joined, JoinedFrom};
+ghost use Rattle.support.specs.Joints.{putInterval, Gathers, Joined, JoinedFrom};
 use regions::Region;
 use support::Interval;
 use support::Span;
@@ -26,9 +26,9 @@ use world::Window;
 const ROOM: usize = 2048;
 
 // A part written to place k.
-fn put_pair(room: &mut [f64], k: usize, i: Interval)
+fn put_interval(room: &mut [f64], k: usize, i: Interval)
     requires { ⌜ 2 * k + 1 < length (now room) ⌝ }
-    ensures { λ _. ⌜ now (room .exit) ≡ putPair (now (room .entry)) k i ⌝ }
+    ensures { λ _. ⌜ now (room .exit) ≡ putInterval (now (room .entry)) k i ⌝ }
 {
     room[2 * k] = i.begin;
     room[2 * k + 1] = i.end;
@@ -54,7 +54,7 @@ fn halve(room: &mut [f64]) -> usize
 }
 
 // Room for one part more.
-fn roomy(room: &mut [f64], count: usize) -> usize
+fn make_room(room: &mut [f64], count: usize) -> usize
     requires { ⌜ (2 * count ≤ length (now room)) × (2 ≤ length (now room)) ⌝ }
     ensures { λ r. ⌜ Gathers [] (now (room .entry)) count (now (room .exit)) r ⌝ }
     ensures { λ r. ⌜ 2 * r + 2 ≤ length (now (room .exit)) ⌝ }
@@ -71,15 +71,15 @@ fn keep(room: &mut [f64], count: usize, i: Interval) -> usize
     ensures { λ r. ⌜ Gathers (i ∷ []) (now (room .entry)) count (now (room .exit)) r ⌝ }
     ensures { λ r. ⌜ 2 * r ≤ length (now (room .exit)) ⌝ }
 {
-    let n = roomy(room, count);
+    let n = make_room(room, count);
     let mut k = n;
     while k > 0 && room[2 * k - 2] < i.begin {
         let begin = room[2 * k - 2];
         let end = room[2 * k - 1];
-        put_pair(room, k, Interval { begin, end });
+        put_interval(room, k, Interval { begin, end });
         k -= 1;
     }
-    put_pair(room, k, i);
+    put_interval(room, k, i);
     n + 1
 }
 

@@ -26,7 +26,7 @@ use Rattle.support.specs.declared.Interval.{Interval}
 use Rattle.support.specs.declared.Reach.{Reach}
 use Rattle.support.specs.declared.Way.{Way}
 use Rattle.support.specs.Cover.{joins, reachOne, round, enough, covers, CoversTo}
-use Rattle.support.specs.Rounds.{beyond, falls, stands}
+use Rattle.support.specs.Rounds.{beyond, falls, settles}
 use Rattle.support.specs.Laws.{round-covers, not-below, within, covers-sound, covers-complete}
 use Rattle.support.specs.Support.{Shape, counts, interval, counting, ahead, intervals, allSupport, carried, shapesOf, shapesAt}
 use Rattle.support.specs.Pass.{reachBy, reached, step, pass, runShapes}
@@ -242,7 +242,7 @@ module _ (w : Way) (ss : List Shape) where
     short-not h k l cov = rw (told-to h .0) (go (covers (found w ss)) refl)
       where
         fixed : round c (found w ss) ≡ c
-        fixed = stands (found w ss) c (ap (lt c) (told-to h .1) ∙ l)
+        fixed = settles (found w ss) c (ap (lt c) (told-to h .1) ∙ l)
 
         go : (b : Bool) → covers (found w ss) ≡ b → b ≡ false
         go false e = refl

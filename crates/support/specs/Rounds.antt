@@ -153,8 +153,8 @@ module _ (is : List Interval) where
       go (inl e) = never c (rw e at h)
       go (inr g) = g .1
 
-  pub stands : (c : Float) → lt c (round c is) ≡ false → round c is ≡ c
-  stands c k = go (turned c is)
+  pub settles : (c : Float) → lt c (round c is) ≡ false → round c is ≡ c
+  settles c k = go (turned c is)
     where
       go : Turned c is (round c is) → round c is ≡ c
       go (inl e) = e

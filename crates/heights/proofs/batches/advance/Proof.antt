@@ -8,13 +8,13 @@ use borrow.Author.Needs.{needs}
 use denote.Ref.{now}
 use lib.Dec.{ltb}
 use lib.ListN.{length}
-use Rattle.heights.specs.Lowest.{firstFrom, filled, placeIn, advanced}
-use Rattle.heights.specs.Batches.{filled-le}
+use Rattle.heights.specs.Lowest.{firstFrom, batchCount, placeIn, movedOn}
+use Rattle.heights.specs.Batches.{batch-count-le}
 use Rattle.heights.proofs.batches.advance.Statement.{statement}
 use Rattle.heights.proofs.batches.advance.Tie as tie
 
 -- how many the batch has
-fill : (s : tie.Joined1) → s .if1 .count ≡ filled (now (s .before .before .before .before .before .before .before .args .room)) (s .before .before .before .before .before .before .before .args .b)
+fill : (s : tie.Joined1) → s .if1 .count ≡ batchCount (now (s .before .before .before .before .before .before .before .args .room)) (s .before .before .before .before .before .before .before .args .b)
 fill s = ⊎-elim (λ t. t .1 ∙ (let z = t .0 .taken in rw z)) (λ t. t .1 ∙ (let z = t .0 .left in rw z)) (s .if1 .came)
 
 -- and the place that it is moved on to
@@ -24,13 +24,13 @@ place s = let a = s .before .before .before .before .before .before .before .bef
 first-beyond-requires : tie.Need-first-beyond-requires
 first-beyond-requires c κs =
     let a = c .before .before .before .before .before .before .before .before .args in
-    omega (arith, fill (c .before), filled-le (now (a .room)) (a .b))
+    omega (arith, fill (c .before), batch-count-le (now (a .room)) (a .b))
 
 same-length : tie.Need-same-length
 same-length c = search needs
 
 returns : tie.Need-returns
-unfolding advanced
+unfolding movedOn
 returns c =
     let a = c .before .before .before .before .before .before .before .before .before .before .args in
     let e = fill (c .before .before .before) in
@@ -45,7 +45,7 @@ same-length-2 : tie.Need-same-length-2
 same-length-2 c = search needs
 
 returns-2 : tie.Need-returns-2
-unfolding advanced
+unfolding movedOn
 returns-2 c =
     let a = c .before .before .before .before .before .before .before .before .before .before .before .before .before .before .args in
     let e = fill (c .before .before .before .before .before .before .before) in

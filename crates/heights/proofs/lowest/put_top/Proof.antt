@@ -9,13 +9,13 @@ use borrow.Author.Tests.{lt-ltb, le-ltb}
 use denote.Ref.{now}
 use lib.ListN.{length, getD, length-set, set}
 use lib.Ieee.{Float, nan}
-use Rattle.heights.specs.Put.{placeOf, oneMore, putBefore, led, place-le, carry-begins, carried-first, carry-on, carried-on, no-fewer, no-more}
+use Rattle.heights.specs.Put.{placeOf, oneMore, putBefore, withFront, place-le, carry-begins, carried-first, carry-on, carried-on, no-fewer, no-more}
 use Rattle.heights.proofs.lowest.put_top.Statement.{statement}
 use Rattle.heights.proofs.lowest.put_top.Tie as tie
 
 abbrev Inv-loop : tie.InvT-loop
 Inv-loop room₀ count top end carried₀ i₀ room carried i =
-    (length room ≡ length room₀) × (end ≤ length room₀) × (i₀ ≤ i) × (i ≤ end) × (room ≡ led i (putBefore i₀ top room₀) room₀) × (carried ≡ getD (putBefore i₀ top room₀) i nan)
+    (length room ≡ length room₀) × (end ≤ length room₀) × (i₀ ≤ i) × (i ≤ end) × (room ≡ withFront i (putBefore i₀ top room₀) room₀) × (carried ≡ getD (putBefore i₀ top room₀) i nan)
 
 abbrev μ-loop : tie.MeasureT-loop
 μ-loop room₀ count top end carried₀ i₀ room carried i = end - i
@@ -81,7 +81,7 @@ returns c =
     let e = ends (c .before .before .before .before) in
     let z : l .i ≡ c .before .before .before .before .if1 .end = omega arith in
     let p = c .before .before .place-of .ensures in
-    ((λ j. ((l .inv .4 ∙ (λ k. led ((z ∙ e) k) (putBefore (p k) (a .top) (now (a .room))) (now (a .room)))) j, e j)), omega (arith, l .inv .0, l .inv .1))
+    ((λ j. ((l .inv .4 ∙ (λ k. withFront ((z ∙ e) k) (putBefore (p k) (a .top) (now (a .room))) (now (a .room)))) j, e j)), omega (arith, l .inv .0, l .inv .1))
 
 pub put-top-spec : {M : Type 1} → statement M
 put-top-spec =

@@ -18,9 +18,9 @@ use Rattle.world.specs.Space.{Space, space}
 use Rattle.heights.specs.declared.Height.the-variants.{At}
 use Rattle.heights.specs.declared.batches.Batch.{Batch}
 use Rattle.heights.specs.Heights.{tops, sorted, nextAfter}
-use Rattle.heights.specs.Lowest.{heightAt, advanced}
+use Rattle.heights.specs.Lowest.{heightAt, movedOn}
 use Rattle.heights.specs.Laws.{numbers}
-use Rattle.heights.specs.Batches.{Held, used-up, held-next, held-on}
+use Rattle.heights.specs.Batches.{Batched, used-up, held-next, held-on}
 use Rattle.moves.specs.declared.answer.Waypoint.{Waypoint}
 use Rattle.moves.specs.declared.answer.EdgeAnswer.{EdgeAnswer}
 use Rattle.moves.specs.declared.answer.EdgeAnswer.the-variants.{To}
@@ -42,7 +42,7 @@ use Rattle.search.proofs.columns.column.Tie as tie
 abbrev Inv-loop : tie.InvT-loop
 Inv-loop task cells perms shapes boxes nodes₀ front₀ index known room₀ at n c centre band gone₀ after₀ batch₀ nodes front room gone after batch =
     (length nodes ≡ length nodes₀) × (length front ≡ length front₀) × (length room ≡ length room₀)
-    × Held after (sorted (tops (space (task .w) cells perms shapes boxes) band (centre .x) (centre .z))) room batch
+    × Batched after (sorted (tops (space (task .w) cells perms shapes boxes) band (centre .x) (centre .z))) room batch
     × Along (λ ws. Went (task .aim) at n ws gone₀ gone nodes₀ front₀ nodes front) (columnIf (space (task .w) cells perms shapes boxes) (task .r) (task .body) (at .point) n) (stepsAfter (space (task .w) cells perms shapes boxes) (task .r) (task .body) (at .point) n after)
 
 abbrev μ-loop : tie.MeasureT-loop
@@ -81,7 +81,7 @@ module _ (s : tie.After-height-at Inv-loop μ-loop) where
   abbrev all : List Float
   all = tops (sp (s .before .before .before .before .before .before .before .before .before .before .before .before .before .before .before .before .before .before .before .before)) (s .before .before .before .before .before .before .before .before .band-of .result) (s .before .before .before .before .before .before .before .before .before .column-centre .result .x) (s .before .before .before .before .before .before .before .before .before .column-centre .result .z)
 
-  moved : _≡_ {A = List Float × Batch} (s .before .before .before .before .advance .last .1 .1 .1 .1 .1 .1 .1 .1 .1 .0, s .before .before .before .before .advance .result) (advanced all (s .before .before .before .before .before .before .loop .after) (s .before .before .before .before .before .before .loop .room) (s .before .before .before .before .before .before .loop .batch))
+  moved : _≡_ {A = List Float × Batch} (s .before .before .before .before .advance .last .1 .1 .1 .1 .1 .1 .1 .1 .1 .0, s .before .before .before .before .advance .result) (movedOn all (s .before .before .before .before .before .before .loop .after) (s .before .before .before .before .before .before .loop .room) (s .before .before .before .before .before .before .loop .batch))
   moved = s .before .before .before .before .advance .ensures
 
   some : 0 < length (s .before .before .before .before .before .before .loop .room)
@@ -91,9 +91,9 @@ module _ (s : tie.After-height-at Inv-loop μ-loop) where
   unfolding nextAfter
   next = s .height-at .ensures ∙ (λ i. heightAt (moved i .0) (moved i .1)) ∙ held-next all (numbers (s .before .before .before .before .before .before .before .before .band-of .result) (s .before .before .before .before .before .before .before .before .before .column-centre .result .x) (s .before .before .before .before .before .before .before .before .before .column-centre .result .z) (sp (s .before .before .before .before .before .before .before .before .before .before .before .before .before .before .before .before .before .before .before .before))) (s .before .before .before .before .before .before .loop .after) (s .before .before .before .before .before .before .loop .room) some (s .before .before .before .before .before .before .loop .batch) (s .before .before .before .before .before .before .loop .inv .3)
 
-  held : (y : Float) → s .height-at .result ≡ At y → Held (At y) (sorted all) (s .before .before .before .before .advance .last .1 .1 .1 .1 .1 .1 .1 .1 .1 .0) (s .before .before .before .before .advance .result)
+  held : (y : Float) → s .height-at .result ≡ At y → Batched (At y) (sorted all) (s .before .before .before .before .advance .last .1 .1 .1 .1 .1 .1 .1 .1 .1 .0) (s .before .before .before .before .advance .result)
   held y e =
-      subst (λ (x : List Float × Batch). Held (At y) (sorted all) (x .0) (x .1)) (sym moved)
+      subst (λ (x : List Float × Batch). Batched (At y) (sorted all) (x .0) (x .1)) (sym moved)
       (held-on all (numbers (s .before .before .before .before .before .before .before .before .band-of .result) (s .before .before .before .before .before .before .before .before .before .column-centre .result .x) (s .before .before .before .before .before .before .before .before .before .column-centre .result .z) (sp (s .before .before .before .before .before .before .before .before .before .before .before .before .before .before .before .before .before .before .before .before))) (s .before .before .before .before .before .before .loop .after) (s .before .before .before .before .before .before .loop .room) some (s .before .before .before .before .before .before .loop .batch) (s .before .before .before .before .before .before .loop .inv .3) y
       (sym (λ i. heightAt (moved i .0) (moved i .1)) ∙ sym (s .height-at .ensures) ∙ e))
 

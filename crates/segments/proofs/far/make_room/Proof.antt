@@ -1,4 +1,4 @@
--- `segments::far::roomy` meets its contract. Assumes nothing.
+-- `segments::far::make_room` meets its contract. Assumes nothing.
 use native.Mathlib.Omega.{arith}
 use Prim.Native.Nat.{ℕ, _/_}
 use mathlib.Core.Path.{_≡_, sym, ap, subst}
@@ -7,8 +7,8 @@ use borrow.Author.Needs.{needs}
 use denote.Ref.{now}
 use lib.ListN.{length}
 use Rattle.support.specs.Joints.{Gathers, gathers-none}
-use Rattle.segments.proofs.far.roomy.Statement.{statement}
-use Rattle.segments.proofs.far.roomy.Tie as tie
+use Rattle.segments.proofs.far.make_room.Statement.{statement}
+use Rattle.segments.proofs.far.make_room.Tie as tie
 
 mul-if1 : tie.Need-mul-if1
 mul-if1 c = omega arith
@@ -31,5 +31,5 @@ returns c =
 returns-2 : tie.Need-returns-2
 returns-2 c = (gathers-none _ _, omega (arith, c .if1 .left))
 
-pub roomy-spec : {M : Type 1} → statement M
-roomy-spec = tie.close (tie.spec mul-if1 add-if1 halve-requires same-length returns returns-2)
+pub make-room-spec : {M : Type 1} → statement M
+make-room-spec = tie.close (tie.spec mul-if1 add-if1 halve-requires same-length returns returns-2)
