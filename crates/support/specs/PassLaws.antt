@@ -79,31 +79,26 @@ pass-is w c (s ∷ ss) = go (λ d. pass-is w d ss) (counts (w .under) (s .box)) 
 
 -- ---- one shape, by the tests on it
 
--- an interval that begins before its end and at most E behind what is covered, and any other
-module _ (c : Float) (j : Interval) where
-  abbrev pub joined : Bool
-  joined = le (j .begin) (j .end) && le (j .begin) (add binary64 c E)
+-- an interval that begins at most E behind what is covered, and one that does not
+module _ (c : Float) (i : Interval) where
+  pub covers-more : le (i .begin) (add binary64 c E) ≡ true → reachBy c (some i) ≡ larger (i .end) c
+  unfolding reachOne joins
+  covers-more e = rw e
 
+  pub covers-none : le (i .begin) (add binary64 c E) ≡ false → reachBy c (some i) ≡ c
+  unfolding reachOne joins
+  covers-none e = rw e
+
+-- one that begins at most at its end, and one that does not
+module _ (i : Interval) where
   abbrev proper : Option Interval
-  proper = cond (le (j .begin) (j .end)) (some j) none
+  proper = cond (le (i .begin) (i .end)) (some i) none
 
-  pub covers-more : joined ≡ true → reachBy c proper ≡ larger (j .end) c
-  unfolding reachOne joins
-  covers-more e = go (le (j .begin) (j .end)) refl (le (j .begin) (add binary64 c E)) refl e
-    where
-      go : (s : Bool) → le (j .begin) (j .end) ≡ s → (t : Bool) → le (j .begin) (add binary64 c E) ≡ t → (s && t) ≡ true → reachBy c proper ≡ larger (j .end) c
-      go true p true q e = rw (p, q)
-      go true p false q e = cc
-      go false p t q e = cc
+  pub is-proper : le (i .begin) (i .end) ≡ true → proper ≡ some i
+  is-proper e = rw e
 
-  pub covers-none : joined ≡ false → reachBy c proper ≡ c
-  unfolding reachOne joins
-  covers-none e = go (le (j .begin) (j .end)) refl (le (j .begin) (add binary64 c E)) refl e
-    where
-      go : (s : Bool) → le (j .begin) (j .end) ≡ s → (t : Bool) → le (j .begin) (add binary64 c E) ≡ t → (s && t) ≡ false → reachBy c proper ≡ c
-      go true p true q e = cc
-      go true p false q e = rw (p, q)
-      go false p t q e = rw p
+  pub not-proper : le (i .begin) (i .end) ≡ false → proper ≡ none
+  not-proper e = rw e
 
 module _ (w : Way) (c : Float) (support : Bool) (b : Aabb) where
   abbrev shape : Shape

@@ -1,6 +1,7 @@
 -- `support::line::span_over` meets its contract. Assumes nothing.
 use mathlib.Core.Path.{sym, ap, _∙_}
 use borrow.Author.Needs.{needs}
+use Rattle.support.specs.PassLaws.{is-proper, not-proper}
 use Rattle.support.specs.Support.{told, interval}
 use Rattle.support.proofs.line.span_over.Statement.{statement}
 use Rattle.support.proofs.line.span_over.Tie as tie
@@ -33,11 +34,11 @@ returns-2 c = rw (sym (c .before .before .before .before .before .before .before
 
 returns-3 : tie.Need-returns-3
 unfolding interval
-returns-3 c = rw (sym (c .before .before .before .before .before .before .before .before .before .before .before .narrow .ensures) ∙ ap told (c .before .before .before .before .before .before .before .before .before .i .given .1), sym (c .before .before .before .before .before .narrow2 .ensures) ∙ ap told (c .before .before .before .j .given .1), c .if1 .taken)
+returns-3 c = rw (sym (c .before .before .before .before .before .before .before .before .before .before .before .narrow .ensures) ∙ ap told (c .before .before .before .before .before .before .before .before .before .i .given .1), sym (c .before .before .before .before .before .narrow2 .ensures) ∙ ap told (c .before .before .before .j .given .1)) (sym (is-proper _ (c .if1 .taken)))
 
 returns-4 : tie.Need-returns-4
 unfolding interval
-returns-4 c = rw (sym (c .before .before .before .before .before .before .before .before .before .before .before .narrow .ensures) ∙ ap told (c .before .before .before .before .before .before .before .before .before .i .given .1), sym (c .before .before .before .before .before .narrow2 .ensures) ∙ ap told (c .before .before .before .j .given .1), c .if1 .left)
+returns-4 c = rw (sym (c .before .before .before .before .before .before .before .before .before .before .before .narrow .ensures) ∙ ap told (c .before .before .before .before .before .before .before .before .before .i .given .1), sym (c .before .before .before .before .before .narrow2 .ensures) ∙ ap told (c .before .before .before .j .given .1)) (sym (not-proper _ (c .if1 .left)))
 
 pub span-over-spec : {M : Type 1} → statement M
 span-over-spec =
