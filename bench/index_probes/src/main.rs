@@ -1,5 +1,5 @@
 //! How many slots of its index a lookup looks at (request No. 7), counted on the
-//! oracle's reading of the index. bench/probes builds and runs it; docs/GATE.md,
+//! oracle's reading of the index. bench/probes builds and runs it; docs/SPEED.md,
 //! "The index's lookups", says what it prints.
 
 mod lookups;

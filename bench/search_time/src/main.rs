@@ -1,6 +1,6 @@
 //! The proved search's time beside the original's (request No. 8): in each
 //! round of one run both search the same world, turn by turn. bench/search
-//! builds and runs it; docs/GATE.md, "The search's time", says what it prints.
+//! builds and runs it; docs/SPEED.md, "The search's time", says what it prints.
 
 mod clock;
 mod figures;
