@@ -3,6 +3,7 @@
 //! command does.
 
 mod call;
+mod columns;
 mod counts;
 mod differ;
 mod edges;
@@ -41,6 +42,7 @@ driver numbers FROM COUNT [THREADS]
 driver roots FROM COUNT [THREADS]
 driver edges FROM COUNT [THREADS]
 driver short FROM COUNT [THREADS]
+driver columns FROM COUNT [THREADS]
 ";
 
 fn main() -> ExitCode {
@@ -77,6 +79,7 @@ fn command(arguments: &[String]) -> Result<bool, String> {
         "roots" => roots::one_pattern,
         "edges" => edges::one_scene,
         "short" => short::one_scene,
+        "columns" => columns::one_world,
         _ => return Err(USAGE.to_string()),
     };
     let numbers = Numbers {
