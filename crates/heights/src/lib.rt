@@ -1,4 +1,4 @@
-// The heights of a column (01, The graph, "Graph step"): the box tops that a step may go to, the next smallest one a call.
+// The heights of a column (01, The graph, "Graph step"): the box tops that a step may go to, smallest first.
 //
 // Which tops count is here; `lowest` has the lowest so many of them, in one pass over a column's cells, and `batches` goes through a column by such passes.
 mod batches;
