@@ -20,8 +20,23 @@ use crate::sizes::{INDEX, longer, needed};
 
 /// The world of a number, by the proved search, the original and the reading.
 pub fn one_world(_: &Makers, number: u64, counts: &mut Counts) -> Result<(), Mismatch> {
-    let scene = world(number);
-    let call = Call::of(&scene);
+    all_three(&world(number), number, counts, |scene, answer, counts| {
+        places(scene, answer, counts);
+        Ok(())
+    })
+}
+
+/// What is looked at in an answer that was as it must be.
+type Look = fn(&Scene, &Answer, &mut Counts) -> Result<(), String>;
+
+/// A world by the proved search, the original and the reading.
+pub fn all_three(
+    scene: &Scene,
+    number: u64,
+    counts: &mut Counts,
+    look: Look,
+) -> Result<(), Mismatch> {
+    let call = Call::of(scene);
     let judged = judge(&call);
     let extra = [11, 11, number as usize % 3, 11];
     let sizes = longer(needed(call.request.node_budget), extra);
@@ -29,8 +44,8 @@ pub fn one_world(_: &Makers, number: u64, counts: &mut Counts) -> Result<(), Mis
         counts.search(&must);
         counts.index(&must, sizes[INDEX]);
         let original = answered(&judged).ok_or("it is refused")?;
-        places(&scene, original, counts);
-        match search(&scene, Variant::ReadAsWritten) {
+        look(scene, original, counts)?;
+        match search(scene, Variant::ReadAsWritten) {
             Ok(read) if read.same_bits(original) => Ok(()),
             _ => Err("the reading and the original part".to_string()),
         }

@@ -11,6 +11,7 @@ mod edits;
 mod expected;
 mod large;
 mod numbers;
+mod passes;
 mod policy;
 mod reader;
 mod room;
@@ -19,6 +20,7 @@ mod runner;
 mod scenes;
 mod short;
 mod sizes;
+mod slivers;
 mod sweeps;
 mod tables;
 mod used;
@@ -43,6 +45,7 @@ driver roots FROM COUNT [THREADS]
 driver edges FROM COUNT [THREADS]
 driver short FROM COUNT [THREADS]
 driver columns FROM COUNT [THREADS]
+driver slivers FROM COUNT [THREADS]
 ";
 
 fn main() -> ExitCode {
@@ -80,6 +83,7 @@ fn command(arguments: &[String]) -> Result<bool, String> {
         "edges" => edges::one_scene,
         "short" => short::one_scene,
         "columns" => columns::one_world,
+        "slivers" => slivers::one_world,
         _ => return Err(USAGE.to_string()),
     };
     let numbers = Numbers {
