@@ -13,6 +13,7 @@ pub mod Calls
 pub mod Accepted
 pub mod Pushes
 pub mod Movements
+pub mod OwnEdge
 pub mod NotNegative
 pub mod InRange
 pub mod Numbers

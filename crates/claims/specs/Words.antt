@@ -1,13 +1,14 @@
 -- The words of the claims. Definitions only.
 use Prim.Native.Nat.{ℕ, _<_}
 use mathlib.Core.Path.{_≡_}
-use mathlib.Core.Bool.{true}
+use mathlib.Core.Bool.{Bool, true, _&&_, _||_}
 use mathlib.Core.Option.{some}
 use mathlib.Core.List.{List}
 use mathlib.Core.Logic.{_⊎_, _≢_}
 use lib.Dec.{T}
 use lib.Ieee.{binary64, fits, lt, eq}
 use Rattle.exploration.specs.Lists.{nth}
+use Rattle.exploration.specs.Graph.{Graph, hasStep, connects}
 use Rattle.exploration.specs.Policy.{Node}
 use Rattle.exploration.specs.Explore.{State, run, begin}
 use Rattle.fields.specs.Records.{firsts}
@@ -52,6 +53,15 @@ keptPoints n room = firsts n (λ k. nodeAt room k .feet)
 
 abbrev pub closedWords : ℕ → List ℕ → List ℕ
 closedWords n room = firsts n (λ k. nodeAt room k .closed)
+
+-- ---- a pair of a list
+
+module _ {P L : Type 0} (𝓖 : Graph P L) where
+  open Graph 𝓖 using (same, goal)
+
+  -- it is the graph's: a graph step, or if it is the last one the connector to the goal
+  abbrev pub joined : Bool → P → P × L → Bool
+  joined last p w = hasStep 𝓖 p w || (last && (connects 𝓖 p w && same (w .0) goal))
 
 -- ---- the order of a search
 
