@@ -12,6 +12,7 @@ pub mod Points
 pub mod Calls
 pub mod Accepted
 pub mod Pushes
+pub mod OwnEdge
 pub mod NotNegative
 pub mod InRange
 pub mod Numbers
