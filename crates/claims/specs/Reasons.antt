@@ -66,7 +66,7 @@ module _ (w : Window) (cells perms shapes boxes : List ℕ) (r : Request) (body 
   abbrev pub Says : Bool → PairFault → Type 0
   Says last (NoEdge why) = (l : Label) → joined 𝓖 last p (q, l) ≡ false
   Says last NotAStep = (l : Label) → joined 𝓖 last p (q, l) ≡ false
-  Says last WrongLabel = Σ Waypoint (λ own. (edge sp r body (pointOf p) (pointOf q) ≡ To own) × ((l : Label) → joined 𝓖 last p (q, l) ≡ alike (labelOf own) l))
+  Says last WrongLabel = (own : Waypoint) × ((edge sp r body (pointOf p) (pointOf q) ≡ To own) × ((l : Label) → joined 𝓖 last p (q, l) ≡ alike (labelOf own) l))
 
   by-check : InF64 r → (last : Bool) (c : EdgeCheck) → edgeCheck sp r body (pointOf p) (pointOf q) ≡ c → Says last (pairFaultBy sp r body last p q c)
   by-check f last (Fails why) h =

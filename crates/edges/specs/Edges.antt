@@ -15,7 +15,8 @@ use Rattle.moves.specs.declared.answer.EdgeAnswer.{EdgeAnswer}
 use Rattle.moves.specs.declared.answer.EdgeAnswer.the-variants.{To, Nowhere}
 use Rattle.moves.specs.Moves.{moving}
 -- the corners of the way, and the area that a body sweeps from a point on
-pub use Rattle.ways.specs.Ways.{raised, across, up, swept}
+pub use Rattle.ways.specs.Ways.{raised, across, up}
+unfoldable pub use Rattle.ways.specs.Ways.{swept}
 
 -- "the lift, crossing and settle areas clear"
 unfoldable pub wayClear : Space → Body → Point → Point → Float → Bool
