@@ -10,3 +10,4 @@ pub mod roots;
 pub mod scenes;
 pub mod version;
 pub mod walked;
+pub mod word;
