@@ -1,4 +1,4 @@
--- What 117 of the walk-back means, of the bytes that `walkprint_walk_back` is handed and leaves: "not a graph step (nor, at the last pair, a connector)". Whatever
+-- What 117 of the walk-back means, of the bytes that `walkprint_walk_back` is handed, and of the place that it gives: "not a graph step (nor, at the last pair, a connector)". Whatever
 -- movement and lift the record had, no graph step would lead to it.
 use Prim.Native.Nat.{ℕ, _+_, _/_, _<_}
 use native.Mathlib.Omega.{arith}
@@ -24,7 +24,7 @@ use Rattle.walk_back.specs.declared.Walked.{Walked}
 use Rattle.walk_back.specs.declared.Walked.the-variants.{Yes, No, BadWorld, TooLarge}
 use Rattle.walk_back.specs.WalkBack.{walkedNumber, walkedPlaces, walked}
 use Rattle.walk_back.specs.Places.{BreaksAt}
-use Rattle.walk_back.specs.Claims.{first-reason}
+use Rattle.walk_back.specs.Claims.{pairs-told}
 use Rattle.c_records.specs.Records.{windowIn, bodyIn}
 use Rattle.c_records.specs.Asked.{asked}
 use Rattle.claims.specs.Reasons.{Says, a-pair-whatever-its-label}
@@ -63,7 +63,7 @@ module _ (window cells perms shapes boxes request body list : List ℕ) where
     where
       go : (a : Walked) → answer ≡ a → walkedNumber a ≡ 117 → (m : ℕ) × ((walkedPlaces a ≡ m ∷ []) × NoStepTo m)
       go (No (Pair fault m)) h e =
-          (m, (refl, broken (first-reason (windowIn window) cells perms shapes boxes question (bodyIn body) list h .1) (one-pair fault NotAStep e)))
+          (m, (refl, broken (pairs-told (windowIn window) cells perms shapes boxes question (bodyIn body) list h) (one-pair fault NotAStep e)))
       go Yes h e = absurd (omega arith)
       go BadWorld h e = absurd (omega arith)
       go TooLarge h e = absurd (omega arith)

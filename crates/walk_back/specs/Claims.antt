@@ -1,4 +1,4 @@
--- What the walk-back's answer says, one theorem a claim, in the words of WalkBack.
+-- What the walk-back's answer says, one theorem a claim, in the words of WalkBack and Places.
 use Prim.Native.Nat.{ℕ, _%_}
 use native.Mathlib.Omega.{arith}
 use mathlib.Core.Path.{_≡_, refl, sym, ap, _∙_}
@@ -92,16 +92,20 @@ module _ (w : Window) (cells perms shapes boxes : List ℕ) (r : Request) (body 
 
 -- ---- the first reason
 
--- 02's order of the reasons that come before the pairs
-abbrev pub faultOrder : Fault → ℕ
-faultOrder InvalidRequest = 0
-faultOrder BadList = 1
-faultOrder GoalOutOfRange = 2
-faultOrder StartNotStandable = 3
-faultOrder GoalNotStandable = 4
-faultOrder WrongStart = 5
-faultOrder (Pair fault place) = 6
-faultOrder WrongEnd = 6
+-- The order in which 01 and 02 judge: "3; `valid_request`; 4", then "bad list (judged after 4), goal out of range, start not standable, goal not standable, wrong
+-- start", and behind them the pairs and the end.
+abbrev pub walkedOrder : Walked → ℕ
+walkedOrder BadWorld = 0
+walkedOrder (No InvalidRequest) = 1
+walkedOrder TooLarge = 2
+walkedOrder (No BadList) = 3
+walkedOrder (No GoalOutOfRange) = 4
+walkedOrder (No StartNotStandable) = 5
+walkedOrder (No GoalNotStandable) = 6
+walkedOrder (No WrongStart) = 7
+walkedOrder (No (Pair fault place)) = 8
+walkedOrder (No WrongEnd) = 8
+walkedOrder Yes = 8
 
 -- what is told of the pairs, and of the end behind them: the first pair that is none of the graph's, and its place; or that each pair is a graph step, and the last
 -- point is not the goal
@@ -116,37 +120,59 @@ PairsTold sp r body list GoalNotStandable = Unit {0}
 PairsTold sp r body list WrongStart = Unit {0}
 
 module _ (sp : Space) (r : Request) (body : Body) (list : List ℕ) where
-  -- which tests fail, in 02's order
-  abbrev pub failures : List Bool
-  failures =
-      not (validRequest r body) ∷ badList list ∷ not (inRange r (r .goal)) ∷ not (standable sp body (r .start)) ∷ not (standable sp body (r .goal))
-      ∷ not (starts (r .start) (waypointAt list 0)) ∷ []
+  behind : (g : Going Feet Label) → walkedOrder (walkedBy sp r body g) ≡ 8
+  behind Through = refl
+  behind Astray = refl
+  behind (Broken m q w last) = refl
 
-  by-going : (g : Going Feet Label) → goingOn sp r body list ≡ g → {fault : Fault} → walkedBy sp r body g ≡ No fault → (faultOrder fault ≡ 6) × PairsTold sp r body list fault
+  -- the tests one after the other
+  in-order : (bad valid large listed goal start stands begins : Bool) (a : Walked) → walkedOrder a ≡ 8 →
+      walkedOrder (cond bad BadWorld (cond (not valid) (No InvalidRequest) (cond large TooLarge (cond listed (No BadList) (cond (not goal) (No GoalOutOfRange) (cond (not start) (No StartNotStandable) (cond (not stands) (No GoalNotStandable) (cond (not begins) (No WrongStart) a))))))))
+      ≡ firstFailing (bad ∷ not valid ∷ large ∷ listed ∷ not goal ∷ not start ∷ not stands ∷ not begins ∷ [])
+  in-order true valid large listed goal start stands begins a e = refl
+  in-order false false large listed goal start stands begins a e = refl
+  in-order false true true listed goal start stands begins a e = refl
+  in-order false true false true goal start stands begins a e = refl
+  in-order false true false false false start stands begins a e = refl
+  in-order false true false false true false stands begins a e = refl
+  in-order false true false false true true false begins a e = refl
+  in-order false true false false true true true false a e = refl
+  in-order false true false false true true true true a e = e
+
+  by-going : {fault : Fault} (g : Going Feet Label) → goingOn sp r body list ≡ g → walkedBy sp r body g ≡ No fault → PairsTold sp r body list fault
   by-going Through h e = absurd (let z : _≡_ {A = ℕ} 0 1 = cc in omega arith)
-  by-going Astray h {fault} e = let z : WrongEnd ≡ fault = cc in rw (← z) (refl, ends-elsewhere sp r body list h)
-  by-going (Broken m q w last) h {fault} e = let z : Pair (pairFault sp r body last q (w .0)) m ≡ fault = cc in rw (← z) (refl, broken-at sp r body list h)
+  by-going {fault} Astray h e = let z : WrongEnd ≡ fault = cc in rw (← z) (ends-elsewhere sp r body list h)
+  by-going {fault} (Broken m q w last) h e = let z : Pair (pairFault sp r body last q (w .0)) m ≡ fault = cc in rw (← z) (broken-at sp r body list h)
 
-  in-order : {fault : Fault} (bad valid large listed goal start stands begins : Bool) →
+  by-tests : {fault : Fault} (bad valid large listed goal start stands begins : Bool) →
       cond bad BadWorld (cond (not valid) (No InvalidRequest) (cond large TooLarge (cond listed (No BadList) (cond (not goal) (No GoalOutOfRange) (cond (not start) (No StartNotStandable) (cond (not stands) (No GoalNotStandable) (cond (not begins) (No WrongStart) (walkedBy sp r body (goingOn sp r body list)))))))))
-      ≡ No fault →
-      (faultOrder fault ≡ firstFailing (not valid ∷ listed ∷ not goal ∷ not start ∷ not stands ∷ not begins ∷ [])) × PairsTold sp r body list fault
-  in-order true valid large listed goal start stands begins e = absurd (let z : _≡_ {A = ℕ} 0 1 = cc in omega arith)
-  in-order {fault} false false large listed goal start stands begins e = let z : InvalidRequest ≡ fault = cc in rw (← z) (refl, tt)
-  in-order false true true listed goal start stands begins e = absurd (let z : _≡_ {A = ℕ} 0 1 = cc in omega arith)
-  in-order {fault} false true false true goal start stands begins e = let z : BadList ≡ fault = cc in rw (← z) (refl, tt)
-  in-order {fault} false true false false false start stands begins e = let z : GoalOutOfRange ≡ fault = cc in rw (← z) (refl, tt)
-  in-order {fault} false true false false true false stands begins e = let z : StartNotStandable ≡ fault = cc in rw (← z) (refl, tt)
-  in-order {fault} false true false false true true false begins e = let z : GoalNotStandable ≡ fault = cc in rw (← z) (refl, tt)
-  in-order {fault} false true false false true true true false e = let z : WrongStart ≡ fault = cc in rw (← z) (refl, tt)
-  in-order false true false false true true true true e = by-going (goingOn sp r body list) refl e
+      ≡ No fault → PairsTold sp r body list fault
+  by-tests true valid large listed goal start stands begins e = absurd (let z : _≡_ {A = ℕ} 0 1 = cc in omega arith)
+  by-tests {fault} false false large listed goal start stands begins e = let z : InvalidRequest ≡ fault = cc in rw (← z) tt
+  by-tests false true true listed goal start stands begins e = absurd (let z : _≡_ {A = ℕ} 0 1 = cc in omega arith)
+  by-tests {fault} false true false true goal start stands begins e = let z : BadList ≡ fault = cc in rw (← z) tt
+  by-tests {fault} false true false false false start stands begins e = let z : GoalOutOfRange ≡ fault = cc in rw (← z) tt
+  by-tests {fault} false true false false true false stands begins e = let z : StartNotStandable ≡ fault = cc in rw (← z) tt
+  by-tests {fault} false true false false true true false begins e = let z : GoalNotStandable ≡ fault = cc in rw (← z) tt
+  by-tests {fault} false true false false true true true false e = let z : WrongStart ≡ fault = cc in rw (← z) tt
+  by-tests false true false false true true true true e = by-going (goingOn sp r body list) refl e
 
 module _ (w : Window) (cells perms shapes boxes : List ℕ) (r : Request) (body : Body) (list : List ℕ) where
-  -- "The walk-back answers its first reason": in 02's order, and of the pairs the first with its place, or the end behind them all.
-  pub first-reason : {fault : Fault} → walked w cells perms shapes boxes r body list ≡ No fault →
-      (faultOrder fault ≡ firstFailing (failures (space w cells perms shapes boxes) r body list)) × PairsTold (space w cells perms shapes boxes) r body list fault
+  abbrev sp : Space
+  sp = space w cells perms shapes boxes
+
+  -- "The walk-back answers its first reason": the answer is that of the first test that fails, in this order; and where none does, the pairs decide.
+  pub first-in-order : walkedOrder (walked w cells perms shapes boxes r body list) ≡ firstFailing
+      (badWorld w cells shapes boxes ∷ not (validRequest r body) ∷ sizesTooLarge r body ∷ badList list ∷ not (inRange r (r .goal)) ∷ not (standable sp body (r .start))
+      ∷ not (standable sp body (r .goal)) ∷ not (starts (r .start) (waypointAt list 0)) ∷ [])
   unfolding walked walkedList
-  first-reason e =
-      let sp = space w cells perms shapes boxes in
+  first-in-order =
       in-order sp r body list (badWorld w cells shapes boxes) (validRequest r body) (sizesTooLarge r body) (badList list) (inRange r (r .goal)) (standable sp body (r .start)) (standable sp body (r .goal))
+      (starts (r .start) (waypointAt list 0)) (walkedBy sp r body (goingOn sp r body list)) (behind sp r body list (goingOn sp r body list))
+
+  -- Of the pairs it tells the first that is none of the graph's, with its place, or behind them all the end.
+  pub pairs-told : {fault : Fault} → walked w cells perms shapes boxes r body list ≡ No fault → PairsTold sp r body list fault
+  unfolding walked walkedList
+  pairs-told e =
+      by-tests sp r body list (badWorld w cells shapes boxes) (validRequest r body) (sizesTooLarge r body) (badList list) (inRange r (r .goal)) (standable sp body (r .start)) (standable sp body (r .goal))
       (starts (r .start) (waypointAt list 0)) e
