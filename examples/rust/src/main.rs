@@ -1,5 +1,6 @@
 //! A scene, from a Rust program: reads the scene file that it is given,
-//! searches a way, prints the route, and asks walk-back whether it is one.
+//! searches a way, prints the route, and asks walk-back whether it is one; then
+//! the same of a list that is none, which is told why and where.
 //! tools/test-examples builds and runs it on the flat scene.
 
 use std::error::Error;
@@ -28,16 +29,21 @@ fn main() -> Result<(), Box<dyn Error>> {
     let answer = walkprint::find_walk_path(&tables, &scene.request, &scene.body, &mut rooms)?;
 
     println!(
-        "{:?}: {} waypoints, {} nodes retained, {} closed",
+        "{}: {} waypoints, {} nodes retained, {} closed",
         answer.outcome, answer.count, answer.retained, answer.closed
     );
     for (i, w) in Waypoint::list(&out, answer.count).iter().enumerate() {
-        let movement = format!("{:?}", w.movement).to_lowercase();
-        println!("{i} {movement} {} {} {} lift {}", w.feet[0], w.feet[1], w.feet[2], w.lift);
+        println!("{i} {} {} {} {} lift {}", w.movement, w.feet[0], w.feet[1], w.feet[2], w.lift);
     }
 
-    let list = &out[..40 * answer.count];
-    let route = walkprint::walk_back(&tables, &scene.request, &scene.body, list)?;
-    println!("walk-back: {}", if route { "a route" } else { "no route" });
+    let list = &mut out[..40 * answer.count];
+    println!("walk-back: {}", walkprint::walk_back(&tables, &scene.request, &scene.body, list)?);
+
+    // The list with its last point a block higher: y is the second number of a record.
+    if let Some(last) = list.chunks_exact_mut(40).last() {
+        let y = f64::from_le_bytes(last[8..16].try_into()?) + 1.0;
+        last[8..16].copy_from_slice(&y.to_le_bytes());
+        println!("its last point a block higher: {}", walkprint::walk_back(&tables, &scene.request, &scene.body, list)?);
+    }
     Ok(())
 }
