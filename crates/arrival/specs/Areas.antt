@@ -47,7 +47,7 @@ through-point a b c h k = record { x = h .x ∙ k .x; y = h .y ∙ k .y; z = h .
 -- ---- the box of a body
 
 module _ (width height : Float) where
-  feet-alike : (p q : Point) → AlikePoint p q → AlikeBox (fromFeet p width height) (fromFeet q width height)
+  pub feet-alike : (p q : Point) → AlikePoint p q → AlikeBox (fromFeet p width height) (fromFeet q width height)
   unfolding fromFeet
   feet-alike p q h = record {
     min = record { x = sub-alike (p .x) _ (q .x) _ (h .x) refl; y = h .y; z = sub-alike (p .z) _ (q .z) _ (h .z) refl };

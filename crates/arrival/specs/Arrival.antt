@@ -1,16 +1,12 @@
 -- Where a point is the same as the goal, the goal is in range and a body may stand there, the connector passes: it is a Walk with lift 0. So a search that is at
 -- such a point may end its list there.
-use Prim.Native.Nat.{ℕ}
-use mathlib.Core.Path.{_≡_, refl, sym, ap, _∙_}
-use mathlib.Core.Bool.{Bool, true, _&&_}
+use mathlib.Core.Path.{_≡_, refl, sym, _∙_}
+use mathlib.Core.Bool.{Bool, true}
 use mathlib.Core.Option.{some}
-use borrow.Author.Tests.{eqb-true}
-use lib.Dec.{T}
-use lib.Ieee.{Float, binary64, fits, lt, le, eq, add, sub, ofBits, toBits}
+use lib.Ieee.{Float, binary64, lt, le, eq, add, sub, ofBits, toBits}
 use lib.Ieee.Fits.{add-fits}
 use lib.Ieee.Scale.{finite}
-use Rattle.floats.specs.Floats.{nought, absolute, canonical}
-use Rattle.floats.specs.Laws.{float-of-bits}
+use Rattle.floats.specs.Floats.{nought, absolute}
 use Rattle.world.specs.declared.Point.{Point}
 use Rattle.world.specs.declared.Body.{Body}
 use Rattle.world.specs.declared.Request.{Request}
@@ -25,12 +21,12 @@ use Rattle.moves.specs.declared.answer.EdgeAnswer.the-variants.{To}
 use Rattle.places.specs.Places.{inRange, standable, near}
 use Rattle.edges.specs.Edges.{raised, across, up, swept, wayClear, passable, edge, connector}
 use Rattle.rooms.specs.declared.Feet.{Feet}
-use Rattle.rooms.specs.Waypoints.{canonicalWord, sameWord, samePoint, standing}
-use Rattle.words.specs.Words.{coordinate, pointOf, feetOf, labelOf}
+use Rattle.rooms.specs.Waypoints.{samePoint, standing}
+use Rattle.words.specs.Words.{pointOf, feetOf, labelOf}
 use Rattle.steps.specs.Graph.{graph}
 use Rattle.arrival.specs.Alike.{Alike, zero-alike, nought-zero, finite-alike, no-difference, with-zero, le-alike, absolute-alike}
 use Rattle.arrival.specs.Areas.{AlikePoint, ZeroPoint, Held, itself, swept-nowhere, clear-alike}
-use Rattle.arrival.specs.Signs.{level-walk, range-alike, edge-same, word-alike}
+use Rattle.arrival.specs.Signs.{level-walk, range-alike, edge-same, point-same}
 
 -- ---- near
 
@@ -114,17 +110,6 @@ module _ (sp : Space) (r : Request) (body : Body) (n : FinitePoint (r .goal)) (l
       rw (near-itself (from .x) (r .goal .x) (h .x) (n .x), near-itself (from .z) (r .goal .z) (h .z) (n .z)) (edge-alike sp r body (r .goal) n l from h i s)
 
   -- over words: of feet that are the same as the goal's
-  coordinate-alike : (w : ℕ) (x : Float) → T (fits binary64 x) → sameWord w (toBits binary64 x) ≡ true → Alike (coordinate w) x
-  unfolding sameWord coordinate
-  coordinate-alike w x f e =
-      ap (λ (v : ℕ). canonical (ofBits binary64 v)) (eqb-true (canonicalWord w) (canonicalWord (toBits binary64 x)) e) ∙ word-alike (toBits binary64 x) ∙ ap canonical (float-of-bits x f)
-
   pub connected-at-goal : (p : Feet) → samePoint p (feetOf (r .goal)) ≡ true → graph sp r body .connector p ≡ some standing
-  unfolding graph samePoint feetOf
-  connected-at-goal p e =
-      let yz = both (sameWord (p .x) (toBits binary64 (r .goal .x)) && sameWord (p .y) (toBits binary64 (r .goal .y))) (sameWord (p .z) (toBits binary64 (r .goal .z))) e in
-      let xy = both (sameWord (p .x) (toBits binary64 (r .goal .x))) (sameWord (p .y) (toBits binary64 (r .goal .y))) (yz .0) in
-      rw (connector-alike (pointOf p) (here (xy .0) (xy .1) (yz .1))) (unfold labelOf toBits ofBits in refl)
-    where
-      here : sameWord (p .x) (toBits binary64 (r .goal .x)) ≡ true → sameWord (p .y) (toBits binary64 (r .goal .y)) ≡ true → sameWord (p .z) (toBits binary64 (r .goal .z)) ≡ true → AlikePoint (pointOf p) (r .goal)
-      here a b c = unfold pointOf in record { x = coordinate-alike (p .x) (r .goal .x) (l .x) a; y = coordinate-alike (p .y) (r .goal .y) (l .y) b; z = coordinate-alike (p .z) (r .goal .z) (l .z) c }
+  unfolding graph
+  connected-at-goal p e = rw (connector-alike (pointOf p) (point-same p (r .goal) l e)) (unfold labelOf toBits ofBits in refl)

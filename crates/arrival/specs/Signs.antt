@@ -1,16 +1,17 @@
 -- The sign of a zero makes no difference to where a body can go: from points that differ at most in signs of zeros go the same edges, the same connector and the
--- same steps, whatever the coordinates are, NaN and the infinities too. So a graph that reads a point with -0.0 as 0.0 (`pointOf` of words) has the steps and the
--- connector that the point's own bits have.
+-- same steps, and to such points lead the same edges, whatever the coordinates are, NaN and the infinities too. So a graph that reads a point with -0.0 as 0.0
+-- (`pointOf` of words) has the steps and the connector that the point's own bits have, and points that 01 calls the same have one edge's label.
 use Prim.Native.Nat.{ℕ, zero, suc, _+_}
 use mathlib.Core.Path.{_≡_, refl, sym, ap, _∙_}
-use mathlib.Core.Bool.{Bool, true, false, cond}
+use mathlib.Core.Bool.{Bool, true, false, _&&_, cond}
 use mathlib.Core.List.{List, [], _∷_, map}
 use mathlib.Core.Logic.{⊎-elim}
 use borrow.Author.Tests.{eqb-true}
-use lib.Dec.{eqb}
+use lib.Dec.{T, eqb}
 use lib.IntN.{pos, _+ℤ_, _-ℤ_}
-use lib.Ieee.{Float, binary64, lt, add, sub, neg, ofBits}
+use lib.Ieee.{Float, binary64, fits, lt, add, sub, neg, ofBits, toBits}
 use Rattle.floats.specs.Floats.{E, nought, larger, absolute, canonical}
+use Rattle.floats.specs.Laws.{float-of-bits}
 use Rattle.cells.specs.Cells.{floorCell}
 use Rattle.regions.specs.Ranges.{gather, along, count}
 use Rattle.world.specs.declared.Point.{Point}
@@ -19,25 +20,30 @@ use Rattle.world.specs.declared.Body.{Body}
 use Rattle.world.specs.declared.Request.{Request}
 use Rattle.world.specs.Boxes.{minus}
 use Rattle.world.specs.Space.{Space, Block}
+use Rattle.world.specs.Laws.{both}
 use Rattle.clear.specs.Clear.{clear}
+use Rattle.moves.specs.declared.answer.Movement.{Movement}
 use Rattle.moves.specs.declared.answer.Movement.the-variants.{Walk}
 use Rattle.moves.specs.declared.answer.Moving.{Moving}
 use Rattle.moves.specs.declared.answer.Moving.the-variants.{By, None}
 use Rattle.moves.specs.declared.answer.Waypoint.{Waypoint}
+use Rattle.moves.specs.declared.answer.EdgeAnswer.{EdgeAnswer}
+use Rattle.moves.specs.declared.answer.EdgeAnswer.the-variants.{To, Nowhere}
 use Rattle.moves.specs.Moves.{stepHeight, moving}
-use Rattle.places.specs.Places.{inRange, near}
+use Rattle.places.specs.Places.{inRange, standable, near}
 use Rattle.edges.specs.Edges.{raised, across, up, swept, wayClear, passable, edgeBy, edge, connector}
 use Rattle.heights.specs.declared.Band.{Band}
 use Rattle.heights.specs.Heights.{reaches, topsOf, topsIn, tops, heights}
 use Rattle.sides.specs.Sides.{levelTo}
 use Rattle.rooms.specs.declared.Feet.{Feet}
-use Rattle.rooms.specs.Waypoints.{canonicalWord}
-use Rattle.words.specs.Words.{coordinate, pointOf, stepOf, labelIf}
+use Rattle.rooms.specs.Waypoints.{canonicalWord, sameWord, samePoint}
+use Rattle.words.specs.Words.{coordinate, pointOf, feetOf, labelOf, stepOf, labelIf}
 use Rattle.steps.specs.declared.columns.Centre.{Centre}
 use Rattle.steps.specs.Columns.{centre, centreOf, bandOf, target, level, edgesAt, columnSteps, side, sides, columnIf, stepsFrom}
 use Rattle.steps.specs.Graph.{graph}
+use Rattle.steps.specs.GraphLaws.{graph-laws}
 use Rattle.arrival.specs.Alike.{Alike, Zero, zero-alike, zero-or-same, add-alike, sub-alike, lt-alike, le-alike, smaller-alike, larger-alike, absolute-alike, floor-alike}
-use Rattle.arrival.specs.Areas.{AlikePoint, itself, minus-alike, swept-alike, clear-alike}
+use Rattle.arrival.specs.Areas.{AlikePoint, Held, itself, minus-alike, feet-alike, swept-alike, clear-alike}
 use Rattle.arrival.specs.Supports.{supported-alike}
 
 -- ---- the movement: differences in height that are alike are zeros, which is a Walk with lift 0, or one number
@@ -59,7 +65,7 @@ module _ (dy : Float) (z : Zero dy) where
 moving-alike : (r : Request) (body : Body) (x y : Float) → Alike x y → moving r body x ≡ moving r body y
 moving-alike r body x y e = ⊎-elim (λ z. level-walk x (z .0) r body ∙ sym (level-walk y (z .1) r body)) (λ q. ap (moving r body) q) (zero-or-same x y e)
 
--- ---- in range, and near
+-- ---- in range, near, and standable
 
 near-alike : (most a b s : Float) → Alike a b → near most a s ≡ near most b s
 near-alike most a b s e =
@@ -71,40 +77,61 @@ range-alike r p q h =
     let most = add binary64 (r .«max_range») E in
     cc (near-alike most (p .x) (q .x) (r .start .x) (h .x), near-alike most (p .y) (q .y) (r .start .y) (h .y), near-alike most (p .z) (q .z) (r .start .z) (h .z))
 
+standable-alike : (sp : Space) (body : Body) (p q : Point) → AlikePoint p q → standable sp body p ≡ standable sp body q
+unfolding standable
+standable-alike sp body p q h =
+    cc (clear-alike _ _ (feet-alike (body .width) (body .height) p q h) sp, supported-alike p q p q h h sp (body .width))
+
 -- ---- edges and the connector
 
-module _ (sp : Space) (r : Request) (body : Body) (p q : Point) (h : AlikePoint p q) where
+-- the same answer with another target
+abbrev pub towards : Point → EdgeAnswer → EdgeAnswer
+towards to Nowhere = Nowhere
+towards to (To w) = To (record { feet = to; lift = w .lift; movement = w .movement })
+
+module _ (sp : Space) (r : Request) (body : Body) (p q a b : Point) (h : AlikePoint p q) (k : AlikePoint a b) where
   raised-alike : (lift : Float) → AlikePoint (raised p lift) (raised q lift)
   raised-alike lift = record { x = h .x; y = add-alike (p .y) lift (q .y) lift (h .y) refl; z = h .z }
 
-  across-alike : (lift : Float) (to : Point) → AlikePoint (across p lift to) (across q lift to)
-  across-alike lift to = record { x = refl; y = add-alike (p .y) lift (q .y) lift (h .y) refl; z = refl }
+  across-alike : (lift : Float) → AlikePoint (across p lift a) (across q lift b)
+  across-alike lift = record { x = k .x; y = add-alike (p .y) lift (q .y) lift (h .y) refl; z = k .z }
 
-  area-alike : (a b d e : Point) → AlikePoint a b → AlikePoint d e → clear sp (swept body a d) ≡ clear sp (swept body b e)
+  area-alike : (c d e f : Point) → AlikePoint c d → AlikePoint e f → clear sp (swept body c e) ≡ clear sp (swept body d f)
   unfolding swept
-  area-alike a b d e k l = clear-alike _ _ (swept-alike (body .width) (body .height) a b d e k l) sp
+  area-alike c d e f l m = clear-alike _ _ (swept-alike (body .width) (body .height) c d e f l m) sp
 
-  module _ (to : Point) where
-    passable-same : (lift : Float) → passable sp r body p to lift ≡ passable sp r body q to lift
-    unfolding passable wayClear
-    passable-same lift =
-        let up-there = raised-alike lift in
-        let over-there = across-alike lift to in
-        rw (
-          range-alike r (raised p lift) (raised q lift) up-there,
-          area-alike p q (up lift) (up lift) h (itself (up lift)),
-          area-alike (raised p lift) (raised q lift) (minus (across p lift to) (raised p lift)) (minus (across q lift to) (raised q lift)) up-there (minus-alike (across p lift to) (raised p lift) (across q lift to) (raised q lift) over-there up-there),
-          area-alike (across p lift to) (across q lift to) (minus to (across p lift to)) (minus to (across q lift to)) over-there (minus-alike to (across p lift to) to (across q lift to) (itself to) over-there),
-          supported-alike p q to h sp (body .width),
-        )
+  passable-same : (lift : Float) → passable sp r body p a lift ≡ passable sp r body q b lift
+  unfolding passable wayClear
+  passable-same lift =
+      let up-there = raised-alike lift in
+      let over-there = across-alike lift in
+      rw (
+        range-alike r a b k,
+        range-alike r (raised p lift) (raised q lift) up-there,
+        standable-alike sp body a b k,
+        area-alike p q (up lift) (up lift) h (itself (up lift)),
+        area-alike (raised p lift) (raised q lift) (minus (across p lift a) (raised p lift)) (minus (across q lift b) (raised q lift)) up-there (minus-alike (across p lift a) (raised p lift) (across q lift b) (raised q lift) over-there up-there),
+        area-alike (across p lift a) (across q lift b) (minus a (across p lift a)) (minus b (across q lift b)) over-there (minus-alike a (across p lift a) b (across q lift b) k over-there),
+        supported-alike p q a b h k sp (body .width),
+      )
 
-    pub edge-same : edge sp r body p to ≡ edge sp r body q to
-    unfolding edge
-    edge-same = rw (moving-alike r body (sub binary64 (to .y) (p .y)) (sub binary64 (to .y) (q .y)) (sub-alike (to .y) (p .y) (to .y) (q .y) refl (h .y))) (by (moving r body (sub binary64 (to .y) (q .y))))
-      where
-        by : (m : Moving) → edgeBy sp r body p to m ≡ edgeBy sp r body q to m
-        by None = refl
-        by (By m lift) = rw (passable-same lift)
+  -- no edge of both, or two of the same movement and the same lift
+  pub edge-towards : edge sp r body p a ≡ towards a (edge sp r body q b)
+  unfolding edge
+  edge-towards = rw (moving-alike r body (sub binary64 (a .y) (p .y)) (sub binary64 (b .y) (q .y)) (sub-alike (a .y) (p .y) (b .y) (q .y) (k .y) (h .y))) (by (moving r body (sub binary64 (b .y) (q .y))))
+    where
+      pick : (m : Movement) (lift : Float) (c : Bool) →
+          cond c (To (record { feet = a; lift = lift; movement = m })) Nowhere ≡ towards a (cond c (To (record { feet = b; lift = lift; movement = m })) Nowhere)
+      pick m lift true = refl
+      pick m lift false = refl
+
+      by : (m : Moving) → edgeBy sp r body p a m ≡ towards a (edgeBy sp r body q b m)
+      by None = refl
+      by (By m lift) = rw (passable-same lift) (pick m lift (passable sp r body q b lift))
+
+module _ (sp : Space) (r : Request) (body : Body) (p q : Point) (h : AlikePoint p q) where
+  pub edge-same : (to : Point) → edge sp r body p to ≡ edge sp r body q to
+  edge-same to = edge-towards sp r body p q to to h (itself to) ∙ sym (edge-towards sp r body q q to to (itself q) (itself to))
 
   -- whatever the points are: no coordinate need be a number
   pub connector-same : connector sp r body p ≡ connector sp r body q
@@ -217,3 +244,35 @@ module _ (sp : Space) (r : Request) (body : Body) (p : Feet) where
   pub connector-by-bits : graph sp r body .connector p ≡ labelIf (connector sp r body (bitsOf p))
   unfolding graph
   connector-by-bits = ap labelIf (connector-same sp r body (pointOf p) (bitsOf p) canonical-alike)
+
+-- ---- over words: of points that are the same by 01, "equal bits, with -0.0 as 0"
+
+-- a word that is the same as an f64's
+word-same : (n : ℕ) (x : Float) → T (fits binary64 x) → sameWord n (toBits binary64 x) ≡ true → Alike (coordinate n) x
+unfolding sameWord coordinate
+word-same n x f e =
+    ap (λ (v : ℕ). canonical (ofBits binary64 v)) (eqb-true (canonicalWord n) (canonicalWord (toBits binary64 x)) e) ∙ word-alike (toBits binary64 x) ∙ ap canonical (float-of-bits x f)
+
+pub point-same : (q : Feet) (to : Point) → Held to → samePoint q (feetOf to) ≡ true → AlikePoint (pointOf q) to
+unfolding samePoint feetOf pointOf
+point-same q to l e =
+    let xy-z = both (sameWord (q .x) (toBits binary64 (to .x)) && sameWord (q .y) (toBits binary64 (to .y))) (sameWord (q .z) (toBits binary64 (to .z))) e in
+    let x-y = both (sameWord (q .x) (toBits binary64 (to .x))) (sameWord (q .y) (toBits binary64 (to .y))) (xy-z .0) in
+    record { x = word-same (q .x) (to .x) (l .x) (x-y .0); y = word-same (q .y) (to .y) (l .y) (x-y .1); z = word-same (q .z) (to .z) (l .z) (xy-z .1) }
+
+module _ (sp : Space) (r : Request) (body : Body) (from : Point) where
+  -- two points of f64s: one edge, but for the target
+  pub same-edge : (a b : Point) → Held a → Held b → samePoint (feetOf a) (feetOf b) ≡ true → edge sp r body from a ≡ towards a (edge sp r body from b)
+  unfolding graph
+  same-edge a b h k e =
+      let own = point-same (feetOf a) a h (graph-laws sp r body .same-refl (feetOf a)) in
+      let other = point-same (feetOf a) b k e in
+      edge-towards sp r body from from a b (itself from) (record { x = sym (own .x) ∙ other .x; y = sym (own .y) ∙ other .y; z = sym (own .z) ∙ other .z })
+
+  -- feet as the graph reads them, and a point of f64s: one label, to the bit
+  pub same-label : (q : Feet) (to : Point) → Held to → samePoint q (feetOf to) ≡ true → labelIf (edge sp r body from (pointOf q)) ≡ labelIf (edge sp r body from to)
+  same-label q to h e = ap labelIf (edge-towards sp r body from from (pointOf q) to (itself from) (point-same q to h e)) ∙ again (edge sp r body from to)
+    where
+      again : (a : EdgeAnswer) → labelIf (towards (pointOf q) a) ≡ labelIf a
+      again Nowhere = refl
+      again (To w) = unfold labelOf in refl

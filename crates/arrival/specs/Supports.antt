@@ -1,4 +1,4 @@
--- A segment is supported from one point where it is from any point alike.
+-- A segment is supported between two points where it is between any two alike.
 use Prim.Native.Nat.{ℕ, zero, suc}
 use mathlib.Core.Path.{_≡_, refl, ap, _∙_}
 use mathlib.Core.Bool.{Bool, true, false, _||_, cond}
@@ -137,18 +137,18 @@ module _ (s t least greatest : Float) (i j : Interval) (h : Alike s t) (k : Alik
 abbrev whole : Interval
 whole = record { begin = nought; end = one }
 
-module _ (p q to : Point) (h : AlikePoint p q) where
-  interval-alike : (b : Aabb) → AlikeOption (interval b p to) (interval b q to)
+module _ (p q a b : Point) (h : AlikePoint p q) (k : AlikePoint a b) where
+  interval-alike : (c : Aabb) → AlikeOption (interval c p a) (interval c q b)
   unfolding interval
-  interval-alike b =
+  interval-alike c =
       then-alike
-      (narrowed-alike (p .x) (q .x) (b .min .x) (b .max .x) whole whole (h .x) (record { begin = refl; end = refl }) (sub binary64 (to .x) (p .x)) (sub binary64 (to .x) (q .x)) (sub-alike (to .x) (p .x) (to .x) (q .x) refl (h .x)))
-      (λ i j k.
+      (narrowed-alike (p .x) (q .x) (c .min .x) (c .max .x) whole whole (h .x) (record { begin = refl; end = refl }) (sub binary64 (a .x) (p .x)) (sub binary64 (b .x) (q .x)) (sub-alike (a .x) (p .x) (b .x) (q .x) (k .x) (h .x)))
+      (λ i j l.
       then-alike
-      (narrowed-alike (p .z) (q .z) (b .min .z) (b .max .z) i j (h .z) k (sub binary64 (to .z) (p .z)) (sub binary64 (to .z) (q .z)) (sub-alike (to .z) (p .z) (to .z) (q .z) refl (h .z)))
+      (narrowed-alike (p .z) (q .z) (c .min .z) (c .max .z) i j (h .z) l (sub binary64 (a .z) (p .z)) (sub binary64 (b .z) (q .z)) (sub-alike (a .z) (p .z) (b .z) (q .z) (k .z) (h .z)))
       proper-alike)
 
-  intervals-alike : (ss : List Shape) → AlikeList (intervals p to ss) (intervals q to ss)
+  intervals-alike : (ss : List Shape) → AlikeList (intervals p a ss) (intervals q b ss)
   unfolding intervals
   intervals-alike [] = no-more
   intervals-alike (s ∷ ss) = ahead-alike (interval-alike (s .box)) (intervals-alike ss)
@@ -185,26 +185,26 @@ covers-alike is js l =
 
 -- ---- the segment
 
-module _ (p q to : Point) (h : AlikePoint p q) where
-  print-alike : (width : Float) → AlikeBox (footprint width p to) (footprint width q to)
+module _ (p q a b : Point) (h : AlikePoint p q) (k : AlikePoint a b) where
+  print-alike : (width : Float) → AlikeBox (footprint width p a) (footprint width q b)
   unfolding footprint span
   print-alike width = record {
     min = record {
-      x = sub-alike (smaller (p .x) (to .x)) _ (smaller (q .x) (to .x)) _ (smaller-alike (p .x) (to .x) (q .x) (to .x) (h .x) refl) refl;
-      y = smaller-alike (p .y) (to .y) (q .y) (to .y) (h .y) refl;
-      z = sub-alike (smaller (p .z) (to .z)) _ (smaller (q .z) (to .z)) _ (smaller-alike (p .z) (to .z) (q .z) (to .z) (h .z) refl) refl;
+      x = sub-alike (smaller (p .x) (a .x)) _ (smaller (q .x) (b .x)) _ (smaller-alike (p .x) (a .x) (q .x) (b .x) (h .x) (k .x)) refl;
+      y = smaller-alike (p .y) (a .y) (q .y) (b .y) (h .y) (k .y);
+      z = sub-alike (smaller (p .z) (a .z)) _ (smaller (q .z) (b .z)) _ (smaller-alike (p .z) (a .z) (q .z) (b .z) (h .z) (k .z)) refl;
     };
     max = record {
-      x = add-alike (larger (p .x) (to .x)) _ (larger (q .x) (to .x)) _ (larger-alike (p .x) (to .x) (q .x) (to .x) (h .x) refl) refl;
-      y = larger-alike (p .y) (to .y) (q .y) (to .y) (h .y) refl;
-      z = add-alike (larger (p .z) (to .z)) _ (larger (q .z) (to .z)) _ (larger-alike (p .z) (to .z) (q .z) (to .z) (h .z) refl) refl;
+      x = add-alike (larger (p .x) (a .x)) _ (larger (q .x) (b .x)) _ (larger-alike (p .x) (a .x) (q .x) (b .x) (h .x) (k .x)) refl;
+      y = larger-alike (p .y) (a .y) (q .y) (b .y) (h .y) (k .y);
+      z = add-alike (larger (p .z) (a .z)) _ (larger (q .z) (b .z)) _ (larger-alike (p .z) (a .z) (q .z) (b .z) (h .z) (k .z)) refl;
     };
   }
 
-  pub supported-alike : (sp : Space) (width : Float) → supported sp width p to ≡ supported sp width q to
+  pub supported-alike : (sp : Space) (width : Float) → supported sp width p a ≡ supported sp width q b
   unfolding supported carried
   supported-alike sp width =
-      let k = print-alike width in
-      let g = footprint width q to in
+      let l = print-alike width in
+      let g = footprint width q b in
       let ss = counting g (shapesUnder sp g) in
-      rw (shapes-alike (footprint width p to) g k sp, counting-alike (footprint width p to) g k (shapesUnder sp g), covers-alike (intervals p to ss) (intervals q to ss) (intervals-alike p q to h ss))
+      rw (shapes-alike (footprint width p a) g l sp, counting-alike (footprint width p a) g l (shapesUnder sp g), covers-alike (intervals p a ss) (intervals q b ss) (intervals-alike p q a b h k ss))

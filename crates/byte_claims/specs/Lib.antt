@@ -1,4 +1,6 @@
--- What the answers of the search mean, of bytes. What a reader must believe: the statements of Bytes. What is proved on the way to them: Numbers, Requests.
+-- What the answers of the search and of the walk-back mean, of bytes. What a reader must believe: the statements of Bytes and Reasons. What is proved on the way to them:
+-- Numbers, Requests.
 pub mod Numbers
 pub mod Requests
 pub mod Bytes
+pub mod Reasons

@@ -1,10 +1,8 @@
--- The bytes that a search's answer leaves in the slice that a caller lends for it, and the number of an edge.
+-- The bytes that a search's answer and a walk-back's leave in the slice that a caller lends for it.
 use Prim.Native.Nat.{ℕ}
 use mathlib.Core.List.{List, [], _∷_}
+use Rattle.fields.specs.Little.{withField}
 use Rattle.fields.specs.Records.{withRecord}
-use Rattle.moves.specs.declared.answer.EdgeAnswer.{EdgeAnswer}
-use Rattle.moves.specs.declared.answer.EdgeAnswer.the-variants.{To, Nowhere}
-use Rattle.moves.specs.Moves.{movedNumber, noneNumber}
 use Rattle.outcomes.specs.declared.Answer.{Answer}
 use Rattle.outcomes.specs.Outcomes.{outcomeNumber}
 use Rattle.outcomes.specs.declared.Path.{Path}
@@ -19,7 +17,7 @@ abbrev pub pathWritten : Path → List ℕ → List ℕ
 pathWritten (Searched a) old = answerWritten a old
 pathWritten BadTable old = old
 
--- an edge, in the numbers of `moves`: 130 Walk, 131 Step, 132 Jump, 133 Drop, or 110 where there is none
-abbrev pub edgeNumber : EdgeAnswer → ℕ
-edgeNumber (To w) = movedNumber (w .movement)
-edgeNumber Nowhere = noneNumber
+-- of a walk-back the place that goes with its answer, in the first 8 bytes; where they do not fit, or none goes with it, nothing is written
+abbrev pub placeWritten : List ℕ → List ℕ → List ℕ
+placeWritten [] old = old
+placeWritten (place ∷ places) old = withField 8 old 0 place

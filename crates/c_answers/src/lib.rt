@@ -1,11 +1,15 @@
-// What a search answers, for a call from another language: its number (01, "Numbers given back"), and a record of 32 bytes in a slice that the caller lends;
-// and the number of an edge. `walk_c` has the calls.
+// What a call from another language is answered: of a search its number (01, "Numbers given back"), and a record of 32 bytes in a slice that the caller lends;
+// the number of an edge check; and of a walk-back its number, and the place that goes with a pair's reason (02, No. 3). `walk_c` has the calls.
 ghost use mathlib.Core.Path.{_≡_};
+ghost use Rattle.moves.specs.Moves.{checkNumber};
 ghost use Rattle.outcomes.specs.Outcomes.{outcomeNumber, pathNumber};
-ghost use Rattle.c_answers.specs.Answers.{answerWritten, pathWritten, edgeNumber};
-use moves::EdgeAnswer;
+ghost use Rattle.walk_back.specs.WalkBack.{faultNumber, faultPlaces, walkedNumber, walkedPlaces};
+ghost use Rattle.c_answers.specs.Answers.{answerWritten, pathWritten, placeWritten};
+use moves::EdgeCheck;
 use outcomes::Answer;
 use outcomes::Path;
+use walk_back::Fault;
+use walk_back::Walked;
 
 // The outcome's number; and outcome, count, retained and closed in the first 32 bytes of `answer`, where they fit.
 pub fn put_answer(a: Answer, answer: &mut [u8]) -> u64
@@ -30,15 +34,48 @@ pub fn put_path(p: Path, answer: &mut [u8]) -> u64
     }
 }
 
-// The number of an edge: 130 Walk, 131 Step, 132 Jump, 133 Drop, or 110 where there is none.
-pub fn edge_number(a: EdgeAnswer) -> u64
-    ensures { λ r. ⌜ r ≡ edgeNumber a ⌝ }
+// The number of an edge check: 130 Walk, 131 Step, 132 Jump, 133 Drop, or 101 to 109, the first reason why there is no edge.
+pub fn edge_number(a: EdgeCheck) -> u64
+    ensures { λ r. ⌜ r ≡ checkNumber a ⌝ }
 {
     match a {
-        EdgeAnswer::To(w) => {
+        EdgeCheck::Passes(w) => {
             let movement = w.movement;
             130 + moves::movement_number(movement)
         }
-        EdgeAnswer::Nowhere => 110,
+        EdgeCheck::Fails(why) => moves::reason_number(why),
+    }
+}
+
+// The number of the reason why a list is no route; with a pair's reason its later point's place in the first 8 bytes of `place`, where they fit.
+fn put_fault(fault: Fault, place: &mut [u8]) -> u64
+    ensures { λ r. ⌜ r ≡ faultNumber fault ⌝ }
+    ensures { λ _. ⌜ now (place .exit) ≡ placeWritten (faultPlaces fault) (now (place .entry)) ⌝ }
+{
+    match fault {
+        Fault::InvalidRequest => 111,
+        Fault::BadList => 112,
+        Fault::GoalOutOfRange => 113,
+        Fault::StartNotStandable => 114,
+        Fault::GoalNotStandable => 115,
+        Fault::WrongStart => 116,
+        Fault::Pair(why, k) => {
+            stores::put_u64(place, 0, k as u64);
+            pairs::pair_number(why)
+        }
+        Fault::WrongEnd => 119,
+    }
+}
+
+// The number of a walk-back's answer, and a place as above.
+pub fn put_walked(a: Walked, place: &mut [u8]) -> u64
+    ensures { λ r. ⌜ r ≡ walkedNumber a ⌝ }
+    ensures { λ _. ⌜ now (place .exit) ≡ placeWritten (walkedPlaces a) (now (place .entry)) ⌝ }
+{
+    match a {
+        Walked::Yes => 0,
+        Walked::No(fault) => put_fault(fault, place),
+        Walked::BadWorld => 3,
+        Walked::TooLarge => 4,
     }
 }

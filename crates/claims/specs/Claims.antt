@@ -35,6 +35,7 @@ use Rattle.outcomes.specs.declared.Outcome.the-variants.{Found, Unreachable, Bu
 use Rattle.outcomes.specs.Outcomes.{outcomeNumber}
 use Rattle.search.specs.FindWalkPath.{endOf, beforeSearch, found, nodesAfter, outAfter}
 use Rattle.walk_back.specs.declared.Walked.the-variants.{Yes}
+use Rattle.walk_back.specs.Movements.{movement-at}
 use Rattle.walk_back.specs.WalkBack.{IsRoute, RouteList, walked}
 use Rattle.claims.specs.Words.{withBudget, InF64, keptPoints, closedWords, pushOf, after, LowestFirst}
 use Rattle.claims.specs.Laws.Calls as calls
@@ -42,7 +43,6 @@ use Rattle.claims.specs.Laws.Search.{not-searching}
 use Rattle.claims.specs.Laws.Accepted.{read-back, accepted}
 use Rattle.claims.specs.Laws.Fits.{space-tops}
 use Rattle.claims.specs.Laws.Numbers.{estimates-are-numbers}
-use Rattle.claims.specs.Laws.Movements.{movements-named}
 use Rattle.claims.specs.Laws.Pushes.{pushes-apart}
 
 module _ (w : Window) (cells perms shapes boxes : List ℕ) (r : Request) (body : Body) (nodes front index out : List ℕ) where
@@ -150,7 +150,7 @@ module _ (w : Window) (cells perms shapes boxes : List ℕ) (r : Request) (body 
 
   -- A route has no movement but 01's four, so the walk-back answers no to a list with a movement above 3.
   pub movement-above-three : (t : List (Feet × Label)) → IsRoute sp r body t → (k : ℕ) (v : Feet × Label) → nth t k ≡ some v → v .1 .movement ≤ 3
-  movement-above-three t l = movements-named sp r body (l .way)
+  movement-above-three t l = movement-at sp r body (l .way)
 
   -- "lowest estimate first, then earliest push". No estimate is a NaN and no two pushes tie, so nothing else decides. For a valid request of f64s.
   pub lowest-estimate-first : InF64 r → validRequest r body ≡ true → LowestFirst sp r body

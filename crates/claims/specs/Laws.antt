@@ -12,7 +12,7 @@ pub mod Points
 pub mod Calls
 pub mod Accepted
 pub mod Pushes
-pub mod Movements
+pub mod OwnEdge
 pub mod NotNegative
 pub mod InRange
 pub mod Numbers

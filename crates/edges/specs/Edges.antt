@@ -1,12 +1,10 @@
 -- 01, The graph, "Edge" and "Connector", over a space, a request and a body. Definitions only.
 use mathlib.Core.Bool.{Bool, _&&_, cond}
-use lib.Ieee.{Float, binary64, add, sub, ofBits}
-use Rattle.floats.specs.Floats.{nought}
+use lib.Ieee.{Float, binary64, sub, ofBits}
 use Rattle.world.specs.declared.Point.{Point}
-use Rattle.world.specs.declared.Aabb.{Aabb}
 use Rattle.world.specs.declared.Body.{Body}
 use Rattle.world.specs.declared.Request.{Request}
-use Rattle.world.specs.Boxes.{fromFeet, expandTowards, minus}
+use Rattle.world.specs.Boxes.{minus}
 use Rattle.world.specs.Space.{Space}
 use Rattle.clear.specs.Clear.{clear}
 use Rattle.support.specs.Support.{supported}
@@ -16,20 +14,9 @@ use Rattle.moves.specs.declared.answer.Moving.the-variants.{By, None}
 use Rattle.moves.specs.declared.answer.EdgeAnswer.{EdgeAnswer}
 use Rattle.moves.specs.declared.answer.EdgeAnswer.the-variants.{To, Nowhere}
 use Rattle.moves.specs.Moves.{moving}
-
--- the corners of the way: up by the lift, across, and down or up to the target
-abbrev pub raised : Point → Float → Point
-raised from lift = record { x = from .x; y = add binary64 (from .y) lift; z = from .z }
-
-abbrev pub across : Point → Float → Point → Point
-across from lift to = record { x = to .x; y = add binary64 (from .y) lift; z = to .z }
-
-abbrev pub up : Float → Point
-up lift = record { x = nought; y = lift; z = nought }
-
--- the area that a body sweeps from a point on
-unfoldable pub swept : Body → Point → Point → Aabb
-swept body feet by = expandTowards (fromFeet feet (body .width) (body .height)) by
+-- the corners of the way, and the area that a body sweeps from a point on
+pub use Rattle.ways.specs.Ways.{raised, across, up}
+unfoldable pub use Rattle.ways.specs.Ways.{swept}
 
 -- "the lift, crossing and settle areas clear"
 unfoldable pub wayClear : Space → Body → Point → Point → Float → Bool

@@ -1,4 +1,6 @@
--- Edges and the connector. What a reader must believe: Edges. What is proved of it: Laws, Answers.
+-- Edges and the connector. What a reader must believe: Edges, Reasons, and `ways`. What is proved of it: Claims, Laws, Answers.
 pub mod Edges
+pub mod Reasons
 pub mod Laws
 pub mod Answers
+pub mod Claims

@@ -1,19 +1,43 @@
-// Edges: from one standing point to another (01, The graph: "Edge", "Connector").
+// Edges: from one standing point to another (01, The graph: "Edge", "Connector"), and where there is none the first reason (02, No. 3).
 //
-// How a body moves by a difference in height is `moves`, where it may stand `places`; `way` has whether the way is free.
-mod way;
-
+// How a body moves by a difference in height is `moves`, where it may stand `places`, whether the way is free `ways`.
 ghost use mathlib.Core.Path.{_≡_};
 ghost use Rattle.world.specs.Space.{space};
-ghost use Rattle.moves.specs.Moves.{edgeGiven};
+ghost use Rattle.moves.specs.Moves.{edgeGiven, checkGiven};
 ghost use Rattle.edges.specs.Edges.{edge, connector};
+ghost use Rattle.edges.specs.Reasons.{edgeCheck};
 use moves::EdgeAnswer;
+use moves::EdgeCheck;
 use moves::Moving;
-use moves::Waypoint;
+use moves::Reason;
 use world::Body;
 use world::Point;
 use world::Request;
 use world::Window;
+
+// The edge check from one point to another: the waypoint that the edge leads to, or the first reason why there is none.
+pub fn edge_check(
+    w: Window,
+    cells: &[u8],
+    perms: &[u8],
+    shapes: &[u8],
+    boxes: &[u8],
+    r: Request,
+    body: Body,
+    from: Point,
+    to: Point,
+) -> EdgeCheck
+    ensures { λ a. ⌜ checkGiven a ≡ checkGiven (edgeCheck (space w (now (cells .entry)) (now (perms .entry)) (now (shapes .entry)) (now (boxes .entry))) r body from to) ⌝ }
+{
+    let dy = to.y - from.y;
+    let Moving::By(movement, lift) = moves::moving(r, body, dy) else {
+        if floats::E < dy {
+            return EdgeCheck::Fails(Reason::TooHigh);
+        }
+        return EdgeCheck::Fails(Reason::TooDeep);
+    };
+    ways::way_check(w, cells, perms, shapes, boxes, r, body, from, to, lift, movement)
+}
 
 // The edge from one point to another.
 pub fn edge(
@@ -29,17 +53,10 @@ pub fn edge(
 ) -> EdgeAnswer
     ensures { λ a. ⌜ edgeGiven a ≡ edgeGiven (edge (space w (now (cells .entry)) (now (perms .entry)) (now (shapes .entry)) (now (boxes .entry))) r body from to) ⌝ }
 {
-    let Moving::By(movement, lift) = moves::moving(r, body, to.y - from.y) else {
+    let EdgeCheck::Passes(step) = edge_check(w, cells, perms, shapes, boxes, r, body, from, to) else {
         return EdgeAnswer::Nowhere;
     };
-    if !way::passable(w, cells, perms, shapes, boxes, r, body, from, to, lift) {
-        return EdgeAnswer::Nowhere;
-    }
-    EdgeAnswer::To(Waypoint {
-        feet: to,
-        lift,
-        movement,
-    })
+    EdgeAnswer::To(step)
 }
 
 // The edge to the goal, from a point that is near enough.

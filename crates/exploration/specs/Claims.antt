@@ -15,7 +15,7 @@ use Rattle.exploration.specs.Graph.{Graph, GraphLaws, Route, Reach}
 use Rattle.exploration.specs.Policy.{Policy, PolicyLaws}
 use Rattle.exploration.specs.Explore.{Outcome, Found, Unreachable, BudgetExceeded, Searching, points, runs, begin, final, outcome, answer}
 use Rattle.exploration.specs.Guides.{play, turns, beginBoth, Fair, one}
-use Rattle.exploration.specs.WalkBack.{isRoute}
+use Rattle.exploration.specs.WalkBack.{isRoute, Broken, going, FirstBreak}
 use Rattle.exploration.specs.Choose.{choose, WaitsAt, Least, Ordered}
 use Rattle.exploration.specs.Estimates.{Comparison, sooner, Before, First}
 use Rattle.exploration.specs.Laws.Budgets.{Compared, equal, parted, compare-final}
@@ -28,7 +28,7 @@ use Rattle.exploration.specs.Laws.FloatOrder.{float-comparison}
 use Rattle.exploration.specs.Laws.Guides.{as-alone, movers-fair}
 use Rattle.exploration.specs.Laws.Lists.{count-le}
 use Rattle.exploration.specs.Laws.Loops.{runs-run}
-use Rattle.exploration.specs.Laws.WalkBack.{is-route, route-is}
+use Rattle.exploration.specs.Laws.WalkBack.{is-route, route-is, first-break}
 
 -- ---- one search, and the same search under another budget
 
@@ -134,6 +134,11 @@ module _ {P L A B Q M C D : Type 0} (𝓖 : Graph P L) (𝓗 : Graph Q M) (𝓟 
 -- The test of a list is true exactly for routes.
 pub route-test-exact : {P L : Type 0} (𝓖 : Graph P L) (t : List (P × L)) → (isRoute 𝓖 t ≡ true) ↔ Route 𝓖 t
 route-test-exact 𝓖 t = (is-route 𝓖 t, route-is 𝓖)
+
+-- Where a list breaks off, it does so at its first pair that is none of the graph's, and tells that pair's place.
+pub breaks-at-the-first-pair : {P L : Type 0} (𝓖 : Graph P L) (k : ℕ) (p : P) (ws : List (P × L)) {m : ℕ} {q : P} {w : P × L} {last : Bool} →
+    going 𝓖 k p ws ≡ Broken m q w last → FirstBreak 𝓖 k p ws m q w last
+breaks-at-the-first-pair 𝓖 k p ws e = first-break 𝓖 k p ws e
 
 -- ---- the next of the frontier
 

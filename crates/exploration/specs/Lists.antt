@@ -14,6 +14,12 @@ abbrev pub tally : Bool → ℕ → ℕ
 tally true n = suc n
 tally false n = n
 
+-- the place of the first test that fails, counted from 0; where none does, how many they are
+abbrev pub firstFailing : List Bool → ℕ
+firstFailing [] = zero
+firstFailing (true ∷ fails) = zero
+firstFailing (false ∷ fails) = suc (firstFailing fails)
+
 module _ {A : Type 0} where
   -- whether some element passes a test
   abbrev pub has : (A → Bool) → List A → Bool

@@ -2,7 +2,9 @@
 ghost use mathlib.Core.Path.{_≡_};
 ghost use Rattle.rooms.specs.Waypoints.{samePoint, alike};
 ghost use Rattle.words.specs.Words.{feetOf, labelOf};
-ghost use Rattle.listed.specs.Compared.{leadsTo, labelledBy, starts, begins};
+ghost use Rattle.rooms.specs.Records.{waypointAt};
+ghost use Rattle.listed.specs.Listed.{badList};
+ghost use Rattle.listed.specs.Compared.{leadsTo, labelledBy, starts};
 use equal_points::same_word;
 use moves::EdgeAnswer;
 use moves::Waypoint;
@@ -50,9 +52,24 @@ fn is_start(start: Point, v: WaypointRecord) -> bool
     same_feet(start, v) & ((0 == v.label.movement) & same_word(0, v.label.lift))
 }
 
-// Whether a list is of whole records, and the first of them is the start's.
+// Whether the first record of a list is the start's.
 pub fn begins_at(start: Point, list: &[u8]) -> bool
-    ensures { λ r. ⌜ r ≡ begins start (now (list .entry)) ⌝ }
+    ensures { λ r. ⌜ r ≡ starts start (waypointAt (now (list .entry)) 0) ⌝ }
 {
-    (list.len() % 40 == 0) & (0 < list.len()) & is_start(start, rooms::get_waypoint(list, 0))
+    is_start(start, rooms::get_waypoint(list, 0))
+}
+
+// Whether a list is bad: empty, with a partial record, or with a movement above 3.
+pub fn is_bad(list: &[u8]) -> bool
+    ensures { λ r. ⌜ r ≡ badList (now (list .entry)) ⌝ }
+{
+    let n = list.len() / 40;
+    let mut bad = (list.len() % 40 != 0) | (list.len() == 0);
+    let mut k: usize = 0;
+    while (k < n) & !bad {
+        let v = rooms::get_waypoint(list, k);
+        bad = 3 < v.label.movement;
+        k += 1;
+    }
+    bad
 }

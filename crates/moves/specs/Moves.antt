@@ -12,6 +12,11 @@ use Rattle.moves.specs.declared.answer.Moving.{Moving}
 use Rattle.moves.specs.declared.answer.Moving.the-variants.{By, None}
 use Rattle.moves.specs.declared.answer.EdgeAnswer.{EdgeAnswer}
 use Rattle.moves.specs.declared.answer.EdgeAnswer.the-variants.{To, Nowhere}
+use Rattle.moves.specs.declared.answer.Waypoint.{Waypoint}
+use Rattle.moves.specs.declared.answer.Reason.{Reason}
+use Rattle.moves.specs.declared.answer.Reason.the-variants.{TooHigh, TooDeep, TargetOutOfRange, RaisedOutOfRange, TargetNotStandable, LiftBlocked, CrossingBlocked, SettleBlocked, Unsupported}
+use Rattle.moves.specs.declared.answer.EdgeCheck.{EdgeCheck}
+use Rattle.moves.specs.declared.answer.EdgeCheck.the-variants.{Passes, Fails}
 
 -- 01, Tables: "movement as u64 (0 Walk, 1 Step, 2 Jump, 3 Drop)"
 abbrev pub movementNumber : Movement → ℕ
@@ -20,7 +25,8 @@ movementNumber Step = 1
 movementNumber Jump = 2
 movementNumber Drop = 3
 
--- 01 has no number for an edge. Ours are from 100 on, so that none is one of 01's: 130 Walk, 131 Step, 132 Jump, 133 Drop, and 110 where there is no edge.
+-- 01 has no number for an edge. Ours are from 100 on, so that none is one of 01's: 130 Walk, 131 Step, 132 Jump, 133 Drop, and 110 where there is no edge and no
+-- reason is asked for.
 abbrev pub movedNumber : Movement → ℕ
 movedNumber m = 130 + movementNumber m
 
@@ -33,9 +39,37 @@ movingGiven (By m lift) = (movedNumber m, lift ∷ [])
 movingGiven None = (noneNumber, [])
 
 -- and of an edge the values are those of its waypoint, in the order of 01's record: "feet x, y, z, lift", then the movement, which the number says.
+abbrev pub waypointGiven : Waypoint → List Float
+waypointGiven w = w .feet .x ∷ w .feet .y ∷ w .feet .z ∷ w .lift ∷ []
+
 unfoldable pub edgeGiven : EdgeAnswer → ℕ × List Float
-edgeGiven (To w) = (movedNumber (w .movement), w .feet .x ∷ w .feet .y ∷ w .feet .z ∷ w .lift ∷ [])
+edgeGiven (To w) = (movedNumber (w .movement), waypointGiven w)
 edgeGiven Nowhere = (noneNumber, [])
+
+-- 02, No. 3: "too high, too deep, target out of range, raised point out of range, target not standable, lift blocked, crossing blocked, settle blocked, segment
+-- unsupported", in this order from 101 on
+abbrev pub reasonNumber : Reason → ℕ
+reasonNumber TooHigh = 101
+reasonNumber TooDeep = 102
+reasonNumber TargetOutOfRange = 103
+reasonNumber RaisedOutOfRange = 104
+reasonNumber TargetNotStandable = 105
+reasonNumber LiftBlocked = 106
+reasonNumber CrossingBlocked = 107
+reasonNumber SettleBlocked = 108
+reasonNumber Unsupported = 109
+
+-- an edge check gives the edge's number and waypoint, or its reason's number
+abbrev pub checkNumber : EdgeCheck → ℕ
+checkNumber (Passes w) = movedNumber (w .movement)
+checkNumber (Fails why) = reasonNumber why
+
+abbrev pub checkValues : EdgeCheck → List Float
+checkValues (Passes w) = waypointGiven w
+checkValues (Fails why) = []
+
+unfoldable pub checkGiven : EdgeCheck → ℕ × List Float
+checkGiven a = (checkNumber a, checkValues a)
 
 -- "step = the smaller step height"
 unfoldable pub stepHeight : Request → Body → Float

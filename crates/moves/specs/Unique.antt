@@ -1,9 +1,9 @@
--- What a movement and an edge give tells them apart, because each can be read back: a contract that says it allows one answer. Assumes nothing.
+-- What a movement, an edge and an edge check give tells them apart, because each can be read back: a contract that says it allows one answer. Assumes nothing.
 use mathlib.Core.Path.{_≡_, refl, sym, ap, _∙_}
 use mathlib.Core.Bool.{cond}
 use mathlib.Core.List.{List, [], _∷_}
 use Prim.Native.Nat.{ℕ}
-use lib.Dec.{eqb}
+use lib.Dec.{eqb, ltb}
 use lib.Ieee.{Float}
 use lib.ListN.{getD}
 use Rattle.floats.specs.Floats.{nought}
@@ -14,7 +14,12 @@ use Rattle.moves.specs.declared.answer.Moving.{Moving}
 use Rattle.moves.specs.declared.answer.Moving.the-variants.{By, None}
 use Rattle.moves.specs.declared.answer.EdgeAnswer.{EdgeAnswer}
 use Rattle.moves.specs.declared.answer.EdgeAnswer.the-variants.{To, Nowhere}
-use Rattle.moves.specs.Moves.{movedNumber, noneNumber, movingGiven, edgeGiven}
+use Rattle.moves.specs.declared.answer.Waypoint.{Waypoint}
+use Rattle.moves.specs.declared.answer.Reason.{Reason}
+use Rattle.moves.specs.declared.answer.Reason.the-variants.{TooHigh, TooDeep, TargetOutOfRange, RaisedOutOfRange, TargetNotStandable, LiftBlocked, CrossingBlocked, SettleBlocked, Unsupported}
+use Rattle.moves.specs.declared.answer.EdgeCheck.{EdgeCheck}
+use Rattle.moves.specs.declared.answer.EdgeCheck.the-variants.{Passes, Fails}
+use Rattle.moves.specs.Moves.{movedNumber, noneNumber, movingGiven, edgeGiven, reasonNumber, checkGiven}
 
 abbrev movement : ℕ → Movement
 movement n = cond (eqb n (movedNumber Walk)) Walk (cond (eqb n (movedNumber Step)) Step (cond (eqb n (movedNumber Jump)) Jump Drop))
@@ -37,26 +42,87 @@ one-moving a b e = sym (moving-back a) ∙ ap moving e ∙ moving-back b
 
 -- ---- an edge, by its number and its waypoint's four
 
-abbrev edge : ℕ × List Float → EdgeAnswer
-edge (n, values) =
-    cond (eqb n noneNumber) Nowhere
-    (To (record {
+abbrev waypoint : ℕ → List Float → Waypoint
+waypoint n values =
+    record {
       feet = record { x = getD values 0 nought; y = getD values 1 nought; z = getD values 2 nought };
       lift = getD values 3 nought;
       movement = movement n;
-    }))
+    }
 
-by-movement : (feet : Point) (lift : Float) (m : Movement) →
-    edge (movedNumber m, feet .x ∷ feet .y ∷ feet .z ∷ lift ∷ []) ≡ To (record { feet = feet; lift = lift; movement = m })
+by-movement : (feet : Point) (lift : Float) (m : Movement) → waypoint (movedNumber m) (feet .x ∷ feet .y ∷ feet .z ∷ lift ∷ []) ≡ record { feet = feet; lift = lift; movement = m }
 by-movement feet lift Walk = refl
 by-movement feet lift Step = refl
 by-movement feet lift Jump = refl
 by-movement feet lift Drop = refl
 
+abbrev edge : ℕ × List Float → EdgeAnswer
+edge (n, values) = cond (eqb n noneNumber) Nowhere (To (waypoint n values))
+
 edge-back : (a : EdgeAnswer) → edge (edgeGiven a) ≡ a
 unfolding edgeGiven
-edge-back (To w) = by-movement (w .feet) (w .lift) (w .movement)
+edge-back (To w) = moved (w .movement) ∙ ap To (by-movement (w .feet) (w .lift) (w .movement))
+  where
+    moved : (m : Movement) → cond (eqb (movedNumber m) noneNumber) Nowhere (To (waypoint (movedNumber m) (w .feet .x ∷ w .feet .y ∷ w .feet .z ∷ w .lift ∷ []))) ≡ To (waypoint (movedNumber m) (w .feet .x ∷ w .feet .y ∷ w .feet .z ∷ w .lift ∷ []))
+    moved Walk = refl
+    moved Step = refl
+    moved Jump = refl
+    moved Drop = refl
 edge-back Nowhere = refl
 
 pub one-edge : (a b : EdgeAnswer) → edgeGiven a ≡ edgeGiven b → a ≡ b
 one-edge a b e = sym (edge-back a) ∙ ap edge e ∙ edge-back b
+
+-- ---- a reason, by its number; and an edge check, by its number and its waypoint's four
+
+abbrev pub reason : ℕ → Reason
+reason n =
+    cond (eqb n (reasonNumber TooHigh)) TooHigh
+    (cond (eqb n (reasonNumber TooDeep)) TooDeep
+    (cond (eqb n (reasonNumber TargetOutOfRange)) TargetOutOfRange
+    (cond (eqb n (reasonNumber RaisedOutOfRange)) RaisedOutOfRange
+    (cond (eqb n (reasonNumber TargetNotStandable)) TargetNotStandable
+    (cond (eqb n (reasonNumber LiftBlocked)) LiftBlocked
+    (cond (eqb n (reasonNumber CrossingBlocked)) CrossingBlocked
+    (cond (eqb n (reasonNumber SettleBlocked)) SettleBlocked
+    Unsupported)))))))
+
+pub reason-back : (a : Reason) → reason (reasonNumber a) ≡ a
+reason-back TooHigh = refl
+reason-back TooDeep = refl
+reason-back TargetOutOfRange = refl
+reason-back RaisedOutOfRange = refl
+reason-back TargetNotStandable = refl
+reason-back LiftBlocked = refl
+reason-back CrossingBlocked = refl
+reason-back SettleBlocked = refl
+reason-back Unsupported = refl
+
+-- the numbers of edges are above those of reasons
+abbrev check : ℕ × List Float → EdgeCheck
+check (n, values) = cond (ltb n (movedNumber Walk)) (Fails (reason n)) (Passes (waypoint n values))
+
+check-back : (a : EdgeCheck) → check (checkGiven a) ≡ a
+unfolding checkGiven
+check-back (Passes w) = moved (w .movement) ∙ ap Passes (by-movement (w .feet) (w .lift) (w .movement))
+  where
+    moved : (m : Movement) → check (movedNumber m, w .feet .x ∷ w .feet .y ∷ w .feet .z ∷ w .lift ∷ []) ≡ Passes (waypoint (movedNumber m) (w .feet .x ∷ w .feet .y ∷ w .feet .z ∷ w .lift ∷ []))
+    moved Walk = refl
+    moved Step = refl
+    moved Jump = refl
+    moved Drop = refl
+check-back (Fails why) = failed why ∙ ap Fails (reason-back why)
+  where
+    failed : (a : Reason) → check (reasonNumber a, []) ≡ Fails (reason (reasonNumber a))
+    failed TooHigh = refl
+    failed TooDeep = refl
+    failed TargetOutOfRange = refl
+    failed RaisedOutOfRange = refl
+    failed TargetNotStandable = refl
+    failed LiftBlocked = refl
+    failed CrossingBlocked = refl
+    failed SettleBlocked = refl
+    failed Unsupported = refl
+
+pub one-check : (a b : EdgeCheck) → checkGiven a ≡ checkGiven b → a ≡ b
+one-check a b e = sym (check-back a) ∙ ap check e ∙ check-back b

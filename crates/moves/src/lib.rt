@@ -5,9 +5,12 @@ pub mod answer;
 mod lift;
 
 pub use answer::EdgeAnswer;
+pub use answer::EdgeCheck;
 pub use answer::Movement;
 pub use answer::Moving;
+pub use answer::Reason;
 pub use answer::Waypoint;
 pub use answer::movement_number;
+pub use answer::reason_number;
 pub use lift::moving;
 pub use lift::step_height;

@@ -5,7 +5,6 @@ use crate::sheet;
 use crate::trial;
 use scene_state::Scene;
 use scene_state::SceneAnswer;
-use walk_back::Walked;
 
 // What reading answers, as the C interface writes it, and every byte of the tables.
 fn read(answer: SceneAnswer, cells: &[u8], perms: &[u8], shapes: &[u8], boxes: &[u8]) -> u64 {
@@ -15,7 +14,7 @@ fn read(answer: SceneAnswer, cells: &[u8], perms: &[u8], shapes: &[u8], boxes: &
     digest::with_words(digest::with_words(digest::with_words(d, perms), shapes), boxes)
 }
 
-// The walk-back of the sheet's list: 1 for a route, 0 for none, or 01's number of a refusal.
+// The walk-back of the sheet's list, as the C interface answers it: its number, and the place that goes with a pair's reason, or 0.
 fn walked(
     s: Scene,
     cells: &[u8],
@@ -23,14 +22,13 @@ fn walked(
     shapes: &[u8],
     boxes: &[u8],
     asked: &[u8],
+    d: u64,
 ) -> u64 {
     let list = sheet::front(asked, sheet::number(asked, sheet::LIST));
-    match walk_back::walk_back(s.window, cells, perms, shapes, boxes, s.request, s.body, list) {
-        Walked::No => 0,
-        Walked::Yes => 1,
-        Walked::BadWorld => 3,
-        Walked::TooLarge => 4,
-    }
+    let a = walk_back::walk_back(s.window, cells, perms, shapes, boxes, s.request, s.body, list);
+    let mut place = [0u8; 8];
+    let number = c_answers::put_walked(a, &mut place);
+    digest::with_words(digest::with(d, number), &place)
 }
 
 // All answers. A whole scene is asked about over the part of each table that it made.
@@ -53,7 +51,7 @@ pub(crate) fn answered(
     let b = sheet::front(boxes, used.boxes);
     match sheet::number(asked, sheet::KIND) {
         0 => points::answered(s, c, p, h, b, asked, d),
-        1 => digest::with(d, walked(s, c, p, h, b, asked)),
+        1 => walked(s, c, p, h, b, asked, d),
         _ => trial::searched(s, c, p, h, b, asked, d),
     }
 }

@@ -44,7 +44,8 @@ fn column(
     digest::with_height(digest::with_height(d, first), next)
 }
 
-// Of the two points: whether the first is in range and standable, the box between them clear, the segment supported; the edge, and the first's connector.
+// Of the two points: whether the first is in range and standable, the box between them clear, the segment supported; the edge, the first's connector, and the edge
+// check's number.
 fn pair(
     s: Scene,
     cells: &[u8],
@@ -66,7 +67,8 @@ fn pair(
     let f = digest::with_yes(digest::with_yes(e, clear), supported);
     let to = edges::edge(w, cells, perms, shapes, boxes, r, body, a, b);
     let end = edges::connector(w, cells, perms, shapes, boxes, r, body, a);
-    digest::with_edge(digest::with_edge(f, to), end)
+    let check = edges::edge_check(w, cells, perms, shapes, boxes, r, body, a, b);
+    digest::with(digest::with_edge(digest::with_edge(f, to), end), c_answers::edge_number(check))
 }
 
 // All of it, and first whether the graph looks at the column.

@@ -1,12 +1,14 @@
 -- What the walk-back's answer says, one theorem a claim, in the words of WalkBack.
 use Prim.Native.Nat.{ℕ, _%_}
 use native.Mathlib.Omega.{arith}
-use mathlib.Core.Path.{_≡_, refl}
+use mathlib.Core.Path.{_≡_, refl, sym, ap, _∙_}
 use mathlib.Core.Bool.{Bool, true, false, not, _&&_, cond}
-use mathlib.Core.List.{List}
+use mathlib.Core.List.{List, [], _∷_}
 use borrow.Author.Tests.{eq-eqb, eqb-true}
 use lib.Dec.{eqb}
 use lib.ListN.{length}
+use Rattle.exploration.specs.Lists.{firstFailing}
+use Rattle.exploration.specs.WalkBack.{Going, Through, Astray, Broken}
 use Rattle.exploration.specs.Claims.{route-test-exact}
 use Rattle.exploration.specs.Laws.Lists.{and-both, and-first, and-second}
 use Rattle.world.specs.declared.Body.{Body}
@@ -15,12 +17,23 @@ use Rattle.world.specs.declared.Window.{Window}
 use Rattle.world.specs.Space.{Space, space}
 use Rattle.tables.specs.BadWorld.{badWorld}
 use Rattle.request.specs.Request.{validRequest, sizesTooLarge}
+use Rattle.places.specs.Places.{inRange, standable}
 use Rattle.ends.specs.Ends.{endsGood}
 use Rattle.ends.specs.Laws.{ends-parts, ends-all}
 use Rattle.steps.specs.Graph.{graph}
+use Rattle.walk_back.specs.declared.Walked.{Walked}
 use Rattle.walk_back.specs.declared.Walked.the-variants.{Yes, No, BadWorld, TooLarge}
-use Rattle.listed.specs.Listed.{waypoints}
-use Rattle.walk_back.specs.WalkBack.{isRouteList, RouteList, walked}
+use Rattle.walk_back.specs.declared.Fault.{Fault}
+use Rattle.walk_back.specs.declared.Fault.the-variants.{InvalidRequest, BadList, GoalOutOfRange, StartNotStandable, GoalNotStandable, WrongStart, Pair, WrongEnd}
+use Rattle.rooms.specs.declared.Feet.{Feet}
+use Rattle.rooms.specs.declared.Label.{Label}
+use Rattle.rooms.specs.Records.{waypointAt}
+use Rattle.listed.specs.Listed.{waypoints, badList}
+use Rattle.listed.specs.Compared.{starts}
+use Rattle.pairs.specs.Pairs.{pairFault}
+use Rattle.walk_back.specs.WalkBack.{isRouteList, RouteList, walkedBy, goingOn, walkedList, walked}
+use Rattle.walk_back.specs.Places.{BreaksAt, EndsElsewhere, broken-at, ends-elsewhere}
+use Rattle.walk_back.specs.Yes.{isYes, yes-only, yes-exactly}
 
 -- ---- the test of a list
 
@@ -55,12 +68,11 @@ module _ (sp : Space) (r : Request) (body : Body) (list : List ℕ) where
 abbrev Asked : Bool → Bool → Bool → Bool → Type 0
 Asked bad valid large route = (bad ≡ false) × ((valid ≡ true) × ((large ≡ false) × (route ≡ true)))
 
-asked-yes : (bad valid large route : Bool) → cond bad BadWorld (cond (not valid) No (cond large TooLarge (cond route Yes No))) ≡ Yes → Asked bad valid large route
-asked-yes true valid large route e = absurd (let z : _≡_ {A = ℕ} 0 1 = cc in omega arith)
-asked-yes false false large route e = absurd (let z : _≡_ {A = ℕ} 0 1 = cc in omega arith)
-asked-yes false true true route e = absurd (let z : _≡_ {A = ℕ} 0 1 = cc in omega arith)
-asked-yes false true false true e = (refl, (refl, (refl, refl)))
-asked-yes false true false false e = absurd (let z : _≡_ {A = ℕ} 0 1 = cc in omega arith)
+asked-yes : (bad valid large : Bool) (a : Walked) → cond bad BadWorld (cond (not valid) (No InvalidRequest) (cond large TooLarge a)) ≡ Yes → Asked bad valid large (isYes a)
+asked-yes true valid large a e = absurd (let z : _≡_ {A = ℕ} 0 1 = cc in omega arith)
+asked-yes false false large a e = absurd (let z : _≡_ {A = ℕ} 0 1 = cc in omega arith)
+asked-yes false true true a e = absurd (let z : _≡_ {A = ℕ} 0 1 = cc in omega arith)
+asked-yes false true false a e = (refl, (refl, (refl, ap isYes e)))
 
 module _ (w : Window) (cells perms shapes boxes : List ℕ) (r : Request) (body : Body) (list : List ℕ) where
   -- Yes is answered only where the world is not bad, the request not too large, and the list a route;
@@ -68,10 +80,73 @@ module _ (w : Window) (cells perms shapes boxes : List ℕ) (r : Request) (body 
       (badWorld w cells shapes boxes ≡ false) × ((sizesTooLarge r body ≡ false) × RouteList (space w cells perms shapes boxes) r body list)
   unfolding walked
   yes-is-a-route e =
-      let a = asked-yes (badWorld w cells shapes boxes) (validRequest r body) (sizesTooLarge r body) (isRouteList (space w cells perms shapes boxes) r body list) e in
-      (a .0, (a .1 .1 .0, tested (space w cells perms shapes boxes) r body list (a .1 .0) (a .1 .1 .1)))
+      let a = asked-yes (badWorld w cells shapes boxes) (validRequest r body) (sizesTooLarge r body) (walkedList (space w cells perms shapes boxes) r body list) e in
+      (a .0, (a .1 .1 .0, tested (space w cells perms shapes boxes) r body list (a .1 .0) (sym (yes-exactly (space w cells perms shapes boxes) r body list) ∙ a .1 .1 .1)))
 
   -- and every such list is answered yes.
   pub a-route-is-yes : badWorld w cells shapes boxes ≡ false → sizesTooLarge r body ≡ false → RouteList (space w cells perms shapes boxes) r body list → walked w cells perms shapes boxes r body list ≡ Yes
   unfolding walked
-  a-route-is-yes b t l = rw (b, l .route .valid, t, passes (space w cells perms shapes boxes) r body list l)
+  a-route-is-yes b t l =
+      rw (b, l .route .valid, t)
+      (yes-only (walkedList (space w cells perms shapes boxes) r body list) (yes-exactly (space w cells perms shapes boxes) r body list ∙ passes (space w cells perms shapes boxes) r body list l))
+
+-- ---- the first reason
+
+-- 02's order of the reasons that come before the pairs
+abbrev pub faultOrder : Fault → ℕ
+faultOrder InvalidRequest = 0
+faultOrder BadList = 1
+faultOrder GoalOutOfRange = 2
+faultOrder StartNotStandable = 3
+faultOrder GoalNotStandable = 4
+faultOrder WrongStart = 5
+faultOrder (Pair fault place) = 6
+faultOrder WrongEnd = 6
+
+-- what is told of the pairs, and of the end behind them: the first pair that is none of the graph's, and its place; or that each pair is a graph step, and the last
+-- point is not the goal
+abbrev pub PairsTold : Space → Request → Body → List ℕ → Fault → Type 0
+PairsTold sp r body list (Pair fault place) = BreaksAt sp r body list place fault
+PairsTold sp r body list WrongEnd = EndsElsewhere sp r body list
+PairsTold sp r body list InvalidRequest = Unit {0}
+PairsTold sp r body list BadList = Unit {0}
+PairsTold sp r body list GoalOutOfRange = Unit {0}
+PairsTold sp r body list StartNotStandable = Unit {0}
+PairsTold sp r body list GoalNotStandable = Unit {0}
+PairsTold sp r body list WrongStart = Unit {0}
+
+module _ (sp : Space) (r : Request) (body : Body) (list : List ℕ) where
+  -- which tests fail, in 02's order
+  abbrev pub failures : List Bool
+  failures =
+      not (validRequest r body) ∷ badList list ∷ not (inRange r (r .goal)) ∷ not (standable sp body (r .start)) ∷ not (standable sp body (r .goal))
+      ∷ not (starts (r .start) (waypointAt list 0)) ∷ []
+
+  by-going : (g : Going Feet Label) → goingOn sp r body list ≡ g → {fault : Fault} → walkedBy sp r body g ≡ No fault → (faultOrder fault ≡ 6) × PairsTold sp r body list fault
+  by-going Through h e = absurd (let z : _≡_ {A = ℕ} 0 1 = cc in omega arith)
+  by-going Astray h {fault} e = let z : WrongEnd ≡ fault = cc in rw (← z) (refl, ends-elsewhere sp r body list h)
+  by-going (Broken m q w last) h {fault} e = let z : Pair (pairFault sp r body last q (w .0)) m ≡ fault = cc in rw (← z) (refl, broken-at sp r body list h)
+
+  in-order : {fault : Fault} (bad valid large listed goal start stands begins : Bool) →
+      cond bad BadWorld (cond (not valid) (No InvalidRequest) (cond large TooLarge (cond listed (No BadList) (cond (not goal) (No GoalOutOfRange) (cond (not start) (No StartNotStandable) (cond (not stands) (No GoalNotStandable) (cond (not begins) (No WrongStart) (walkedBy sp r body (goingOn sp r body list)))))))))
+      ≡ No fault →
+      (faultOrder fault ≡ firstFailing (not valid ∷ listed ∷ not goal ∷ not start ∷ not stands ∷ not begins ∷ [])) × PairsTold sp r body list fault
+  in-order true valid large listed goal start stands begins e = absurd (let z : _≡_ {A = ℕ} 0 1 = cc in omega arith)
+  in-order {fault} false false large listed goal start stands begins e = let z : InvalidRequest ≡ fault = cc in rw (← z) (refl, tt)
+  in-order false true true listed goal start stands begins e = absurd (let z : _≡_ {A = ℕ} 0 1 = cc in omega arith)
+  in-order {fault} false true false true goal start stands begins e = let z : BadList ≡ fault = cc in rw (← z) (refl, tt)
+  in-order {fault} false true false false false start stands begins e = let z : GoalOutOfRange ≡ fault = cc in rw (← z) (refl, tt)
+  in-order {fault} false true false false true false stands begins e = let z : StartNotStandable ≡ fault = cc in rw (← z) (refl, tt)
+  in-order {fault} false true false false true true false begins e = let z : GoalNotStandable ≡ fault = cc in rw (← z) (refl, tt)
+  in-order {fault} false true false false true true true false e = let z : WrongStart ≡ fault = cc in rw (← z) (refl, tt)
+  in-order false true false false true true true true e = by-going (goingOn sp r body list) refl e
+
+module _ (w : Window) (cells perms shapes boxes : List ℕ) (r : Request) (body : Body) (list : List ℕ) where
+  -- "The walk-back answers its first reason": in 02's order, and of the pairs the first with its place, or the end behind them all.
+  pub first-reason : {fault : Fault} → walked w cells perms shapes boxes r body list ≡ No fault →
+      (faultOrder fault ≡ firstFailing (failures (space w cells perms shapes boxes) r body list)) × PairsTold (space w cells perms shapes boxes) r body list fault
+  unfolding walked walkedList
+  first-reason e =
+      let sp = space w cells perms shapes boxes in
+      in-order sp r body list (badWorld w cells shapes boxes) (validRequest r body) (sizesTooLarge r body) (badList list) (inRange r (r .goal)) (standable sp body (r .start)) (standable sp body (r .goal))
+      (starts (r .start) (waypointAt list 0)) e

@@ -1,5 +1,9 @@
--- The walk-back. What a reader must believe: WalkBack, and `listed`. What is proved of it: Claims, Unique. What the code goes by: Laws.
+-- The walk-back. What a reader must believe: WalkBack, and `pairs` and `listed`. What is proved of it: Claims, Unique. What the code goes by: Laws; on the way to
+-- Claims: Movements, Yes, Places.
 pub mod WalkBack
 pub mod Laws
+pub mod Movements
+pub mod Yes
+pub mod Places
 pub mod Claims
 pub mod Unique

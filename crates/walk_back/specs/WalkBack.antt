@@ -1,12 +1,12 @@
--- The walk-back's answer (01, Modules 5, and The graph, "Route"). Definitions only.
-use Prim.Native.Nat.{ℕ, _%_}
+-- The walk-back's answer (01, Modules 5, and The graph, "Route"; 02, No. 3). Definitions only.
+use Prim.Native.Nat.{ℕ, _-_, _/_, _%_}
 use mathlib.Core.Path.{_≡_}
-use mathlib.Core.Bool.{Bool, true, _&&_, cond}
-use mathlib.Core.List.{List}
+use mathlib.Core.Bool.{Bool, true, not, _&&_, cond}
+use mathlib.Core.List.{List, [], _∷_}
 use lib.Dec.{eqb}
 use lib.ListN.{length}
 use Rattle.exploration.specs.Graph.{Route}
-use Rattle.exploration.specs.WalkBack.{isRoute}
+use Rattle.exploration.specs.WalkBack.{isRoute, Going, Through, Astray, Broken, going}
 use Rattle.world.specs.declared.Body.{Body}
 use Rattle.world.specs.declared.Request.{Request}
 use Rattle.world.specs.declared.Window.{Window}
@@ -17,17 +17,54 @@ use Rattle.places.specs.Places.{inRange, standable}
 use Rattle.ends.specs.Ends.{endsGood}
 use Rattle.rooms.specs.declared.Feet.{Feet}
 use Rattle.rooms.specs.declared.Label.{Label}
+use Rattle.rooms.specs.Records.{waypointAt}
 use Rattle.steps.specs.Graph.{graph}
+use Rattle.listed.specs.Listed.{entriesFrom, waypoints, badList}
+use Rattle.listed.specs.Compared.{starts}
+use Rattle.pairs.specs.Pairs.{pairNumber, pairFault}
+use Rattle.walk_back.specs.declared.Fault.{Fault}
+use Rattle.walk_back.specs.declared.Fault.the-variants.{InvalidRequest, BadList, GoalOutOfRange, StartNotStandable, GoalNotStandable, WrongStart, Pair, WrongEnd}
 use Rattle.walk_back.specs.declared.Walked.{Walked}
 use Rattle.walk_back.specs.declared.Walked.the-variants.{Yes, No, BadWorld, TooLarge}
-use Rattle.listed.specs.Listed.{waypoints}
 
--- 01's numbers; yes is 0, and no, for which 01 has none, is a number of our own
+-- 02, No. 3, "invalid request, bad list (judged after 4), goal out of range, start not standable, goal not standable, wrong start; then for each pair in order
+-- .., not a graph step .., wrong movement or lift; then wrong end": 111 to 119 in this order, of which 117 and 118 are a pair's; and a pair's edge has 101 to 109
+abbrev pub faultNumber : Fault → ℕ
+faultNumber InvalidRequest = 111
+faultNumber BadList = 112
+faultNumber GoalOutOfRange = 113
+faultNumber StartNotStandable = 114
+faultNumber GoalNotStandable = 115
+faultNumber WrongStart = 116
+faultNumber (Pair fault place) = pairNumber fault
+faultNumber WrongEnd = 119
+
+-- 01's numbers; yes is 0, and no, for which 01 has none, has its reason's
 abbrev pub walkedNumber : Walked → ℕ
 walkedNumber BadWorld = 3
 walkedNumber TooLarge = 4
 walkedNumber Yes = 0
-walkedNumber No = 110
+walkedNumber (No fault) = faultNumber fault
+
+-- "With a pair's reason goes its later point's place": counted from 0 in the list, and with no other answer
+abbrev pub faultPlaces : Fault → List ℕ
+faultPlaces (Pair fault place) = place ∷ []
+faultPlaces InvalidRequest = []
+faultPlaces BadList = []
+faultPlaces GoalOutOfRange = []
+faultPlaces StartNotStandable = []
+faultPlaces GoalNotStandable = []
+faultPlaces WrongStart = []
+faultPlaces WrongEnd = []
+
+abbrev pub walkedPlaces : Walked → List ℕ
+walkedPlaces (No fault) = faultPlaces fault
+walkedPlaces Yes = []
+walkedPlaces BadWorld = []
+walkedPlaces TooLarge = []
+
+unfoldable pub walkedGiven : Walked → ℕ × List ℕ
+walkedGiven a = (walkedNumber a, walkedPlaces a)
 
 module _ (sp : Space) (r : Request) (body : Body) where
   -- The test of a list: no partial record, good ends, and from the start by graph steps to the goal, the last pair allowed to be a connector. An empty list
@@ -52,7 +89,28 @@ module _ (sp : Space) (r : Request) (body : Body) where
     pub whole : length list % 40 ≡ 0
     pub route : IsRoute (waypoints list)
 
--- "3; `valid_request` (else no); 4, the budget not read; then yes exactly for a list that is a route."
+  -- "then for each pair in order the edge's reason, not a graph step (nor, at the last pair, a connector), wrong movement or lift; then wrong end. With a pair's
+  -- reason goes its later point's place.": of how a list goes on from its first point
+  abbrev pub walkedBy : Going Feet Label → Walked
+  walkedBy Through = Yes
+  walkedBy Astray = No WrongEnd
+  walkedBy (Broken place p w last) = No (Pair (pairFault sp r body last p (w .0)) place)
+
+  -- the records behind the first, from its point on
+  abbrev pub goingOn : List ℕ → Going Feet Label
+  goingOn list = going (graph sp r body) 1 (waypointAt list 0 .feet) (entriesFrom list 1 (length list / 40 - 1))
+
+  -- "bad list (judged after 4), goal out of range, start not standable, goal not standable, wrong start; then for each pair in order .."
+  unfoldable pub walkedList : List ℕ → Walked
+  walkedList list =
+      cond (badList list) (No BadList)
+      (cond (not (inRange r (r .goal))) (No GoalOutOfRange)
+      (cond (not (standable sp body (r .start))) (No StartNotStandable)
+      (cond (not (standable sp body (r .goal))) (No GoalNotStandable)
+      (cond (not (starts (r .start) (waypointAt list 0))) (No WrongStart)
+      (walkedBy (goingOn list))))))
+
+-- "3; `valid_request` (else no); 4, the budget not read; then yes exactly for a list that is a route.": that the last part is so is `yes-exactly`.
 unfoldable pub walked : Window → List ℕ → List ℕ → List ℕ → List ℕ → Request → Body → List ℕ → Walked
 walked w cells perms shapes boxes r body list =
-    judged w cells shapes boxes r body BadWorld No TooLarge (cond (isRouteList (space w cells perms shapes boxes) r body list) Yes No)
+    judged w cells shapes boxes r body BadWorld (No InvalidRequest) TooLarge (walkedList (space w cells perms shapes boxes) r body list)

@@ -1,5 +1,5 @@
 -- What the calls answer where a record is shorter than its struct: in 01's order 3 where the world is bad, for which the missing fields of a window read as 0, and
--- else what an invalid request is answered with: 1, and 110, no, of the walk-back.
+-- else what an invalid request is answered with: 1, and 111 of the walk-back.
 use Prim.Native.Nat.{ℕ}
 use mathlib.Core.Path.{_≡_, refl}
 use mathlib.Core.Bool.{Bool, true, false, cond}
@@ -23,6 +23,7 @@ use Rattle.search.specs.FindWalkPath.{answerBy, found}
 use Rattle.mob_request.specs.Asked.{requestOf}
 use Rattle.find_path.specs.FindPath.{unlessBad, path}
 use Rattle.outcomes.specs.declared.Path.the-variants.{Searched, BadTable}
+use Rattle.walk_back.specs.declared.Fault.the-variants.{InvalidRequest}
 use Rattle.walk_back.specs.declared.Walked.the-variants.{BadWorld, No}
 use Rattle.walk_back.specs.WalkBack.{walked, walkedNumber}
 use Rattle.c_records.specs.Records.{windowIn, bodyIn}
@@ -40,11 +41,11 @@ module _ (w : Window) (cells perms shapes boxes : List ℕ) (r : Request) (body 
       go true = refl
       go false = refl
 
-  walk-back-invalid : (list : List ℕ) → walkedNumber (walked w cells perms shapes boxes r body list) ≡ cond (badWorld w cells shapes boxes) 3 110
+  walk-back-invalid : (list : List ℕ) → walkedNumber (walked w cells perms shapes boxes r body list) ≡ cond (badWorld w cells shapes boxes) 3 111
   unfolding walked
   walk-back-invalid list = rw invalid (go (badWorld w cells shapes boxes))
     where
-      go : (b : Bool) → walkedNumber (cond b BadWorld No) ≡ cond b 3 110
+      go : (b : Bool) → walkedNumber (cond b BadWorld (No InvalidRequest)) ≡ cond b 3 111
       go true = refl
       go false = refl
 
@@ -54,7 +55,7 @@ module _ (window cells perms shapes boxes request body : List ℕ) (short : CutS
   pub search-cut-short : (nodes front index out : ℕ) → outcomeNumber (found (windowIn window) cells perms shapes boxes (asked window request body) (bodyIn body) nodes front index out .outcome) ≡ cond (badWorld (windowIn window) cells shapes boxes) 3 1
   search-cut-short = search-invalid (windowIn window) cells perms shapes boxes (asked window request body) (bodyIn body) (cut-short-is-invalid window request body (bodyIn body) short)
 
-  pub walk-back-cut-short : (list : List ℕ) → walkedNumber (walked (windowIn window) cells perms shapes boxes (asked window request body) (bodyIn body) list) ≡ cond (badWorld (windowIn window) cells shapes boxes) 3 110
+  pub walk-back-cut-short : (list : List ℕ) → walkedNumber (walked (windowIn window) cells perms shapes boxes (asked window request body) (bodyIn body) list) ≡ cond (badWorld (windowIn window) cells shapes boxes) 3 111
   walk-back-cut-short = walk-back-invalid (windowIn window) cells perms shapes boxes (asked window request body) (bodyIn body) (cut-short-is-invalid window request body (bodyIn body) short)
 
   pub edge-cut-short : (edge : ℕ) → judged (windowIn window) cells shapes boxes (asked window request body) (bodyIn body) 3 1 4 edge ≡ cond (badWorld (windowIn window) cells shapes boxes) 3 1

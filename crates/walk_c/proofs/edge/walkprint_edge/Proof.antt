@@ -2,13 +2,13 @@
 use Prim.Native.Nat.{ℕ}
 use mathlib.Core.Path.{_≡_, _∙_, ap}
 use denote.Ref.{now}
-use Rattle.moves.specs.Unique.{one-edge}
+use Rattle.moves.specs.Moves.{checkNumber}
+use Rattle.moves.specs.Unique.{one-check}
 use Rattle.questions.specs.declared.Judgement.{Judgement}
 use Rattle.questions.specs.Questions.{judged}
 use Rattle.questions.specs.Laws.{saidOf, said}
 use Rattle.c_records.specs.Records.{windowIn, bodyIn}
 use Rattle.c_records.specs.Asked.{asked, questionIn}
-use Rattle.c_answers.specs.Answers.{edgeNumber}
 use Rattle.walk_c.proofs.edge.walkprint_edge.Statement.{statement}
 use Rattle.walk_c.proofs.edge.walkprint_edge.Tie as tie
 
@@ -20,7 +20,7 @@ judged-so c edge t = said 3 1 4 edge _ _ _ _ _ _ (rw (c .before .question-in .en
 
 edge : tie.Need-returns-4
 unfolding questionIn
-edge c = (c .edge-number .ensures ∙ ap edgeNumber (one-edge _ _ (rw (c .before .before .before .before .before .question-in .ensures) at (c .before .edge .ensures)))) ∙ judged-so (c .before .before .before .before) _ (c .before .before .enum-told4 .given .1)
+edge c = (c .edge-number .ensures ∙ ap checkNumber (one-check _ _ (rw (c .before .before .before .before .before .question-in .ensures) at (c .before .edge-check .ensures)))) ∙ judged-so (c .before .before .before .before) _ (c .before .before .enum-told4 .given .1)
 
 pub walkprint-edge-spec : {M : Type 1} → statement M
 walkprint-edge-spec =

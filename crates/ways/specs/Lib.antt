@@ -1,0 +1,2 @@
+-- The way of an edge. What a reader must believe: Ways.
+pub mod Ways
