@@ -1,6 +1,5 @@
--- What a call tells of an answer, its number and the bytes that it leaves, is told of an equal answer too; and an edge's number is a u64.
-use Prim.Native.Nat.{ℕ, _+_, _<_, _^_}
-use native.Mathlib.Omega.{arith}
+-- What a call tells of an answer, its number and the bytes that it leaves, is told of an equal answer too; and a movement's number is small.
+use Prim.Native.Nat.{ℕ, _<_}
 use mathlib.Core.Path.{_≡_, ap, _∙_}
 use mathlib.Core.List.{List}
 use lib.Dec.{lit<}
@@ -16,11 +15,8 @@ module _ {A : Type 0} {a b : A} {n : ℕ} {new : List ℕ} (number : A → ℕ) 
   pub told-and : {R : Type 0} → (a ≡ b) × R → (n ≡ number a) × (new ≡ written a old) → (n ≡ number b) × ((new ≡ written b old) × R)
   told-and (e, rest) (m, w) = (m ∙ ap number e, (w ∙ ap (λ (x : A). written x old) e, rest))
 
-few-movements : (m : Movement) → movementNumber m < 4
+pub few-movements : (m : Movement) → movementNumber m < 4
 few-movements Walk = lit< tt
 few-movements Step = lit< tt
 few-movements Jump = lit< tt
 few-movements Drop = lit< tt
-
-pub edge-fits : {n : ℕ} (m : Movement) → n ≡ movementNumber m → 130 + n < 2 ^ 64
-edge-fits m e = omega (arith, e, few-movements m)

@@ -1,7 +1,8 @@
 // walkprint for programs in other languages (01, Modules 7: "the server calls it through a C interface"): each function is a proved call on numbers and
 // byte slices, and include/walkprint.h says how C sees them. A slice is a pointer and a length.
 //
-// Each file has one call, `roots` two. `c_records` reads what a caller hands over; `c_answers` and `c_scene` write what it gets back.
+// Each file has one call, `roots` two. `c_records` reads what a caller hands over; `c_answers`, `c_scene` and `answer_words` write what it
+// gets back.
 pub mod apex;
 pub mod edge;
 pub mod mob;
@@ -10,3 +11,4 @@ pub mod roots;
 pub mod scenes;
 pub mod version;
 pub mod walked;
+pub mod word;

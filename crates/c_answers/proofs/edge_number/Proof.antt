@@ -2,13 +2,14 @@
 use mathlib.Core.Path.{sym, ap, _∙_}
 use borrow.Author.Needs.{needs}
 use Prim.Native.Nat.{ℕ, _+_}
+use native.Mathlib.Omega.{arith}
 use Rattle.moves.specs.Moves.{checkNumber}
-use Rattle.c_answers.specs.Laws.{edge-fits}
+use Rattle.c_answers.specs.Laws.{few-movements}
 use Rattle.c_answers.proofs.edge_number.Statement.{statement}
 use Rattle.c_answers.proofs.edge_number.Tie as tie
 
 add-result : tie.Need-add-result
-add-result c = record { fits = edge-fits (c .before .before .a .given .0 .0 .movement) (c .movement-number .ensures) }
+add-result c = record { fits = omega (arith, c .movement-number .ensures, few-movements (c .before .before .a .given .0 .0 .movement)) }
 
 passes : tie.Need-returns
 passes c = ap (λ (n : ℕ). 130 + n) (c .movement-number .ensures) ∙ ap checkNumber (sym (c .before .before .a .given .1))

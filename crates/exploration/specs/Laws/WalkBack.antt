@@ -48,32 +48,6 @@ module _ {P L : Type 0} (𝓖 : Graph P L) where
 
   -- ---- where a list breaks off
 
-  -- it goes through exactly where the test says that it is a way
-  pub through-is : (k : ℕ) (p : P) (ws : List (P × L)) → isThrough (going 𝓖 k p ws) ≡ isWay 𝓖 p ws
-  unfolding going isWay
-  through-is k p [] = go (same p goal)
-    where
-      go : (b : Bool) → isThrough {P = P} {L = L} (cond b Through Astray) ≡ b
-      go true = refl
-      go false = refl
-  through-is k p (w ∷ ws) = go ws (hasStep 𝓖 p w) (connects 𝓖 p w) (through-is (suc k) (w .0) ws)
-    where
-      last : (s c g : Bool) → isThrough (cond (s || (true && (c && g))) (cond g Through Astray) (Broken k p w true)) ≡ ((s && g) || (true && (c && g)))
-      last true c true = refl
-      last true true false = refl
-      last true false false = refl
-      last false true true = refl
-      last false true false = refl
-      last false false true = refl
-      last false false false = refl
-
-      go : (ws : List (P × L)) (s c : Bool) → isThrough (going 𝓖 (suc k) (w .0) ws) ≡ isWay 𝓖 (w .0) ws →
-          isThrough (cond (s || (isLast 𝓖 ws && (c && same (w .0) goal))) (going 𝓖 (suc k) (w .0) ws) (Broken k p w (isLast 𝓖 ws)))
-          ≡ ((s && isWay 𝓖 (w .0) ws) || (isLast 𝓖 ws && (c && same (w .0) goal)))
-      go [] s c h = last s c (same (w .0) goal)
-      go (v ∷ vs) true c h = h ∙ or-false (isWay 𝓖 (w .0) (v ∷ vs))
-      go (v ∷ vs) false c h = refl
-
   no-break : {A : Type 0} {m : ℕ} {q : P} {w : P × L} {last : Bool} (b : Bool) → cond b Through Astray ≡ Broken m q w last → A
   no-break true e = absurd (let z : _≡_ {A = ℕ} 0 1 = cc in omega arith)
   no-break false e = absurd (let z : _≡_ {A = ℕ} 0 1 = cc in omega arith)
@@ -117,6 +91,34 @@ module _ {P L : Type 0} (𝓖 : Graph P L) where
             steps-before = refl;
             none = rw (← closed, ← left, ← later) j;
           }
+
+  -- ---- where it goes through
+
+  -- it goes through exactly where the test says that it is a way
+  pub through-is : (k : ℕ) (p : P) (ws : List (P × L)) → isThrough (going 𝓖 k p ws) ≡ isWay 𝓖 p ws
+  unfolding going isWay
+  through-is k p [] = go (same p goal)
+    where
+      go : (b : Bool) → isThrough {P = P} {L = L} (cond b Through Astray) ≡ b
+      go true = refl
+      go false = refl
+  through-is k p (w ∷ ws) = go ws (hasStep 𝓖 p w) (connects 𝓖 p w) (through-is (suc k) (w .0) ws)
+    where
+      last : (s c g : Bool) → isThrough (cond (s || (true && (c && g))) (cond g Through Astray) (Broken k p w true)) ≡ ((s && g) || (true && (c && g)))
+      last true c true = refl
+      last true true false = refl
+      last true false false = refl
+      last false true true = refl
+      last false true false = refl
+      last false false true = refl
+      last false false false = refl
+
+      go : (ws : List (P × L)) (s c : Bool) → isThrough (going 𝓖 (suc k) (w .0) ws) ≡ isWay 𝓖 (w .0) ws →
+          isThrough (cond (s || (isLast 𝓖 ws && (c && same (w .0) goal))) (going 𝓖 (suc k) (w .0) ws) (Broken k p w (isLast 𝓖 ws)))
+          ≡ ((s && isWay 𝓖 (w .0) ws) || (isLast 𝓖 ws && (c && same (w .0) goal)))
+      go [] s c h = last s c (same (w .0) goal)
+      go (v ∷ vs) true c h = h ∙ or-false (isWay 𝓖 (w .0) (v ∷ vs))
+      go (v ∷ vs) false c h = refl
 
   -- ---- where a list ends elsewhere
 
