@@ -5,7 +5,7 @@
 
 use std::error::Error;
 
-use walkprint::{Rooms, SCENE_TABLES, Tables, Waypoint, index_bytes};
+use walkprint::{Outcome, Rooms, SCENE_TABLES, Tables, Waypoint, index_bytes};
 
 fn main() -> Result<(), Box<dyn Error>> {
     let file = std::env::args().nth(1).ok_or("usage: flat SCENE")?;
@@ -36,14 +36,16 @@ fn main() -> Result<(), Box<dyn Error>> {
         println!("{i} {} {} {} {} lift {}", w.movement, w.feet[0], w.feet[1], w.feet[2], w.lift);
     }
 
+    if answer.outcome != Outcome::Found {
+        return Ok(());
+    }
     let list = &mut out[..40 * answer.count];
     println!("walk-back: {}", walkprint::walk_back(&tables, &scene.request, &scene.body, list)?);
 
     // The list with its last point a block higher: y is the second number of a record.
-    if let Some(last) = list.chunks_exact_mut(40).last() {
-        let y = f64::from_le_bytes(last[8..16].try_into()?) + 1.0;
-        last[8..16].copy_from_slice(&y.to_le_bytes());
-        println!("its last point a block higher: {}", walkprint::walk_back(&tables, &scene.request, &scene.body, list)?);
-    }
+    let y = &mut list[40 * (answer.count - 1)..][8..16];
+    let higher = f64::from_le_bytes((&*y).try_into()?) + 1.0;
+    y.copy_from_slice(&higher.to_le_bytes());
+    println!("its last point a block higher: {}", walkprint::walk_back(&tables, &scene.request, &scene.body, list)?);
     Ok(())
 }
