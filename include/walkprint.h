@@ -18,7 +18,7 @@
  * x86-64 and Arm are, they are the structs below, so `(const uint8_t *)&r` with
  * `sizeof r` is a record. What stands behind a record is not read. Where a
  * window, a request, two ends or a body is shorter than its struct, the request
- * is an invalid one, answered in its place in the call's order: 1, and 110 of
+ * is an invalid one, answered in its place in the call's order: 1, and 111 of
  * walkprint_walk_back. (3 comes before that; for it the fields that a window
  * does not have read as 0.) Of floats, every NaN pattern is the one NaN.
  */
@@ -35,7 +35,7 @@ extern "C" {
 /* ---- The version ---------------------------------------------------------- */
 
 #define WALKPRINT_VERSION_MAJOR 0
-#define WALKPRINT_VERSION_MINOR 2
+#define WALKPRINT_VERSION_MINOR 3
 #define WALKPRINT_VERSION_PATCH 0
 #define WALKPRINT_VERSION (WALKPRINT_VERSION_MAJOR * 1000000 + WALKPRINT_VERSION_MINOR * 1000 + WALKPRINT_VERSION_PATCH)
 
@@ -63,12 +63,51 @@ enum {
   WALKPRINT_BAD_SCENE = 7,       /* the first bad record, counted from 0 */
   WALKPRINT_BAD_TABLE = 8,       /* flag and permission tables differ in length */
   WALKPRINT_BAD_NUMBER = 9,      /* square root of a refused number */
-  WALKPRINT_NO = 110,            /* walk-back: the list is no route; edge: there is none */
-  WALKPRINT_EDGE_WALK = 130,     /* an edge, by its movement */
+
+  /* Why there is no edge: the first that is so, in this order. Told by the edge, and by the walk-back of a pair. */
+  WALKPRINT_TOO_HIGH = 101,             /* the target is higher than a step or a jump reaches */
+  WALKPRINT_TOO_DEEP = 102,             /* the target is lower than max_drop lets the body fall */
+  WALKPRINT_TARGET_OUT_OF_RANGE = 103,  /* further than max_range from the request's start, in x, in y or in z */
+  WALKPRINT_RAISED_OUT_OF_RANGE = 104,  /* so is the point that the body crosses from: `from`, raised by the lift */
+  WALKPRINT_TARGET_NOT_STANDABLE = 105, /* no room for the body at the target, or no ground there */
+  WALKPRINT_LIFT_BLOCKED = 106,         /* something is in the way up */
+  WALKPRINT_CROSSING_BLOCKED = 107,     /* something is in the way across, at the raised height */
+  WALKPRINT_SETTLE_BLOCKED = 108,       /* something is in the way from there to the target */
+  WALKPRINT_UNSUPPORTED = 109,          /* no ground carries the body all the way */
+
+  /* Why else a list is no route: walk-back. */
+  WALKPRINT_INVALID_REQUEST = 111,
+  WALKPRINT_BAD_LIST = 112,             /* empty, a partial record, or a movement above 3 in any record */
+  WALKPRINT_GOAL_OUT_OF_RANGE = 113,
+  WALKPRINT_START_NOT_STANDABLE = 114,
+  WALKPRINT_GOAL_NOT_STANDABLE = 115,
+  WALKPRINT_WRONG_START = 116,          /* the first record is not the start's: its point, Walk, lift 0 */
+  WALKPRINT_NOT_A_STEP = 117,           /* of a pair: there is an edge, but it is no graph step nor, at the last pair, a connector */
+  WALKPRINT_WRONG_LABEL = 118,          /* of a pair: the movement or the lift is not its edge's */
+  WALKPRINT_WRONG_END = 119,            /* the last point is not the goal */
+
+  /* An edge, by its movement. */
+  WALKPRINT_EDGE_WALK = 130,
   WALKPRINT_EDGE_STEP = 131,
   WALKPRINT_EDGE_JUMP = 132,
   WALKPRINT_EDGE_DROP = 133
 };
+
+/* No number's words are longer than so many bytes. */
+enum { WALKPRINT_WORD = 32 };
+
+/*
+ * A number in words, ASCII and in lower case, with no zero behind them: "budget
+ * exceeded", "crossing blocked", "step". Returns how many bytes they are, 0 for
+ * a number that has none; the numbers above have words, and no others.
+ * Afterwards:
+ *   word    the words in its first bytes, then its old bytes. Shorter than the
+ *           words: untouched, and their length is returned all the same.
+ * The words of 0 to 9 are 01's names, so 0 is "found" and 1 "unreachable". As an
+ * answer of the walk-back 0 is yes, and of the edge 1 is an invalid request: do
+ * not ask for the words of these two.
+ */
+uint64_t walkprint_word(uint64_t number, uint8_t *word, size_t word_length);
 
 /* Kinds of movement in waypoint and node records. */
 enum {
@@ -278,9 +317,20 @@ uint64_t walkprint_find_path(
     uint8_t *answer, size_t answer_length);
 
 /*
- * Whether a list of waypoint records is a route of the request: 3; an invalid
- * request (110); 4, the budget not read; then 0 exactly for a route. An empty
- * list, a partial record or a movement above 3 is 110. Writes nothing.
+ * Whether a list of waypoint records is a route of the request, and if not, why:
+ * 0 exactly for a route, else the first of these. 3; 111 for an invalid request;
+ * 4, the budget not read; 112 for a bad list; 113, 114, 115 for the ends; 116
+ * for a wrong start. Then pair by pair, a record and the next one: 101 to 109
+ * where there is no edge from the one to the other; 117 where there is one, but
+ * it is no graph step nor, at the last pair, a connector; 118 where the later
+ * record has another movement or lift than its edge. And 119 for a wrong end.
+ *
+ * Returns the number. Afterwards:
+ *   place   with a pair's reason (101 to 109, 117, 118) the place of the pair's
+ *           later record in the list, counted from 0, u64, in its first 8 bytes,
+ *           then its old bytes. Every pair before that one is a graph step.
+ *           Shorter than 8 bytes, or with any other answer: untouched. The first
+ *           record is no pair's later one, so no place is 0.
  */
 uint64_t walkprint_walk_back(
     const uint8_t *window, size_t window_length,
@@ -290,16 +340,18 @@ uint64_t walkprint_walk_back(
     const uint8_t *boxes, size_t boxes_length,
     const uint8_t *request, size_t request_length,
     const uint8_t *body, size_t body_length,
-    const uint8_t *list, size_t list_length);
+    const uint8_t *list, size_t list_length,
+    uint8_t *place, size_t place_length);
 
 /*
  * The edge from one point to another: 3; an invalid request (1); 4, the budget
- * not read; then 130 to 133 by its movement, or 110 where there is none. Writes
- * nothing.
+ * not read; then 130 to 133 by its movement, or where there is none the first
+ * reason, 101 to 109. Writes nothing.
  *
  * The points are not judged: NaN and infinities too are answered. An edge's
  * target, and `from` raised by the edge's lift, are in range of the request's
- * start, else it is 110 before a cell is looked at. So the way is at most
+ * start, else it is 103 or 104 before a cell is looked at; a NaN is out of range,
+ * where the height does not speak first (101, 102). So the way is at most
  * 2 * max_range + 2.0e-7 long in x and in z. Only a Step or a Jump can begin further
  * down, and it ends at the first cell outside the window, which is solid. An
  * edge of the graph is at most 1.5 long in x and in z, and takes microseconds;

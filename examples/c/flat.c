@@ -1,7 +1,8 @@
 /*
  * The flat scene, from a C program: builds the world's tables, searches a way,
- * prints the route, and asks walk-back whether it is one. tools/test-examples
- * builds and runs it.
+ * prints the route, and asks walk-back whether it is one; then the same of a
+ * list that is none, which is told why and where. tools/test-examples builds and
+ * runs it.
  */
 #include <stdio.h>
 
@@ -11,8 +12,13 @@
 
 enum { BUDGET = 64, SX = 7, SY = 4, SZ = 5, CELLS = SX * SY * SZ };
 
-static const char *const OUTCOMES[] = {"Found", "Unreachable", "BudgetExceeded", "BadWorld", "TooLarge", "NoRoom"};
-static const char *const MOVEMENTS[] = {"walk", "step", "jump", "drop"};
+/* A number's words, until the next call. */
+static const char *words(uint64_t number) {
+  static char text[WALKPRINT_WORD + 1];
+  const uint64_t length = walkprint_word(number, (uint8_t *)text, WALKPRINT_WORD);
+  text[length] = 0;
+  return text;
+}
 
 int main(void) {
   /* A floor of full cubes at y = 0, air above. State 1 and shape 1 are the cube; state 0 and shape 0 are air. */
@@ -45,14 +51,29 @@ int main(void) {
       BYTES(request), BYTES(body), BYTES(nodes), BYTES(front),
       index, walkprint_index_bytes(BUDGET), BYTES(out), BYTES(answer));
 
-  printf("%s: %d waypoints, %d nodes retained, %d closed\n", OUTCOMES[number],
+  printf("%s: %d waypoints, %d nodes retained, %d closed\n", words(number),
          (int)answer.count, (int)answer.retained, (int)answer.closed);
+  if (number != WALKPRINT_FOUND)
+    return 1;
   for (uint64_t i = 0; i < answer.count; i++)
-    printf("%d %s %g %g %g lift %g\n", (int)i, MOVEMENTS[out[i].movement], out[i].x, out[i].y, out[i].z, out[i].lift);
+    printf("%d %s %g %g %g lift %g\n", (int)i, words(WALKPRINT_EDGE_WALK + out[i].movement),
+           out[i].x, out[i].y, out[i].z, out[i].lift);
 
-  const uint64_t walked = walkprint_walk_back(
-      BYTES(window), BYTES(cells), BYTES(permissions), BYTES(shapes), BYTES(boxes),
-      BYTES(request), BYTES(body), (const uint8_t *)out, answer.count * sizeof out[0]);
-  printf("walk-back: %s\n", walked == WALKPRINT_ROUTE ? "a route" : "no route");
-  return number == WALKPRINT_FOUND && walked == WALKPRINT_ROUTE ? 0 : 1;
+  /* The list as it was found, and then with its last point a block higher. */
+  uint64_t walked[2];
+  for (int higher = 0; higher < 2; higher++) {
+    out[answer.count - 1].y += higher;
+    uint64_t place = 0; /* stays 0 where no place goes with the answer */
+    walked[higher] = walkprint_walk_back(
+        BYTES(window), BYTES(cells), BYTES(permissions), BYTES(shapes), BYTES(boxes),
+        BYTES(request), BYTES(body), (const uint8_t *)out, answer.count * sizeof out[0], BYTES(place));
+    printf("%s: ", higher ? "its last point a block higher" : "walk-back");
+    if (walked[higher] == WALKPRINT_ROUTE)
+      printf("a route\n");
+    else if (place == 0)
+      printf("no route: %s\n", words(walked[higher]));
+    else
+      printf("no route: %s at point %d\n", words(walked[higher]), (int)place);
+  }
+  return walked[0] == WALKPRINT_ROUTE && walked[1] == WALKPRINT_TOO_HIGH ? 0 : 1;
 }

@@ -1,7 +1,9 @@
 //! The proved search's time beside the original's (request No. 8): in each
 //! round of one run both search the same world, turn by turn. bench/search
 //! builds and runs it; docs/SPEED.md, "The search's time", says what it prints.
+//! And the proved walk-back's time: docs/SPEED.md, "The walk-back's time".
 
+mod back;
 mod clock;
 mod figures;
 mod ground;
@@ -119,6 +121,7 @@ fn main() -> ExitCode {
     let right = match words[..] {
         [] => Some(all()),
         ["worst", ref names @ ..] => all_worst(names),
+        ["back", ref names @ ..] => back::all(names),
         ["only", side, name, times] => alone(side, name, times),
         _ => None,
     };

@@ -1,16 +1,33 @@
-//! The proved search as a server links it (include/walkprint.h): a scene in the
-//! bytes that it reads, its rooms, and what it left in them.
+//! The proved search and walk-back as a server links them (include/walkprint.h):
+//! a scene in the bytes that they read, the search's rooms, and what it left in
+//! them.
 
 use scene::{Answer, RawTables, Scene};
 use walkprint::index_bytes;
 use walkprint::raw::{self, Asked, Lent};
 
-/// A scene in bytes, and rooms of exactly the size that its budget asks.
-pub struct Proved {
+/// A scene in bytes.
+struct Handed {
     window: [u8; 24],
     tables: RawTables,
     request: [u8; 88],
     body: [u8; 24],
+}
+
+impl Handed {
+    fn asked(&self) -> Asked<'_> {
+        Asked {
+            window: &self.window,
+            tables: self.tables.all(),
+            request: &self.request,
+            body: &self.body,
+        }
+    }
+}
+
+/// A scene, and rooms of exactly the size that its budget asks.
+pub struct Proved {
+    scene: Handed,
     /// Nodes, frontier, index, output.
     rooms: [Vec<u8>; 4],
     answer: [u8; 32],
@@ -26,10 +43,12 @@ impl Proved {
             40 * (budget + 1),
         ];
         Self {
-            window: scene.tables.window.bytes(),
-            tables: scene.tables.raw(),
-            request: scene.request.bytes(),
-            body: scene.body.bytes(),
+            scene: Handed {
+                window: scene.tables.window.bytes(),
+                tables: scene.tables.raw(),
+                request: scene.request.bytes(),
+                body: scene.body.bytes(),
+            },
             rooms: sizes.map(|size| vec![0; size]),
             answer: [0; 32],
         }
@@ -37,16 +56,10 @@ impl Proved {
 
     /// One search, and nothing else; its number.
     pub fn run(&mut self) -> u64 {
-        let asked = Asked {
-            window: &self.window,
-            tables: self.tables.all(),
-            request: &self.request,
-            body: &self.body,
-        };
         let [nodes, front, index, out] = &mut self.rooms;
         let answer = &mut self.answer;
         raw::find_walk_path(
-            &asked,
+            &self.scene.asked(),
             Lent {
                 nodes,
                 front,
@@ -55,6 +68,17 @@ impl Proved {
                 answer,
             },
         )
+    }
+
+    /// How many points the last search's list has.
+    pub fn points(&self) -> usize {
+        scene::u64_at(&self.answer, 8) as usize
+    }
+
+    /// The last search's list walked back, and nothing else; its number.
+    pub fn walk_back(&self) -> u64 {
+        let list = &self.rooms[3][..40 * self.points()];
+        raw::walk_back(&self.scene.asked(), list, &mut [0; 8])
     }
 
     /// All four rooms zeroed, whole.

@@ -3,8 +3,10 @@
 //! holds after each answer. The calls on bytes are in `raw`.
 
 pub mod raw;
+mod reasons;
 mod records;
 
+pub use reasons::{Reason, WORD, WalkBack, word};
 pub use records::{Body, Movement, Point, Policy, Request, Waypoint, Window};
 
 /// The largest sizes in bytes that a scene's tables can have: cells,
@@ -21,6 +23,9 @@ pub const PATH_INDEX_BYTES: usize = index_bytes(PATH_NODE_BUDGET);
 /// 4,096, the most that a search takes. Larger powers of two are right too.
 pub const MOST_INDEX_BYTES: usize = 32768;
 
+/// The number of an edge is this and its movement's.
+const EDGE: u64 = 130;
+
 /// What a search comes to. The numbers are the interface's.
 #[derive(Clone, Copy, Debug, PartialEq, Eq)]
 pub enum Outcome {
@@ -29,9 +34,16 @@ pub enum Outcome {
     BudgetExceeded = 2,
 }
 
+impl std::fmt::Display for Outcome {
+    /// 01's name in words, as `budget exceeded`.
+    fn fmt(&self, f: &mut std::fmt::Formatter<'_>) -> std::fmt::Result {
+        f.write_str(&word(*self as u64))
+    }
+}
+
 /// A refusal. An invalid request is one of an edge alone: a search answers it
-/// with `Unreachable`, the walk-back with no. A bad scene comes with its first
-/// bad record, counted from 0.
+/// with `Unreachable`, the walk-back with no and that reason. A bad scene comes
+/// with its first bad record, counted from 0.
 #[derive(Clone, Copy, Debug, PartialEq, Eq)]
 pub enum Error {
     InvalidRequest,
@@ -162,23 +174,31 @@ pub fn find_path(
     })
 }
 
-/// Whether a list of waypoint records is a route.
-pub fn walk_back(t: &Tables, request: &Request, body: &Body, list: &[u8]) -> Result<bool, Error> {
-    match in_bytes(t, &request.bytes(), body, |asked| raw::walk_back(asked, list)) {
-        0 => Ok(true),
-        110 => Ok(false),
-        number => Err(refusal(number, 0)),
+/// Whether a list of waypoint records is a route, and if not, why and where.
+pub fn walk_back(t: &Tables, request: &Request, body: &Body, list: &[u8]) -> Result<WalkBack, Error> {
+    let mut place = [0; 8];
+    let number = in_bytes(t, &request.bytes(), body, |asked| raw::walk_back(asked, list, &mut place));
+    match Reason::numbered(number) {
+        Some(reason) => Ok(WalkBack::No(reason, reason.is_of_a_pair().then(|| records::word(&place, 0) as usize))),
+        None if number == 0 => Ok(WalkBack::Yes),
+        None => Err(refusal(number, 0)),
     }
 }
 
-/// How the edge from one point to another moves, where there is one. The
-/// points may be any numbers.
-pub fn edge(t: &Tables, request: &Request, body: &Body, from: Point, to: Point) -> Result<Option<Movement>, Error> {
-    match in_bytes(t, &request.bytes(), body, |asked| raw::edge(asked, from, to)) {
-        110 => Ok(None),
-        number @ 130..=133 => Ok(Movement::numbered(number - 130)),
-        number => Err(refusal(number, 0)),
+/// How the edge from one point to another moves, or the first reason why there
+/// is none. The points may be any numbers.
+///
+/// There are two errors, one inside the other, because they say two things. The
+/// outer one is a refusal: the tables, the request or the body were no good, and
+/// nothing was looked at. The inner one is an answer about the world. So
+/// `edge(..)?` leaves a movement or a reason, and `edge(..)?.ok()` a movement or
+/// none.
+pub fn edge(t: &Tables, request: &Request, body: &Body, from: Point, to: Point) -> Result<Result<Movement, Reason>, Error> {
+    let number = in_bytes(t, &request.bytes(), body, |asked| raw::edge(asked, from, to));
+    if let Some(movement) = number.checked_sub(EDGE).and_then(Movement::numbered) {
+        return Ok(Ok(movement));
     }
+    Reason::numbered(number).map(Err).ok_or_else(|| refusal(number, 0))
 }
 
 /// Reads a whole scene into four tables, each of at least its size in

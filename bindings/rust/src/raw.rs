@@ -85,14 +85,17 @@ pub fn find_path(policy: u64, jump_height: f64, flags: &[u8], asked: &Asked, per
     }
 }
 
-/// 0 for a route, 110 for none, 3 or 4.
+/// 0 for a route, 3, 4, or the first reason why it is none: 101 to 109 and 111 to
+/// 119. With a pair's (101 to 109, 117, 118) its later record's place, counted
+/// from 0, is in the first 8 bytes of `place`.
 #[inline]
-pub fn walk_back(asked: &Asked, list: &[u8]) -> u64 {
+pub fn walk_back(asked: &Asked, list: &[u8], place: &mut [u8]) -> u64 {
     let [cells, permissions, shapes, boxes] = asked.tables;
-    call!(walkprint_walk_back(asked.window, cells, permissions, shapes, boxes, asked.request, asked.body, list;;))
+    call!(walkprint_walk_back(asked.window, cells, permissions, shapes, boxes, asked.request, asked.body, list; place;))
 }
 
-/// 130 Walk, 131 Step, 132 Jump, 133 Drop, 110 for none, 1, 3 or 4.
+/// 130 Walk, 131 Step, 132 Jump, 133 Drop, 101 to 109 for the first reason why
+/// there is none, 1, 3 or 4.
 #[inline]
 pub fn edge(asked: &Asked, from: [f64; 3], to: [f64; 3]) -> u64 {
     let [cells, permissions, shapes, boxes] = asked.tables;
@@ -118,6 +121,12 @@ pub fn root(x: f64, root: &mut [u8]) -> u64 {
 
 pub fn square_root(x: f64) -> f64 {
     unsafe { walkprint_square_root(x) }
+}
+
+/// How many bytes a number's words have; they are in the first bytes of `word`,
+/// where they fit.
+pub fn word(number: u64, word: &mut [u8]) -> u64 {
+    unsafe { walkprint_word(number, word.as_mut_ptr(), word.len()) }
 }
 
 pub fn version() -> u64 {
@@ -200,6 +209,8 @@ unsafe extern "C" {
         body_length: usize,
         list: *const u8,
         list_length: usize,
+        place: *mut u8,
+        place_length: usize,
     ) -> u64;
 
     fn walkprint_edge(
@@ -245,6 +256,8 @@ unsafe extern "C" {
     fn walkprint_root(x: f64, root: *mut u8, root_length: usize) -> u64;
 
     fn walkprint_square_root(x: f64) -> f64;
+
+    fn walkprint_word(number: u64, word: *mut u8, word_length: usize) -> u64;
 
     fn walkprint_version() -> u64;
 }

@@ -1,10 +1,11 @@
 //! A scene, from a Rust program: reads the scene file that it is given,
-//! searches a way, prints the route, and asks walk-back whether it is one.
+//! searches a way, prints the route, and asks walk-back whether it is one; then
+//! the same of a list that is none, which is told why and where.
 //! tools/test-examples builds and runs it on the flat scene.
 
 use std::error::Error;
 
-use walkprint::{Rooms, SCENE_TABLES, Tables, Waypoint, index_bytes};
+use walkprint::{Outcome, Rooms, SCENE_TABLES, Tables, Waypoint, index_bytes};
 
 fn main() -> Result<(), Box<dyn Error>> {
     let file = std::env::args().nth(1).ok_or("usage: flat SCENE")?;
@@ -28,16 +29,23 @@ fn main() -> Result<(), Box<dyn Error>> {
     let answer = walkprint::find_walk_path(&tables, &scene.request, &scene.body, &mut rooms)?;
 
     println!(
-        "{:?}: {} waypoints, {} nodes retained, {} closed",
+        "{}: {} waypoints, {} nodes retained, {} closed",
         answer.outcome, answer.count, answer.retained, answer.closed
     );
     for (i, w) in Waypoint::list(&out, answer.count).iter().enumerate() {
-        let movement = format!("{:?}", w.movement).to_lowercase();
-        println!("{i} {movement} {} {} {} lift {}", w.feet[0], w.feet[1], w.feet[2], w.lift);
+        println!("{i} {} {} {} {} lift {}", w.movement, w.feet[0], w.feet[1], w.feet[2], w.lift);
     }
 
-    let list = &out[..40 * answer.count];
-    let route = walkprint::walk_back(&tables, &scene.request, &scene.body, list)?;
-    println!("walk-back: {}", if route { "a route" } else { "no route" });
+    if answer.outcome != Outcome::Found {
+        return Ok(());
+    }
+    let list = &mut out[..40 * answer.count];
+    println!("walk-back: {}", walkprint::walk_back(&tables, &scene.request, &scene.body, list)?);
+
+    // The list with its last point a block higher: y is the second number of a record.
+    let y = &mut list[40 * (answer.count - 1)..][8..16];
+    let higher = f64::from_le_bytes((&*y).try_into()?) + 1.0;
+    y.copy_from_slice(&higher.to_le_bytes());
+    println!("its last point a block higher: {}", walkprint::walk_back(&tables, &scene.request, &scene.body, list)?);
     Ok(())
 }

@@ -1,10 +1,13 @@
 //! The calls on the flat scene, with rooms and tables that are filled with a
 //! pattern: exactly long, too long and one byte short, the index room of every
-//! right and wrong size, every byte compared.
+//! right and wrong size, every byte compared. Why a step is refused is in
+//! `reasons`.
+
+mod reasons;
 
 use walkprint::{
-    Answer, Body, Error, MOST_INDEX_BYTES, Movement, Outcome, PATH_INDEX_BYTES, PATH_NODE_BUDGET, Policy, Request, Rooms,
-    SCENE_TABLES, Tables, Waypoint, Window, index_bytes, raw,
+    Answer, Body, Error, MOST_INDEX_BYTES, Movement, Outcome, PATH_INDEX_BYTES, PATH_NODE_BUDGET, Policy, Reason, Request,
+    Rooms, SCENE_TABLES, Tables, WalkBack, Waypoint, Window, index_bytes, raw,
 };
 
 const WINDOW: Window = Window { origin: [-2, 0, -2], sizes: [7, 4, 5] };
@@ -279,13 +282,17 @@ fn walk_back_takes_the_list_and_no_other() {
     let t = flat();
     let (_, [_, _, _, out]) = search(&t, &REQUEST, ROOMS);
     let back = |list: &[u8]| walkprint::walk_back(&tables(&t), &REQUEST, &BODY, list);
-    assert_eq!(back(&out[..120]), Ok(true));
-    for n in [0, 40, 80, 119, 121, 160] {
-        assert_eq!(back(&out[..n]), Ok(false));
+    assert_eq!(back(&out[..120]), Ok(WalkBack::Yes));
+    // Behind the list stands the pattern, whose movement is above 3.
+    for n in [0, 119, 121, 160] {
+        assert_eq!(back(&out[..n]), Ok(WalkBack::No(Reason::BadList, None)));
+    }
+    for n in [40, 80] {
+        assert_eq!(back(&out[..n]), Ok(WalkBack::No(Reason::WrongEnd, None)));
     }
     let mut lifted = out[..120].to_vec();
     lifted[104..112].copy_from_slice(&0.25f64.to_le_bytes());
-    assert_eq!(back(&lifted), Ok(false));
+    assert_eq!(back(&lifted), Ok(WalkBack::No(Reason::WrongLabel, Some(2))));
 }
 
 const POLICY: Policy = Policy {
@@ -364,15 +371,20 @@ fn edges() {
     let t = flat();
     let edge = |from, to| walkprint::edge(&tables(&t), &REQUEST, &BODY, from, to);
     let from = [0.5, 1.0, 0.5];
-    assert_eq!(edge(from, [1.5, 1.0, 0.5]), Ok(Some(Movement::Walk)));
-    assert_eq!(edge(from, [1.5, 2.0, 0.5]), Ok(None));
-    // Neither end of an edge need be a number, or near.
+    assert_eq!(edge(from, [1.5, 1.0, 0.5]), Ok(Ok(Movement::Walk)));
+    assert_eq!(edge(from, [1.5, 2.0, 0.5]), Ok(Err(Reason::TooHigh)));
+    // Neither end of an edge need be a number, or near. A height that is a number speaks first; a NaN is out of range.
     for far in [f64::NAN, f64::INFINITY, f64::NEG_INFINITY, 1.0e9, -1.0e9, 1.0e300, -1.0e300] {
         for axis in 0..3 {
             let mut point = from;
             point[axis] = far;
-            assert_eq!(edge(from, point), Ok(None));
-            assert_eq!(edge(point, from), Ok(None));
+            let (there, back) = match axis {
+                1 if far > 0.0 => (Reason::TooHigh, Reason::TooDeep),
+                1 if far < 0.0 => (Reason::TooDeep, Reason::TooHigh),
+                _ => (Reason::TargetOutOfRange, Reason::RaisedOutOfRange),
+            };
+            assert_eq!(edge(from, point), Ok(Err(there)));
+            assert_eq!(edge(point, from), Ok(Err(back)));
         }
     }
     // However far down a step or a jump begins, its way ends with the window.
@@ -381,7 +393,8 @@ fn edges() {
         for y in [-1.0, -1.0e9, -1.0e300] {
             for (x, step_height) in [(0.5, 0.5), (0.5, 1.0e300), (1.0, 0.5), (1.0, 1.0e300)] {
                 let body = Body { width, step_height, ..BODY };
-                assert_eq!(walkprint::edge(&tables(&t), &steep, &body, [x, y, 0.5], [1.5, 1.0, 0.5]), Ok(None));
+                let edge = walkprint::edge(&tables(&t), &steep, &body, [x, y, 0.5], [1.5, 1.0, 0.5]);
+                assert!(edge.unwrap().is_err());
             }
         }
     }
@@ -398,11 +411,11 @@ fn an_edge_has_the_number_of_its_movement() {
     let (low, high) = ([0.5, 1.0, 0.5], [1.5, 2.0, 0.5]);
     let number = |request: &Request, body: &Body, from, to| walkprint::edge(&tables(&t), request, body, from, to);
     let jumper = Request { jump_height: 1.25, ..REQUEST };
-    assert_eq!(number(&jumper, &BODY, low, high), Ok(Some(Movement::Jump)));
+    assert_eq!(number(&jumper, &BODY, low, high), Ok(Ok(Movement::Jump)));
     let stepper = Body { step_height: 1.0, ..BODY };
-    assert_eq!(number(&Request { step_height: 1.0, ..REQUEST }, &stepper, low, high), Ok(Some(Movement::Step)));
-    assert_eq!(number(&REQUEST, &BODY, high, low), Ok(Some(Movement::Drop)));
-    assert_eq!(number(&REQUEST, &BODY, low, high), Ok(None));
+    assert_eq!(number(&Request { step_height: 1.0, ..REQUEST }, &stepper, low, high), Ok(Ok(Movement::Step)));
+    assert_eq!(number(&REQUEST, &BODY, high, low), Ok(Ok(Movement::Drop)));
+    assert_eq!(number(&REQUEST, &BODY, low, high), Ok(Err(Reason::TooHigh)));
 }
 
 #[test]
@@ -418,7 +431,7 @@ fn an_edge_is_judged() {
     assert_eq!(edge(&tables(&t), &endless, &wide), Err(Error::InvalidRequest));
     assert_eq!(edge(&tables(&t), &REQUEST, &beyond), Err(Error::InvalidRequest));
     assert_eq!(edge(&tables(&t), &REQUEST, &wide), Err(Error::TooLarge));
-    assert_eq!(edge(&tables(&t), &Request { node_budget: u64::MAX, ..REQUEST }, &BODY), Ok(Some(Movement::Walk)));
+    assert_eq!(edge(&tables(&t), &Request { node_budget: u64::MAX, ..REQUEST }, &BODY), Ok(Ok(Movement::Walk)));
 }
 
 /// The flat scene's records.
@@ -519,7 +532,7 @@ fn cut(window: usize, request: usize, body: usize) -> [u64; 3] {
     let search = raw::find_walk_path(&asked, lent);
     assert_eq!((index, out), (pattern(4), pattern(40)));
     assert_eq!(answer, [search.to_le_bytes(), [0; 8], [0; 8], [0; 8]].concat()[..]);
-    [search, raw::walk_back(&asked, &[0; 40]), raw::edge(&asked, [0.0; 3], [0.0; 3])]
+    [search, raw::walk_back(&asked, &[0; 40], &mut []), raw::edge(&asked, [0.0; 3], [0.0; 3])]
 }
 
 #[test]
@@ -529,10 +542,10 @@ fn a_record_that_is_cut_short_makes_an_invalid_request() {
         assert_eq!(cut(window, request, body), [2, 0, 130]);
     }
     for short in 0..88 {
-        assert_eq!(cut(24, short, 24), [1, 110, 1]);
+        assert_eq!(cut(24, short, 24), [1, 111, 1]);
     }
     for short in 0..24 {
-        assert_eq!(cut(24, 88, short), [1, 110, 1]);
+        assert_eq!(cut(24, 88, short), [1, 111, 1]);
         // Without its last size the window is none for these cells: 3 comes first.
         assert_eq!(cut(short, 0, 0), [3, 3, 3]);
     }
@@ -542,7 +555,7 @@ fn a_record_that_is_cut_short_makes_an_invalid_request() {
 fn a_window_of_no_bytes_is_empty() {
     let body: Vec<u8> = [0.625f64, 1.75, 0.5].iter().flat_map(|n| n.to_le_bytes()).collect();
     let asked = raw::Asked { window: &[], tables: [&[]; 4], request: &[0; 88], body: &body };
-    assert_eq!(raw::walk_back(&asked, &[0; 40]), 110);
+    assert_eq!(raw::walk_back(&asked, &[0; 40], &mut []), 111);
     assert_eq!(raw::edge(&asked, [0.0; 3], [0.0; 3]), 1);
 }
 
@@ -581,7 +594,7 @@ fn ends_that_are_cut_short_make_an_invalid_request() {
     }
 }
 
-const HEADER: &str = include_str!("../../../include/walkprint.h");
+const HEADER: &str = include_str!("../../../../include/walkprint.h");
 
 /// The header has this crate's sizes.
 #[test]
@@ -593,6 +606,7 @@ fn one_size() {
     assert!(has("PATH_NODE_BUDGET", PATH_NODE_BUDGET));
     assert!(has("PATH_INDEX_BYTES", PATH_INDEX_BYTES));
     assert!(has("MOST_INDEX_BYTES", MOST_INDEX_BYTES));
+    assert!(has("WORD", walkprint::WORD));
 }
 
 /// The header's number, this crate's own and the library's are one.
