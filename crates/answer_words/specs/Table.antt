@@ -1,4 +1,5 @@
--- The words of each number that a call answers with, and how they stand in a slice that a caller lends.
+-- The words of each number that a call answers with, and how they stand in a slice that a caller lends. Of 0 and 1 they are a search's: 0 is also the walk-back's yes, a
+-- jump's height and a root, and 1 an edge's invalid request.
 use Prim.Native.Nat.{ℕ}
 use Prim.Native.Char.{code}
 use Prim.Native.String.{String, [] as []ᵗ, _∷_ as _∷ᵗ_}

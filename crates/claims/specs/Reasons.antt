@@ -1,4 +1,4 @@
--- What the walk-back's reasons say of a pair of a list, one theorem a reason (`pairFault` of pairs): of all labels, and of all bits of its points p and q, NaN and
+-- What the walk-back's reasons say of a pair of a list (`a-pair-whatever-its-label`, of `pairFault` of pairs): of all labels, and of all bits of its points p and q, NaN and
 -- zeros of either sign too.
 use Prim.Native.Nat.{ℕ}
 use mathlib.Core.Path.{_≡_, refl, sym, ap, _∙_}

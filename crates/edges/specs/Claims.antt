@@ -21,7 +21,6 @@ use Rattle.moves.specs.declared.answer.Moving.the-variants.{By, None}
 use Rattle.moves.specs.declared.answer.Waypoint.{Waypoint}
 use Rattle.moves.specs.declared.answer.Reason.{Reason}
 use Rattle.moves.specs.declared.answer.Reason.the-variants.{TooHigh, TooDeep, TargetOutOfRange, RaisedOutOfRange, TargetNotStandable, LiftBlocked, CrossingBlocked, SettleBlocked, Unsupported}
-use Rattle.moves.specs.declared.answer.EdgeCheck.{EdgeCheck}
 use Rattle.moves.specs.declared.answer.EdgeCheck.the-variants.{Passes, Fails}
 use Rattle.moves.specs.Moves.{reasonNumber, stepHeight, rising, falling, moving}
 use Rattle.ways.specs.Ways.{raised, liftArea, crossingArea, settleArea, wayCheck}

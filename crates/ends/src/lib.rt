@@ -1,5 +1,5 @@
-// The ends of a search (01, "Numbers given back", Search order: "goal in range, start standable, goal standable"), as the search and the walk-back ask
-// for them.
+// The ends of a search (01, "Numbers given back", Search order: "goal in range, start standable, goal standable"), as the search asks for them; the walk-back asks
+// for one after the other, to tell which is bad, and takes its laws.
 ghost use mathlib.Core.Path.{_≡_};
 ghost use Rattle.world.specs.Space.{space};
 ghost use Rattle.ends.specs.Ends.{endsGood};

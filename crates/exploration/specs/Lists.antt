@@ -1,4 +1,4 @@
--- Lists by place and by test, as the definitions of this crate speak of them.
+-- Lists by place and by test, as the definitions of this crate and the claims of others speak of them.
 use mathlib.Core.Bool.{Bool, true, false, _||_}
 use mathlib.Core.List.{List, [], _∷_}
 use Prim.Native.Nat.{ℕ, zero, suc, _+_}

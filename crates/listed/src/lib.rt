@@ -1,4 +1,5 @@
-// How the records of a list that is walked back (01, Modules 5) compare with the start, an edge and the goal (01, The graph, "Same point").
+// How the records of a list that is walked back (01, Modules 5) compare with the start, an edge and the goal (01, The graph, "Same point"), and whether the list is
+// a bad one (02, No. 3).
 ghost use mathlib.Core.Path.{_≡_};
 ghost use Rattle.rooms.specs.Waypoints.{samePoint, alike};
 ghost use Rattle.words.specs.Words.{feetOf, labelOf};

@@ -1,4 +1,4 @@
--- 01, The graph, "Edge": the movement and the lift by a difference in height, and what an edge's answer gives. Definitions only.
+-- 01, The graph, "Edge": the movement and the lift by a difference in height; what an edge's answer gives, and what an edge check's (02, No. 3). Definitions only.
 use Prim.Native.Nat.{ℕ, _+_}
 use mathlib.Core.Bool.{cond}
 use mathlib.Core.List.{List, [], _∷_}

@@ -7,7 +7,6 @@ use mathlib.Core.Option.{some}
 use mathlib.Core.List.{List, [], _∷_, map}
 use mathlib.Core.Logic.{⊎-elim}
 use borrow.Author.Tests.{eqb-true, le-ltb, ltb-false}
-use lib.Dec.{ltb}
 use Rattle.exploration.specs.Lists.{nth, has}
 use Rattle.exploration.specs.Graph.{Way, arrived, connected, stepped, Route, route, labelled}
 use Rattle.exploration.specs.Laws.Lists.{none-some, true-false, or-cases, and-first, and-second}
@@ -45,15 +44,15 @@ unfolding alike
 like-the-start l e = omega (arith, eqb-true 0 (l .movement) (and-first _ _ e))
 
 -- a step that is like the point and label of q
-abbrev leadsTo : Feet × Label → Feet × Label → Bool
-leadsTo q v = samePoint (v .0) (q .0) && alike (v .1) (q .1)
+abbrev likeStep : Feet × Label → Feet × Label → Bool
+likeStep q v = samePoint (v .0) (q .0) && alike (v .1) (q .1)
 
-by-step : (ws : List Waypoint) (q : Feet × Label) → has (leadsTo q) (map stepOf ws) ≡ true → q .1 .movement ≤ 3
+by-step : (ws : List Waypoint) (q : Feet × Label) → has (likeStep q) (map stepOf ws) ≡ true → q .1 .movement ≤ 3
 unfolding stepOf
 by-step [] q e = absurd (true-false e refl)
 by-step (w ∷ ws) q e =
     ⊎-elim (λ h. like-an-edge w (q .1) (and-second (samePoint (stepOf w .0) (q .0)) (alike (labelOf w) (q .1)) h)) (λ h. by-step ws q h)
-    (or-cases (leadsTo q (stepOf w)) (has (leadsTo q) (map stepOf ws)) e)
+    (or-cases (likeStep q (stepOf w)) (has (likeStep q) (map stepOf ws)) e)
 
 -- what no point of a list has, the point at a place has not
 at-place : (t : List (Feet × Label)) → has above3 t ≡ false → (k : ℕ) (v : Feet × Label) → nth t k ≡ some v → above3 v ≡ false

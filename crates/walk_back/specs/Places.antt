@@ -3,13 +3,13 @@ use Prim.Native.Nat.{ℕ, zero, suc, _+_, _-_, _/_, _≤_, _<_}
 use native.Mathlib.Omega.{arith}
 use native.Mathlib.Numerals.{add-one}
 use mathlib.Core.Path.{_≡_, refl, sym, ap, _∙_}
-use mathlib.Core.Bool.{Bool, true, false, _&&_}
+use mathlib.Core.Bool.{Bool, true, false}
 use mathlib.Core.List.{List, [], _∷_, _++_}
 use borrow.Author.Tests.{eq-eqb, ne-eqb, eqb-true, eqb-false}
 use lib.Dec.{eqb}
 use lib.ListN.{length}
 use Rattle.exploration.specs.Graph.{hasStep}
-use Rattle.exploration.specs.WalkBack.{isLast, Astray, Broken, joined, lastOf, stepsAlong, FirstBreak}
+use Rattle.exploration.specs.WalkBack.{isLast, Astray, Broken, joined, lastOf, stepsAlong}
 use Rattle.exploration.specs.Claims.{breaks-at-the-first-pair}
 use Rattle.exploration.specs.Laws.Lists.{and-first, and-second}
 use Rattle.exploration.specs.Laws.WalkBack.{astray-is}

@@ -5,9 +5,7 @@ use mathlib.Core.List.{List, [], _∷_}
 use Prim.Native.Nat.{ℕ}
 use lib.Dec.{eqb}
 use Rattle.pairs.specs.declared.PairFault.{PairFault}
-use Rattle.pairs.specs.Pairs.{pairNumber}
 use Rattle.pairs.specs.Unique.{pairOf, pair-back}
-use Rattle.walk_back.specs.declared.Fault.{Fault}
 use Rattle.walk_back.specs.declared.Fault.the-variants.{InvalidRequest, BadList, GoalOutOfRange, StartNotStandable, GoalNotStandable, WrongStart, Pair, WrongEnd}
 use Rattle.walk_back.specs.declared.Walked.{Walked}
 use Rattle.walk_back.specs.declared.Walked.the-variants.{Yes, No, BadWorld, TooLarge}

@@ -4,7 +4,7 @@ use native.Mathlib.Omega.{arith}
 use mathlib.Core.Path.{_≡_, refl, sym, ap, _∙_}
 use mathlib.Core.Bool.{Bool, true, false, not, _&&_, _||_, cond, and-false, and-assoc}
 use mathlib.Core.List.{List, [], _∷_}
-use borrow.Author.Tests.{eq-eqb, ne-eqb, eqb-true, eqb-false, ltb-true, ltb-false}
+use borrow.Author.Tests.{eq-eqb, ne-eqb, eqb-true, ltb-true, ltb-false}
 use lib.Dec.{eqb, ltb}
 use lib.ListN.{length}
 use Rattle.exploration.specs.Lists.{has}
@@ -28,7 +28,7 @@ use Rattle.listed.specs.Listed.{entry, entriesFrom, waypoints, above3, badList}
 use Rattle.listed.specs.Compared.{starts}
 use Rattle.walk_back.specs.declared.Walked.{Walked}
 use Rattle.walk_back.specs.declared.Walked.the-variants.{Yes, No, BadWorld, TooLarge}
-use Rattle.walk_back.specs.declared.Fault.the-variants.{BadList, GoalOutOfRange, StartNotStandable, GoalNotStandable, WrongStart, Pair, WrongEnd}
+use Rattle.walk_back.specs.declared.Fault.the-variants.{BadList, GoalOutOfRange, StartNotStandable, GoalNotStandable, WrongStart}
 use Rattle.walk_back.specs.WalkBack.{isRouteList, walkedBy, walkedList}
 use Rattle.walk_back.specs.Laws.{rest, rest-on}
 use Rattle.walk_back.specs.Movements.{movements-named}
@@ -71,8 +71,8 @@ module _ (sp : Space) (r : Request) (body : Body) (s : List ℕ) where
       rw e (ap (λ (b : Bool). endsGood sp r body && b) (ap (isRoute (graph sp r body)) (waypoints-are s h) ∙ first-is (waypointAt s 0) (rest s 1)))
 
   -- whole records, and not none; the start first; good ends; and a way
-  pub route-is : (begins r s && endsGood sp r body && isWay (graph sp r body) (waypointAt s 0 .feet) (rest s 1)) ≡ isRouteList sp r body s
-  route-is = go (eqb (length s % 40) 0) refl (ltb 0 (length s)) refl
+  list-is : (begins r s && endsGood sp r body && isWay (graph sp r body) (waypointAt s 0 .feet) (rest s 1)) ≡ isRouteList sp r body s
+  list-is = go (eqb (length s % 40) 0) refl (ltb 0 (length s)) refl
     where
       turn : (a b c : Bool) → (a && b && c) ≡ (b && (a && c))
       turn true b c = refl
@@ -146,9 +146,6 @@ module _ (sp : Space) (r : Request) (body : Body) (s : List ℕ) where
       chain (not (eqb (length s % 40) 0) || eqb (length s) 0 || has above3 (waypoints s)) (inRange r (r .goal)) (standable sp body (r .start)) (standable sp body (r .goal)) (starts (r .start) (waypointAt s 0)) _
       ∙ rw (by-going (going (graph sp r body) 1 (waypointAt s 0 .feet) (rest s 1)), through-is (graph sp r body) 1 (waypointAt s 0 .feet) (rest s 1)) (go (has above3 (waypoints s)) refl (isRouteList sp r body s) refl)
     where
-      way : Bool
-      way = isWay (graph sp r body) (waypointAt s 0 .feet) (rest s 1)
-
       go : (m : Bool) → has above3 (waypoints s) ≡ m → (t : Bool) → isRouteList sp r body s ≡ t →
           (not (not (eqb (length s % 40) 0) || eqb (length s) 0 || m) && inRange r (r .goal) && standable sp body (r .start) && standable sp body (r .goal) && starts (r .start) (waypointAt s 0) && isWay (graph sp r body) (waypointAt s 0 .feet) (rest s 1))
           ≡ isRouteList sp r body s
@@ -159,4 +156,4 @@ module _ (sp : Space) (r : Request) (body : Body) (s : List ℕ) where
           bad-none true true i a b st way = refl
           bad-none true false i a b st way = refl
           bad-none false n i a b st way = refl
-      go false e t f = shuffle (eqb (length s % 40) 0) (eqb (length s) 0) _ _ _ _ _ ∙ rw empty-is (unfold endsGood in route-is sp r body s)
+      go false e t f = shuffle (eqb (length s % 40) 0) (eqb (length s) 0) _ _ _ _ _ ∙ rw empty-is (unfold endsGood in list-is sp r body s)

@@ -8,7 +8,7 @@ use c_answers::put_walked;
 use c_records::question_in;
 
 // Whether a list of waypoint records is a route: 0 yes, 3 BadWorld, 4 TooLarge, or the first reason why it is none: 101 to 109, 117 and 118 of a pair, whose later
-// point's place is then in the first 8 bytes of `place`, and 111 to 116 and 119.
+// point's place is then in the first 8 bytes of `place`, where they fit, and 111 to 116 and 119.
 #[no_mangle]
 pub extern "C" fn walkprint_walk_back(
     window: &[u8],

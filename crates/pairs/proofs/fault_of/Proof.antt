@@ -1,11 +1,9 @@
 -- `pairs::fault_of` meets its contract. Assumes nothing.
-use mathlib.Core.Path.{_≡_, sym, ap, _∙_}
-use mathlib.Core.Bool.{Bool, true, false, cond}
+use mathlib.Core.Path.{_≡_, sym, _∙_}
 use borrow.Author.Needs.{needs}
 use denote.Ref.{now}
 use Rattle.world.specs.Space.{Space, space}
 use Rattle.moves.specs.declared.answer.EdgeCheck.{EdgeCheck}
-use Rattle.moves.specs.declared.answer.EdgeCheck.the-variants.{Passes, Fails}
 use Rattle.moves.specs.Unique.{one-check}
 use Rattle.edges.specs.Reasons.{edgeCheck}
 use Rattle.words.specs.Words.{pointOf}

@@ -1,24 +1,17 @@
 -- `walk_back::leads` meets its contract. Assumes nothing.
 use mathlib.Core.Path.{_≡_, sym, ap, _∙_}
 use mathlib.Core.Bool.{Bool, true, false, cond}
-use Prim.Native.Nat.{_+_, _-_, _/_}
+use Prim.Native.Nat.{_+_, _-_}
 use native.Mathlib.Omega.{arith}
 use borrow.Author.Tests.{not-true, not-false}
 use borrow.Author.Needs.{needs}
 use denote.Ref.{now}
-use lib.ListN.{length}
 use mir.Syntax.{w64}
 use mir.Val.{Fits}
-use Rattle.exploration.specs.WalkBack.{Through, Astray, joined}
-use Rattle.steps.specs.Graph.{graph}
-use Rattle.listed.specs.Listed.{entry}
+use Rattle.exploration.specs.WalkBack.{Through, Astray}
 use Rattle.world.specs.Space.{Space, space}
-use Rattle.rooms.specs.declared.Feet.{Feet}
-use Rattle.rooms.specs.declared.Label.{Label}
 use Rattle.rooms.specs.declared.WaypointRecord.{WaypointRecord}
 use Rattle.rooms.specs.Records.{waypointAt}
-use Rattle.rooms.specs.Waypoints.{samePoint}
-use Rattle.words.specs.Words.{feetOf}
 use Rattle.pairs.specs.declared.PairFault.{PairFault}
 use Rattle.pairs.specs.Unique.{one-pair}
 use Rattle.walk_back.specs.declared.Fault.the-variants.{Pair}

@@ -5,7 +5,6 @@ use borrow.Author.Tests.{not-true, not-false}
 use denote.Ref.{now}
 use Rattle.world.specs.Space.{Space, space}
 use Rattle.clear.specs.Clear.{clear}
-use Rattle.support.specs.Support.{supported}
 use Rattle.places.specs.Places.{inRange, standable}
 use Rattle.ways.specs.Ways.{raised, liftArea, crossingArea, settleArea, wayCheck}
 use Rattle.ways.proofs.way_check.Statement.{statement}
