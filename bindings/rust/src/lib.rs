@@ -164,9 +164,9 @@ pub fn find_path(
 
 /// Whether a list of waypoint records is a route.
 pub fn walk_back(t: &Tables, request: &Request, body: &Body, list: &[u8]) -> Result<bool, Error> {
-    match in_bytes(t, &request.bytes(), body, |asked| raw::walk_back(asked, list)) {
+    match in_bytes(t, &request.bytes(), body, |asked| raw::walk_back(asked, list, &mut [])) {
         0 => Ok(true),
-        110 => Ok(false),
+        101..=119 => Ok(false),
         number => Err(refusal(number, 0)),
     }
 }
@@ -175,7 +175,7 @@ pub fn walk_back(t: &Tables, request: &Request, body: &Body, list: &[u8]) -> Res
 /// points may be any numbers.
 pub fn edge(t: &Tables, request: &Request, body: &Body, from: Point, to: Point) -> Result<Option<Movement>, Error> {
     match in_bytes(t, &request.bytes(), body, |asked| raw::edge(asked, from, to)) {
-        110 => Ok(None),
+        101..=109 => Ok(None),
         number @ 130..=133 => Ok(Movement::numbered(number - 130)),
         number => Err(refusal(number, 0)),
     }

@@ -85,14 +85,17 @@ pub fn find_path(policy: u64, jump_height: f64, flags: &[u8], asked: &Asked, per
     }
 }
 
-/// 0 for a route, 110 for none, 3 or 4.
+/// 0 for a route, 3, 4, or the number of the first reason: 101 to 109, 111 to
+/// 119. With a pair's (101 to 109, 117, 118) the place of its later point, a
+/// u64, goes to the first 8 bytes of `place`, if it has so many.
 #[inline]
-pub fn walk_back(asked: &Asked, list: &[u8]) -> u64 {
+pub fn walk_back(asked: &Asked, list: &[u8], place: &mut [u8]) -> u64 {
     let [cells, permissions, shapes, boxes] = asked.tables;
-    call!(walkprint_walk_back(asked.window, cells, permissions, shapes, boxes, asked.request, asked.body, list;;))
+    call!(walkprint_walk_back(asked.window, cells, permissions, shapes, boxes, asked.request, asked.body, list; place;))
 }
 
-/// 130 Walk, 131 Step, 132 Jump, 133 Drop, 110 for none, 1, 3 or 4.
+/// 130 Walk, 131 Step, 132 Jump, 133 Drop, the number of the first reason, 101
+/// to 109, 1, 3 or 4.
 #[inline]
 pub fn edge(asked: &Asked, from: [f64; 3], to: [f64; 3]) -> u64 {
     let [cells, permissions, shapes, boxes] = asked.tables;
@@ -200,6 +203,8 @@ unsafe extern "C" {
         body_length: usize,
         list: *const u8,
         list_length: usize,
+        place: *mut u8,
+        place_length: usize,
     ) -> u64;
 
     fn walkprint_edge(
