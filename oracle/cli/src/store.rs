@@ -216,7 +216,7 @@ fn reasons(folder: &Path, tape: &mut Tape) -> Result<(), String> {
     for Directed { name, scene, asked } in mutants::questions::directed(&folder)? {
         let bytes = scene_file(&folder.join(format!("{name}.txt")).to_string_lossy())?;
         let near = |a: [f64; 3], b: [f64; 3]| (0..3).all(|axis| (a[axis] - b[axis]).abs() <= 64.0);
-        tape.named(&format!("reasons/{name}.txt"), |tape| {
+        tape.named(&format!("reasons/{name}.txt asked"), |tape| {
             for Asked {
                 question, answer, ..
             } in asked
