@@ -148,8 +148,8 @@ fn search(
     Ok(())
 }
 
-/// The walk-back of the list that the whole records find, and the edge from the
-/// start to the goal.
+/// The walk-back of the list that the whole records find, or of that and a point
+/// more, and the edge from the start to the goal.
 fn questions(
     handed: &Handed,
     scene: &Scene,
@@ -157,10 +157,13 @@ fn questions(
     counts: &mut Counts,
 ) -> Result<(), String> {
     let whole = Call::of(scene);
-    let list: Vec<u8> = match judge(&whole) {
+    let mut list: Vec<u8> = match judge(&whole) {
         Judged::Answered(answer) => answer.list.iter().flat_map(|p| p.bytes()).collect(),
         Judged::Ends(_) => vec![0; 40],
     };
+    if chance.once_in(2) {
+        list.extend([0; 40]);
+    }
     let must = match handed.cut(INVALID_REQUEST) {
         Some(number) => Walked::told(number),
         None => walkback::must(&handed.call, &list)?,
