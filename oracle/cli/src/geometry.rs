@@ -15,7 +15,8 @@ pub enum Question {
     Supported([f64; 3], [f64; 3], bool),
     /// x, z, the y it is looked from; the kept heights.
     Heights([f64; 3], Vec<f64>),
-    Edge([f64; 3], [f64; 3], Option<Waypoint>),
+    /// The points, the edge check's number, and the waypoint if there is one.
+    Edge([f64; 3], [f64; 3], u64, Option<Waypoint>),
     Connector([f64; 3], Option<Waypoint>),
     Steps([f64; 3], Vec<Waypoint>),
 }
@@ -98,8 +99,9 @@ fn about_point(checks: &mut Checks, scene: &Scene, point: [f64; 3], out: &mut Ve
 }
 
 fn about_pair(checks: &mut Checks, from: [f64; 3], to: [f64; 3], out: &mut Vec<Question>) {
-    let edge = checks.edge(from, to);
-    out.push(Question::Edge(from, to, edge));
+    let check = checks.edge_check(from, to);
+    let edge = check.ok();
+    out.push(Question::Edge(from, to, edge_number(check), edge));
     out.push(Question::Supported(
         from,
         to,
@@ -109,6 +111,14 @@ fn about_pair(checks: &mut Checks, from: [f64; 3], to: [f64; 3], out: &mut Vec<Q
     // The crossing, and the way down to the target.
     for area in &checks.areas(from, lift, to)[1..] {
         out.push(Question::Clear(*area, checks.clear_area(*area)));
+    }
+}
+
+/// What `walkprint_edge` answers: by the movement, or the first reason.
+pub fn edge_number(check: Result<Waypoint, u64>) -> u64 {
+    match check {
+        Ok(point) => 130 + point.movement,
+        Err(number) => number,
     }
 }
 
@@ -124,7 +134,7 @@ pub fn ask(bytes: &[u8], scene: &Scene, tape: &mut Tape) {
             Question::Clear([a, b, c, d, e, f], _) => {
                 tape.ask_points(bytes, scene, [a, b, c], [d, e, f]);
             }
-            Question::Edge(from, to, _) => tape.ask_points(bytes, scene, from, to),
+            Question::Edge(from, to, ..) => tape.ask_points(bytes, scene, from, to),
             Question::Steps(from, _) => tape.ask_columns(bytes, scene, from),
             Question::Supported(..) | Question::Heights(..) => {}
         }
@@ -134,24 +144,23 @@ pub fn ask(bytes: &[u8], scene: &Scene, tape: &mut Tape) {
 impl Question {
     /// Kind, arguments (six, unused ones 0.0), result number, heights,
     /// waypoints.
-    fn parts(&self) -> (u32, [f64; 6], u32, &[f64], &[Waypoint]) {
+    fn parts(&self) -> (u32, [f64; 6], u64, &[f64], &[Waypoint]) {
         let point = |[a, b, c]: [f64; 3]| [a, b, c, 0.0, 0.0, 0.0];
         let pair = |[a, b, c]: [f64; 3], [d, e, f]: [f64; 3]| [a, b, c, d, e, f];
         match self {
-            Question::InRange(feet, yes) => (1, point(*feet), u32::from(*yes), &[], &[]),
-            Question::Standable(feet, yes) => (2, point(*feet), u32::from(*yes), &[], &[]),
-            Question::Clear(area, yes) => (3, *area, u32::from(*yes), &[], &[]),
-            Question::Supported(from, to, yes) => (4, pair(*from, *to), u32::from(*yes), &[], &[]),
-            Question::Heights(column, kept) => (5, point(*column), kept.len() as u32, kept, &[]),
-            Question::Edge(from, to, edge) => {
-                let edge = edge.as_slice();
-                (6, pair(*from, *to), edge.len() as u32, &[], edge)
+            Question::InRange(feet, yes) => (1, point(*feet), u64::from(*yes), &[], &[]),
+            Question::Standable(feet, yes) => (2, point(*feet), u64::from(*yes), &[], &[]),
+            Question::Clear(area, yes) => (3, *area, u64::from(*yes), &[], &[]),
+            Question::Supported(from, to, yes) => (4, pair(*from, *to), u64::from(*yes), &[], &[]),
+            Question::Heights(column, kept) => (5, point(*column), kept.len() as u64, kept, &[]),
+            Question::Edge(from, to, number, edge) => {
+                (6, pair(*from, *to), *number, &[], edge.as_slice())
             }
             Question::Connector(from, edge) => {
                 let edge = edge.as_slice();
-                (7, point(*from), edge.len() as u32, &[], edge)
+                (7, point(*from), edge.len() as u64, &[], edge)
             }
-            Question::Steps(from, steps) => (8, point(*from), steps.len() as u32, &[], steps),
+            Question::Steps(from, steps) => (8, point(*from), steps.len() as u64, &[], steps),
         }
     }
 

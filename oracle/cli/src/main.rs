@@ -22,6 +22,8 @@ use std::io::{ErrorKind, Read, Write};
 use std::path::Path;
 use std::process::ExitCode;
 
+use scene::{Walked, YES, words};
+
 use crate::files::scene_file;
 
 const USAGE: &str = "\
@@ -35,6 +37,7 @@ oracle policy
 oracle policy bytes
 oracle geometry < SCENE
 oracle walkback SCENE < LIST
+oracle reasons FOLDER
 oracle bench SCENE N
 oracle edges SCENE N
 oracle mutants ...
@@ -74,6 +77,7 @@ fn run(arguments: &[String]) -> Result<bool, String> {
             put(bench::edges_line(file, &any_scene(file)?, number(runs)?).as_bytes())
         }
         ["walkback", file] => walkback(file),
+        ["reasons", folder] => mutants::told::answered(Path::new(folder)),
         ["store", folder] => put(store::store(Path::new(folder))?.as_bytes()),
         ["selftest", folder] => selftest::selftest(Path::new(folder)),
         ["mutants", ..] => Ok(mutants::run(&arguments[1..])),
@@ -156,13 +160,14 @@ fn any_scene(file: &str) -> Result<scene::Scene, String> {
     scene::read(&bytes).map_err(|bad| format!("record {} is bad", bad.record))
 }
 
-/// Whether a list of 40-byte records is a route of a scene in a file.
+/// What the walk-back says of a list of 40-byte records on a scene in a file.
 fn walkback(file: &str) -> Result<bool, String> {
-    let list = input()?;
-    let answer = match original::walk_back(&any_scene(file)?, &list) {
-        Ok(true) => "yes\n".to_string(),
-        Ok(false) => "no\n".to_string(),
-        Err(refusal) => scene::print_refusal(refusal),
+    let Walked { number, place } = original::walk_back(&any_scene(file)?, &input()?);
+    let answer = match (number, place) {
+        (YES, _) => "yes\n".to_string(),
+        (3 | 4, _) => format!("refused {number} 0\n"),
+        (_, Some(place)) => format!("no {number} {}, place {place}\n", words(number)),
+        _ => format!("no {number} {}\n", words(number)),
     };
     put(answer.as_bytes())
 }

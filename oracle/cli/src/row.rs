@@ -1,7 +1,9 @@
 //! The digest that the gate's programs print: a row of numbers, folded to one.
 //! oracle/README.md describes it.
 
-use scene::Waypoint;
+use scene::{Walked, Waypoint};
+
+use crate::geometry::edge_number;
 
 /// Marsaglia's xorshift: the word after one in a row of all words but 0.
 pub fn stirred(mut w: u64) -> u64 {
@@ -37,15 +39,34 @@ impl Row {
         }
     }
 
-    pub fn take_edge(&mut self, edge: Option<Waypoint>) {
+    /// An edge check: its number, then feet and lift, if there is an edge.
+    pub fn take_check(&mut self, check: Result<Waypoint, u64>) {
+        self.take(edge_number(check));
+        if let Ok(point) = check {
+            self.take_point(&point);
+        }
+    }
+
+    /// A connector: its movement, feet and lift; 4 if there is none.
+    pub fn take_connector(&mut self, edge: Option<Waypoint>) {
         let Some(point) = edge else {
             self.take(4);
             return;
         };
         self.take(point.movement);
+        self.take_point(&point);
+    }
+
+    fn take_point(&mut self, point: &Waypoint) {
         for number in [point.feet[0], point.feet[1], point.feet[2], point.lift] {
             self.take_float(number);
         }
+    }
+
+    /// A walk-back: its number, then its place, 0 if there is none.
+    pub fn take_walked(&mut self, walked: Walked) {
+        self.take(walked.number);
+        self.take(walked.place.unwrap_or(0));
     }
 }
 

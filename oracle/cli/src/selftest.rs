@@ -3,7 +3,7 @@
 use std::path::Path;
 
 use original::{Apex, Policy};
-use scene::{Answer, Outcome};
+use scene::{Answer, Outcome, YES};
 
 use crate::files::{directed, scene_file};
 use crate::{geometry, policy, store, trace, walks};
@@ -12,7 +12,7 @@ use crate::{geometry, policy, store, trace, walks};
 /// false if one failed.
 pub fn selftest(folder: &Path) -> Result<bool, String> {
     let flat = std::fs::read_to_string(folder.join("flat.txt")).map_err(|e| e.to_string())?;
-    let checks: [(&str, bool); 11] = [
+    let checks: [(&str, bool); 12] = [
         ("the flat scene prints 01's lines", flat_lines(&flat)?),
         ("the flat scene's budgets and goals", flat_variants(&flat)?),
         (
@@ -23,6 +23,10 @@ pub fn selftest(folder: &Path) -> Result<bool, String> {
         ("the traced search agrees with the original", traced()),
         ("a reused scratch changes no answer", reused()),
         ("found lists are routes, damaged ones mostly not", walks()),
+        (
+            "the questions of scenes/reasons have the answers that stand there",
+            mutants::told::answered(&folder.join("../reasons"))?,
+        ),
         ("01's examples of the policy", policy_examples()),
         (
             "jumps that end do so within 65,536 ticks",
@@ -129,7 +133,7 @@ fn walks() -> bool {
         Ok(answer) if answer.outcome == Outcome::Found && answer.list.len() < 6 => {
             let scene = scene::read(&bytes).expect("it was searched");
             let asked = walks::lists(&scene, &answer);
-            let yes = |list: &Vec<u8>| original::walk_back(&scene, list) == Ok(true);
+            let yes = |list: &Vec<u8>| original::walk_back(&scene, list).number == YES;
             lists += asked.len();
             routes += asked[1..].iter().filter(|list| yes(list)).count();
             yes(&asked[0])

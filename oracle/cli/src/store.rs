@@ -4,7 +4,8 @@
 use std::fmt::Write;
 use std::path::Path;
 
-use scene::Verdict;
+use mutants::questions::Directed;
+use scene::{Asked, Question, Verdict};
 
 use crate::files::{directed, scene_file};
 use crate::tape::Tape;
@@ -34,6 +35,7 @@ pub fn lists(folder: &Path) -> Result<Vec<(&'static str, Vec<u8>)>, String> {
     searches(folder, &mut tape)?;
     geometries(folder, &mut tape)?;
     walks::ask(&mut tape);
+    reasons(folder, &mut tape)?;
     reader::ask(&mut tape);
     let [input, output, names] = tape.files();
     let (records, lines) = numbers::files();
@@ -201,6 +203,32 @@ fn geometries(folder: &Path, tape: &mut Tape) -> Result<(), String> {
         let scene = scene::read(&bytes).map_err(|bad| format!("bad record {}", bad.record))?;
         tape.named(&format!("{name} geometry"), |tape| {
             geometry::ask(&bytes, &scene, tape);
+        });
+    }
+    Ok(())
+}
+
+/// The questions in the heads of scenes/reasons. The program asks every function
+/// about a pair of points, so an edge is left out if a point is far away or no
+/// number, or if the request is refused.
+fn reasons(folder: &Path, tape: &mut Tape) -> Result<(), String> {
+    let folder = folder.join("../reasons");
+    for Directed { name, scene, asked } in mutants::questions::directed(&folder)? {
+        let bytes = scene_file(&folder.join(format!("{name}.txt")).to_string_lossy())?;
+        let near = |a: [f64; 3], b: [f64; 3]| (0..3).all(|axis| (a[axis] - b[axis]).abs() <= 64.0);
+        tape.named(&format!("reasons/{name}.txt asked"), |tape| {
+            for Asked {
+                question, answer, ..
+            } in asked
+            {
+                match question {
+                    Question::Walk(list) => tape.ask_lists(&bytes, &scene, &[list]),
+                    Question::Edge(from, to) if near(from, to) && answer.number > 4 => {
+                        tape.ask_points(&bytes, &scene, from, to);
+                    }
+                    Question::Edge(..) => {}
+                }
+            }
         });
     }
     Ok(())

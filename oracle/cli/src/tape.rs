@@ -210,8 +210,8 @@ impl Tape {
         row.take(checks.standable(from).into());
         row.take(checks.clear_area([a, b, c, d, e, f]).into());
         row.take(checks.supported_segment(from, to).into());
-        row.take_edge(checks.edge(from, to));
-        row.take_edge(checks.connector(from));
+        row.take_check(checks.edge_check(from, to));
+        row.take_connector(checks.connector(from));
         row.take_height(first.copied());
         row.take_height(next.copied());
         self.case(bytes, row);
@@ -224,10 +224,7 @@ impl Tape {
             self.sheet[..list.len()].copy_from_slice(list);
             self.put(LIST, list.len());
             let mut row = self.read(bytes);
-            row.take(match original::walk_back(scene, list) {
-                Ok(yes) => yes.into(),
-                Err(refusal) => refusal.number.into(),
-            });
+            row.take_walked(original::walk_back(scene, list));
             self.case(bytes, row);
         }
     }

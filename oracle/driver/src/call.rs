@@ -1,6 +1,6 @@
 //! What a server hands over, the rooms apart.
 
-use scene::{Body, RawTables, Request, Scene};
+use scene::{Body, RawTables, Request, Scene, Walked};
 use walkprint::raw::Asked;
 
 #[derive(Clone)]
@@ -29,9 +29,21 @@ impl Call {
         })
     }
 
-    /// Whether the proved walk-back takes a list: its number.
-    pub fn walk_back(&self, list: &[u8]) -> u64 {
-        self.ask(|asked| walkprint::raw::walk_back(asked, list))
+    /// What the proved walk-back says of a list. Its place is read where its
+    /// number is a pair's.
+    pub fn walk_back(&self, list: &[u8]) -> Walked {
+        let mut place = [0xff; 8];
+        let number = self.ask(|asked| walkprint::raw::walk_back(asked, list, &mut place));
+        let is_pair = matches!(number, 101..=109 | 117 | 118);
+        Walked {
+            number,
+            place: is_pair.then_some(u64::from_le_bytes(place)),
+        }
+    }
+
+    /// The same as a scene, if the tables are not bad.
+    pub fn whole(&self) -> Option<Scene> {
+        (!scene::bad_world(&self.tables)).then(|| self.scene())
     }
 
     /// The same with the tables as numbers, for tables that are not bad.

@@ -4,20 +4,33 @@ use std::collections::BTreeMap;
 use std::fmt;
 
 use reading::index;
+use scene::words;
 
 use crate::expected::Expected;
 
 #[derive(Default)]
-pub struct Counts(BTreeMap<&'static str, u64>);
+pub struct Counts {
+    names: BTreeMap<&'static str, u64>,
+    /// The numbers of walk-backs and edges.
+    told: BTreeMap<u64, u64>,
+}
 
 impl Counts {
     pub fn add(&mut self, name: &'static str, count: u64) {
-        *self.0.entry(name).or_default() += count;
+        *self.names.entry(name).or_default() += count;
+    }
+
+    /// A walk-back or an edge that answered this number.
+    pub fn told(&mut self, number: u64) {
+        *self.told.entry(number).or_default() += 1;
     }
 
     pub fn merge(&mut self, other: Counts) {
-        for (name, count) in other.0 {
+        for (name, count) in other.names {
             self.add(name, count);
+        }
+        for (number, count) in other.told {
+            *self.told.entry(number).or_default() += count;
         }
     }
 
@@ -59,11 +72,10 @@ impl Counts {
 
 impl fmt::Display for Counts {
     fn fmt(&self, f: &mut fmt::Formatter) -> fmt::Result {
-        let parts: Vec<String> = self
-            .0
-            .iter()
-            .map(|(name, n)| format!("{n} {name}"))
-            .collect();
+        let names = self.names.iter().map(|(name, n)| format!("{n} {name}"));
+        let told = self.told.iter();
+        let told = told.map(|(number, n)| format!("{n} {} ({number})", words(*number)));
+        let parts: Vec<String> = names.chain(told).collect();
         f.write_str(&parts.join(", "))
     }
 }

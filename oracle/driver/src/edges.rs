@@ -1,11 +1,14 @@
-//! The proved edge check against the original's: from nodes of a scene's search
-//! to the heights around them, and to points a little off those; from far and
-//! from nowhere; and what is refused, by a scene's own request and after an
-//! edit of `tables`.
+//! The proved edge check against the original's, by its number: from nodes of a
+//! scene's search to the heights around them, and to points a little off those;
+//! from far and from nowhere; and what is refused, by a scene's own request and
+//! after an edit of `tables`.
 
 use mutants::chance::Chance;
 use mutants::draft::scene_of;
+use mutants::pairs::Point;
+use mutants::questions::{Questions, questions};
 use original::Checks;
+use reading::{Graph, Variant::ReadAsWritten};
 use scene::Scene;
 use walkprint::raw;
 
@@ -16,32 +19,11 @@ use crate::expected::refused;
 use crate::runner::{Makers, Mismatch, smallest};
 use crate::tables::edited;
 
-/// How many pairs of a scene are asked about at the most, and of its tables
-/// after an edit.
-const PAIRS: usize = 48;
+/// How many pairs of a scene's tables are asked about after an edit.
 const EDITED: usize = 4;
 
-/// How far a point is put off on an axis: around E, and by whole parts of a cell.
-const OFF: [f64; 10] = [
-    0.0, 0.0, 1.0e-7, -1.0e-7, 2.0e-7, -2.0e-7, 0.25, -0.25, 1.0, -1.0,
-];
-
-/// Coordinates that no point of a search has.
-const FAR: [f64; 7] = [
-    1.0e9,
-    -1.0e9,
-    1.0e300,
-    -1.0e300,
-    f64::NAN,
-    f64::INFINITY,
-    f64::NEG_INFINITY,
-];
-
-/// The numbers of an edge: of our own, by its movement, and for none.
+/// The number of an edge by its movement.
 const MOVES: u64 = 130;
-const NONE: u64 = 110;
-
-type Point = [f64; 3];
 
 pub fn one_scene(makers: &Makers, number: u64, counts: &mut Counts) -> Result<(), Mismatch> {
     let Some((records, scene)) = makers.scene(number, counts) else {
@@ -56,74 +38,68 @@ pub fn one_scene(makers: &Makers, number: u64, counts: &mut Counts) -> Result<()
     }))
 }
 
-/// The first pair on which the two part, of the scene and of its tables after
-/// an edit.
+/// The first pair on which the two part, of the scene, of the same spoilt, and
+/// of its tables after an edit.
 fn parts(scene: &Scene, seed: u64, counts: &mut Counts) -> Option<String> {
-    let mut chance = Chance::new(seed);
-    let call = Call::of(scene);
-    let mut pairs = vec![(scene.request.start, scene.request.goal)];
-    if refused(&call).is_none() {
-        pairs.extend(Checks::new(scene).neighbours(scene));
+    let asked = questions(scene, seed);
+    let spoilt = |asked: &Questions| pairs_part(&Call::of(&asked.scene), &asked.pairs, counts);
+    if let Some(parts) = asked.iter().find_map(spoilt) {
+        return Some(parts);
     }
-    let most = PAIRS.min(2 * pairs.len());
-    pairs_part(&call, &pairs, most, &mut chance, counts).or_else(|| {
-        let edit = &EDITS[chance.below(EDITS.len())];
-        let call = edited(scene, &[edit], seed);
-        pairs_part(&call, &pairs, EDITED, &mut chance, counts)
-            .map(|parts| format!("{}: {parts}", edit.name))
-    })
+    let edit = &EDITS[Chance::new(seed).below(EDITS.len())];
+    let call = edited(scene, &[edit], seed);
+    let pairs = &asked[0].pairs;
+    pairs_part(&call, &pairs[..EDITED.min(pairs.len())], counts)
+        .map(|parts| format!("{}: {parts}", edit.name))
 }
 
-/// The first of so many pairs whose edges part.
-fn pairs_part(
-    call: &Call,
-    pairs: &[(Point, Point)],
-    most: usize,
-    chance: &mut Chance,
-    counts: &mut Counts,
-) -> Option<String> {
+/// The first of the pairs whose edges part.
+fn pairs_part(call: &Call, pairs: &[(Point, Point)], counts: &mut Counts) -> Option<String> {
     let refusal = refused(call);
-    let mut checks = refusal.is_none().then(|| Checks::new(&call.scene()));
-    for _ in 0..most {
-        let (mut from, to) = pairs[chance.below(pairs.len())];
-        let to = to.map(|at| at + chance.pick(&OFF));
-        if chance.once_in(16) {
-            from[chance.below(3)] = chance.pick(&FAR);
-        }
-        let must = match &mut checks {
-            None => refusal?,
-            Some(checks) => edge(checks, from, to),
+    let scene = call.whole().filter(|_| refusal.is_none());
+    let mut judge = scene.as_ref().map(Judge::new);
+    for &(from, to) in pairs {
+        let must = match &mut judge {
+            None => Ok(refusal?),
+            Some(judge) => judge.must(from, to),
         };
         let said = call.ask(|asked| raw::edge(asked, from, to));
-        if said != must {
-            return Some(format!("{from:?} to {to:?}: {said}, must be {must}"));
+        if must != Ok(said) {
+            return Some(format!("{from:?} to {to:?}: {said}, must be {must:?}"));
         }
-        counts.add(name(said), 1);
+        counts.add("edges asked", 1);
+        counts.told(said);
     }
     None
 }
 
-/// What the original says. A coordinate that is no finite number "differs from
-/// the start's by at most" nothing, so there is no edge; the original lets a
-/// NaN pass (docs/DIFFERENCES.md).
-fn edge(checks: &mut Checks, from: Point, to: Point) -> u64 {
-    if !from.iter().chain(&to).all(|n| n.is_finite()) {
-        return NONE;
-    }
-    checks
-        .edge(from, to)
-        .map_or(NONE, |point| MOVES + point.movement)
+/// What the original says of edges, and the reading, which must agree.
+pub struct Judge<'a> {
+    checks: Checks,
+    graph: Graph<'a>,
 }
 
-fn name(number: u64) -> &'static str {
-    match number {
-        130 => "walks",
-        131 => "steps",
-        132 => "jumps",
-        133 => "drops",
-        NONE => "no edges",
-        1 => "invalid requests",
-        3 => "refused 3",
-        _ => "refused 4",
+impl<'a> Judge<'a> {
+    pub fn new(scene: &'a Scene) -> Self {
+        let edit = ReadAsWritten;
+        Self {
+            checks: Checks::new(scene),
+            graph: Graph { scene, edit },
+        }
+    }
+
+    pub fn must(&mut self, from: Point, to: Point) -> Result<u64, String> {
+        let must = match self.checks.edge_check(from, to) {
+            Ok(point) => MOVES + point.movement,
+            Err(number) => number,
+        };
+        let read = match self.graph.edge_check(from, to) {
+            Ok(point) => MOVES + point.movement,
+            Err(reason) => reason as u64,
+        };
+        match read == must {
+            true => Ok(must),
+            false => Err(format!("{must} by the original, {read} by the reading")),
+        }
     }
 }

@@ -14,6 +14,7 @@ mod numbers;
 mod passes;
 mod policy;
 mod reader;
+mod reasons;
 mod room;
 mod roots;
 mod runner;
@@ -43,6 +44,8 @@ driver policy FROM COUNT [THREADS]
 driver numbers FROM COUNT [THREADS]
 driver roots FROM COUNT [THREADS]
 driver edges FROM COUNT [THREADS]
+driver reasons FOLDER
+driver misread FROM COUNT
 driver short FROM COUNT [THREADS]
 driver columns FROM COUNT [THREADS]
 driver slivers FROM COUNT [THREADS]
@@ -65,6 +68,8 @@ fn command(arguments: &[String]) -> Result<bool, String> {
     let words: Vec<&str> = arguments.iter().map(String::as_str).collect();
     let (name, from, count, threads) = match words[..] {
         ["directed", folder] => return scenes::directed(folder),
+        ["reasons", folder] => return reasons::all(folder),
+        ["misread", from, count] => return Ok(reasons::misread(number(from)?, number(count)?)),
         ["large"] => return Ok(large::all()),
         [name, from, count] => (name, from, count, "1"),
         [name, from, count, threads] => (name, from, count, threads),

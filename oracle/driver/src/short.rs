@@ -1,13 +1,13 @@
 //! Records of any length. Where the window's, the request's, the ends' or the
 //! body's is shorter than its struct, the request is an invalid one: a search
-//! and an edge answer 1, the walk-back no. 3 comes before that, for which the
+//! and an edge answer 1, the walk-back 111. 3 comes before that, for which the
 //! fields that a window does not have are 0, and 8 of a mob's search before
 //! both. What stands behind a record is not read.
 
 use mutants::chance::Chance;
 use mutants::draft::scene_of;
-use original::{Checks, Policy};
-use scene::{Record, Scene, Window, u32_at};
+use original::Policy;
+use scene::{Record, Scene, Walked, Window, u32_at};
 use walkprint::raw::{self, Asked};
 
 use crate::call::Call;
@@ -17,11 +17,14 @@ use crate::expected::{Judged, expected, judge, refused};
 use crate::room::{Room, any_bytes};
 use crate::runner::{Makers, Mismatch, smallest};
 use crate::sizes::needed;
-use crate::walkback;
+use crate::{edges, walkback};
 
 /// Bytes of a window, a request and a body, and of a mob's two ends.
 const WHOLE: [usize; 3] = [24, 88, 24];
 const ENDS: usize = 48;
+
+/// What the walk-back tells of an invalid request.
+const INVALID_REQUEST: u64 = 111;
 
 pub fn one_scene(makers: &Makers, number: u64, counts: &mut Counts) -> Result<(), Mismatch> {
     let Some((records, scene)) = makers.scene(number, counts) else {
@@ -116,7 +119,7 @@ fn parts(scene: &Scene, seed: u64, counts: &mut Counts) -> Result<(), String> {
     let handed = handed(scene, WHOLE, &mut chance);
     let told = |call: &str, parts| format!("{call}, {}: {parts}", handed.lengths());
     search(&handed, seed, &mut chance, counts).map_err(|parts| told("search", parts))?;
-    questions(&handed, scene, counts).map_err(|parts| told("question", parts))?;
+    questions(&handed, scene, &mut chance, counts).map_err(|parts| told("question", parts))?;
     mob(scene, seed, &mut chance, counts)
 }
 
@@ -145,35 +148,37 @@ fn search(
     Ok(())
 }
 
-/// The walk-back of the list that the whole records find, and the edge from the
-/// start to the goal.
-fn questions(handed: &Handed, scene: &Scene, counts: &mut Counts) -> Result<(), String> {
+/// The walk-back of the list that the whole records find, or of that and a point
+/// more, and the edge from the start to the goal.
+fn questions(
+    handed: &Handed,
+    scene: &Scene,
+    chance: &mut Chance,
+    counts: &mut Counts,
+) -> Result<(), String> {
     let whole = Call::of(scene);
-    let list: Vec<u8> = match judge(&whole) {
+    let mut list: Vec<u8> = match judge(&whole) {
         Judged::Answered(answer) => answer.list.iter().flat_map(|p| p.bytes()).collect(),
         Judged::Ends(_) => vec![0; 40],
     };
-    let must = handed
-        .cut(walkback::NO)
-        .unwrap_or_else(|| walkback::must(&handed.call, &list));
-    same("walk-back", raw::walk_back(&handed.asked(), &list), must)?;
-    counts.add("walk-backs", 1);
-    counts.add("walk-backs that say yes", (must == walkback::YES).into());
+    if chance.once_in(2) {
+        list.extend([0; 40]);
+    }
+    let must = match handed.cut(INVALID_REQUEST) {
+        Some(number) => Walked::told(number),
+        None => walkback::must(&handed.call, &list)?,
+    };
+    walkback::differ(&handed.asked(), &list, must, chance, counts)?;
     let [start, goal] = [scene.request.start, scene.request.goal];
-    let must = handed.cut(1).or_else(|| refused(&handed.call));
-    let must = must.unwrap_or_else(|| {
-        let edge = Checks::new(scene).edge(start, goal);
-        edge.map_or(110, |point| 130 + point.movement)
-    });
-    same("edge", raw::edge(&handed.asked(), start, goal), must)?;
-    counts.add("edges", 1);
-    Ok(())
-}
-
-fn same(call: &str, said: u64, must: u64) -> Result<(), String> {
-    match said == must {
-        true => Ok(()),
-        false => Err(format!("{call} answered {said}, must be {must}")),
+    let must = match handed.cut(1).or_else(|| refused(&handed.call)) {
+        Some(number) => number,
+        None => edges::Judge::new(scene).must(start, goal)?,
+    };
+    counts.add("edges asked", 1);
+    counts.told(must);
+    match raw::edge(&handed.asked(), start, goal) {
+        said if said == must => Ok(()),
+        said => Err(format!("edge answered {said}, must be {must}")),
     }
 }
 

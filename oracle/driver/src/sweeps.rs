@@ -2,7 +2,7 @@
 //! what demand 3 claims checked on the proved answers.
 
 use mutants::draft::scene_of;
-use scene::Scene;
+use scene::{Scene, Walked, YES};
 
 use crate::call::Call;
 use crate::counts::Counts;
@@ -10,7 +10,6 @@ use crate::differ::differ;
 use crate::expected::{Expected, judge};
 use crate::runner::{Makers, Mismatch, smallest};
 use crate::sizes::needed;
-use crate::walkback::YES;
 
 /// Scenes that reach more points are passed over.
 const MOST: usize = 100;
@@ -72,7 +71,7 @@ fn one_budget(
     call.request.node_budget = budget;
     let answer = differ(&call, &judge(&call), needed(budget), seed + budget)?;
     counts.search(&answer);
-    if answer.number == 0 && call.walk_back(&answer.list) != YES {
+    if answer.number == 0 && call.walk_back(&answer.list) != Walked::told(YES) {
         return Err("a found list is no route".to_string());
     }
     if let Some(broken) = broken(&answer, budget, reach, before) {

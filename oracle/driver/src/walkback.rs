@@ -1,22 +1,26 @@
-//! The proved walk-back against the oracle's own check of a route: on found
-//! lists, on each of them damaged, on other routes and on random lists.
+//! The proved walk-back against the oracle's, number and place: on found lists,
+//! on each of them damaged, on other routes and on random lists.
 
 use mutants::chance::Chance;
 use mutants::draft::scene_of;
-use scene::{Answer, Outcome, Scene, Waypoint, u64_at};
+use mutants::lists::{List, Source};
+use mutants::questions::{Questions, questions};
+use original::Walks;
+use reading::Variant::ReadAsWritten;
+use scene::{Scene, Walked, YES};
+use walkprint::raw::{self, Asked};
 
 use crate::call::Call;
 use crate::counts::Counts;
 use crate::edits::EDITS;
 use crate::expected::judge;
-use crate::room::any_bytes;
+use crate::room::Room;
 use crate::runner::{Makers, Mismatch, smallest};
 use crate::scenes::answered;
 use crate::tables::edited;
 
-/// Yes, and the number of our own for no.
-pub const YES: u64 = 0;
-pub const NO: u64 = 110;
+/// Bytes of a place.
+const PLACE: usize = 8;
 
 pub fn one_scene(makers: &Makers, number: u64, counts: &mut Counts) -> Result<(), Mismatch> {
     let Some((records, scene)) = makers.scene(number, counts) else {
@@ -34,38 +38,66 @@ pub fn one_scene(makers: &Makers, number: u64, counts: &mut Counts) -> Result<()
     }
 }
 
-/// What the oracle says of a list: 3, 4, yes or no.
-pub fn must(call: &Call, list: &[u8]) -> u64 {
-    if scene::bad_world(&call.tables) {
-        return 3;
+/// What the oracle says of lists: the original and the reading, which must
+/// agree. Without a scene the tables are bad ones.
+struct Judge<'a>(Option<(&'a Scene, Walks<'a>)>);
+
+impl<'a> Judge<'a> {
+    fn new(scene: Option<&'a Scene>) -> Self {
+        Self(scene.map(|scene| (scene, Walks::new(scene))))
     }
-    match original::walk_back(&call.scene(), list) {
-        Ok(true) => YES,
-        Ok(false) => NO,
-        Err(refusal) => u64::from(refusal.number),
+
+    fn must(&mut self, list: &[u8]) -> Result<Walked, String> {
+        let Some((scene, walks)) = &mut self.0 else {
+            return Ok(Walked::told(3));
+        };
+        let must = walks.walk_back(list);
+        match reading::walk_back(scene, list, ReadAsWritten) {
+            read if read == must => Ok(must),
+            read => Err(format!("{must:?} by the original, {read:?} by the reading")),
+        }
     }
 }
 
-/// Asks both about a list.
-fn ask(call: &Call, list: &[u8], what: &str, counts: &mut Counts) -> Result<u64, String> {
-    let (said, must) = (call.walk_back(list), must(call, list));
-    if said != must {
-        return Err(format!(
-            "{what}: answered {said}, must be {must}: {}",
-            hex(list)
-        ));
+/// What the oracle says of a list on a call.
+pub fn must(call: &Call, list: &[u8]) -> Result<Walked, String> {
+    let scene = call.whole();
+    Judge::new(scene.as_ref()).must(list)
+}
+
+/// Asks the proved walk-back about a list, and lends it a place of 8 bytes, of
+/// more or of fewer. Says what is not as it must be: the number, or any byte of
+/// the place or around it.
+pub fn differ(
+    asked: &Asked,
+    list: &[u8],
+    must: Walked,
+    chance: &mut Chance,
+    counts: &mut Counts,
+) -> Result<(), String> {
+    let length = match chance.below(8) {
+        0 => 0,
+        1 => PLACE - 1,
+        2 => chance.below(PLACE),
+        3 | 4 => PLACE + 1 + chance.below(24),
+        _ => PLACE,
+    };
+    let mut room = Room::new(length, chance);
+    let written = must.place.filter(|_| length >= PLACE);
+    let after = room.after(&written.map_or(Vec::new(), |place| place.to_le_bytes().to_vec()));
+    let said = raw::walk_back(asked, list, room.lent());
+    if said != must.number {
+        return Err(format!("answered {said}, must be {must:?}"));
+    }
+    if let Some(parts) = room.parts(&after) {
+        return Err(format!("place: {parts}, where it must be {must:?}"));
     }
     counts.add("lists", 1);
-    counts.add(
-        match said {
-            YES => "yes",
-            NO => "no",
-            3 => "refused 3",
-            _ => "refused 4",
-        },
-        1,
-    );
-    Ok(said)
+    counts.told(said);
+    counts.add("places written", written.is_some().into());
+    let short = must.place.is_some() && length < PLACE;
+    counts.add("places too short to be written", short.into());
+    Ok(())
 }
 
 fn hex(list: &[u8]) -> String {
@@ -76,176 +108,87 @@ fn hex(list: &[u8]) -> String {
         .join(" ")
 }
 
-/// The first list on which the two part.
-fn scene_parts(scene: &Scene, seed: u64, counts: &mut Counts) -> Option<String> {
-    let call = Call::of(scene);
-    let mut chance = Chance::new(seed);
-    let judged = judge(&call);
-    let answer = answered(&judged);
-    let result = match answer {
-        Some(answer) if answer.outcome == Outcome::Found => {
-            found(&call, answer, &mut chance, counts)
-        }
-        _ => Ok(()),
-    };
-    let retained = answer.map_or(&[][..], |answer| &answer.nodes[..]);
-    let points: Vec<Waypoint> = retained.iter().map(|node| node.point).collect();
-    result
-        .and_then(|()| random(&call, &points, &mut chance, counts))
-        .err()
-}
-
-/// A found list is a route, with whatever budget; then its damages.
-fn found(
+/// Asks both about a list.
+fn ask(
     call: &Call,
-    answer: &Answer,
+    judge: &mut Judge,
+    list: &[u8],
     chance: &mut Chance,
     counts: &mut Counts,
-) -> Result<(), String> {
-    let list: Vec<u8> = answer.list.iter().flat_map(Waypoint::bytes).collect();
-    counts.add("found lists", 1);
+) -> Result<u64, String> {
+    let told = |parts: String| format!("{parts}: {}", hex(list));
+    let must = judge.must(list).map_err(told)?;
+    call.ask(|asked| differ(asked, list, must, chance, counts))
+        .map_err(told)?;
+    Ok(must.number)
+}
+
+/// The first list on which the two part, of the scene and of the same spoilt.
+fn scene_parts(scene: &Scene, seed: u64, counts: &mut Counts) -> Option<String> {
+    let mut chance = Chance::new(!seed);
+    questions(scene, seed)
+        .iter()
+        .find_map(|asked| lists_part(asked, &mut chance, counts))
+}
+
+fn lists_part(asked: &Questions, chance: &mut Chance, counts: &mut Counts) -> Option<String> {
+    let call = Call::of(&asked.scene);
+    let whole = call.whole();
+    let mut judge = Judge::new(whole.as_ref());
+    for list in &asked.lists {
+        let said = match list.source {
+            Source::Found => budgets(&call, list, chance, counts),
+            _ => ask(&call, &mut judge, &list.bytes, chance, counts),
+        };
+        match said {
+            Ok(number) => counts.add(kind(list.source, number == YES), 1),
+            Err(parts) => return Some(format!("{:?}: {parts}", list.source)),
+        }
+    }
+    None
+}
+
+/// A found list is a route, with whatever budget.
+fn budgets(
+    call: &Call,
+    list: &List,
+    chance: &mut Chance,
+    counts: &mut Counts,
+) -> Result<u64, String> {
     for budget in [call.request.node_budget, 0, 4097, u64::MAX] {
         let mut other = call.clone();
         other.request.node_budget = budget;
-        if ask(&other, &list, "found", counts)? != YES {
-            return Err(format!("a found list is no route: {}", hex(&list)));
+        let whole = other.whole();
+        let judge = &mut Judge::new(whole.as_ref());
+        if ask(&other, judge, &list.bytes, chance, counts)? != YES {
+            return Err(format!("a found list is no route: {}", hex(&list.bytes)));
         }
     }
-    for damaged in damages(&list, chance) {
-        let said = ask(call, &damaged, "damaged", counts)?;
-        counts.add(
-            if said == YES {
-                "damages that keep a route"
-            } else {
-                "damages refused"
-            },
-            1,
-        );
-    }
-    Ok(())
+    Ok(YES)
 }
 
-/// The list with each record gone, doubled or exchanged with the next, cut at
-/// any byte of its last record, and with each field of each record changed.
-fn damages(list: &[u8], chance: &mut Chance) -> Vec<Vec<u8>> {
-    let mut out = vec![Vec::new(), [list, &[0]].concat(), [list, list].concat()];
-    let cut = list.len() - 1 - chance.below(39);
-    out.push(list[..cut].to_vec());
-    for begin in (0..list.len()).step_by(40) {
-        let end = begin + 40;
-        out.push([&list[..begin], &list[end..]].concat());
-        out.push([&list[..end], &list[begin..]].concat());
-        if end < list.len() {
-            let next = end + 40;
-            out.push(
-                [
-                    &list[..begin],
-                    &list[end..next],
-                    &list[begin..end],
-                    &list[next..],
-                ]
-                .concat(),
-            );
-        }
-        for at in (begin..end).step_by(8) {
-            for word in other_words(u64_at(list, at), at + 8 == end, chance) {
-                let mut changed = list.to_vec();
-                changed[at..at + 8].copy_from_slice(&word.to_le_bytes());
-                out.push(changed);
-            }
-        }
+/// What is counted of a list that was as it must be.
+fn kind(source: Source, yes: bool) -> &'static str {
+    match (source, yes) {
+        (Source::Found, _) => "found lists",
+        (Source::Damaged, true) => "damages that keep a route",
+        (Source::Damaged, false) => "damages refused",
+        (Source::Beyond, true) => "ways beyond the goal that are routes",
+        (Source::Beyond, false) => "ways beyond the goal that are none",
+        (Source::Off, true) => "ways with another step that are routes",
+        (Source::Off, false) => "ways with another step that are none",
+        (Source::Refused, _) => "ways with a step that has a reason",
+        (Source::Spoilt, true) => "ways on a spoilt scene that are routes",
+        (Source::Spoilt, false) => "ways on a spoilt scene that are none",
+        (Source::Walk, true) => "walks that are routes",
+        (Source::Walk, false) => "walks that are none",
+        (Source::Ends | Source::Retained | Source::Bytes, true) => "other lists that are routes",
+        (Source::Ends | Source::Retained | Source::Bytes, false) => "other lists that are none",
     }
-    out
-}
-
-/// Other words for a movement, or for a float.
-fn other_words(word: u64, movement: bool, chance: &mut Chance) -> Vec<u64> {
-    let flipped = word ^ 1 << chance.below(64);
-    if movement {
-        return vec![
-            word ^ 1,
-            word ^ 2,
-            word ^ 3,
-            word + 4,
-            word + (1 << 32),
-            word | 1 << 63,
-            flipped,
-        ];
-    }
-    let number = f64::from_bits(word);
-    let mut out = vec![number.next_up(), number.next_down(), -number, f64::NAN];
-    out.push(number + chance.pick(&[1.0, -1.0, 0.5, 1.0e-7, -1.0e-7, 1.0e300]));
-    let mut words: Vec<u64> = out.iter().map(|number| number.to_bits()).collect();
-    words.push(flipped);
-    words
-}
-
-/// Lists that no search gave: walks over the graph's own steps, which may be
-/// routes, any order of retained points, and any bytes.
-fn random(
-    call: &Call,
-    points: &[Waypoint],
-    chance: &mut Chance,
-    counts: &mut Counts,
-) -> Result<(), String> {
-    let ends = [call.request.start, call.request.goal].map(|feet| Waypoint {
-        feet,
-        lift: 0.0,
-        movement: 0,
-    });
-    let bytes = |list: &[Waypoint]| list.iter().flat_map(|p| p.bytes()).collect::<Vec<u8>>();
-    ask(call, &bytes(&ends), "both ends", counts)?;
-    ask(call, &bytes(&ends[..1]), "the start", counts)?;
-    let length = 40 * chance.below(5) + chance.pick(&[0, 0, 1]);
-    ask(call, &any_bytes(length, chance), "any bytes", counts)?;
-    if points.is_empty() {
-        return Ok(());
-    }
-    for _ in 0..3 {
-        let middle = (0..chance.below(6))
-            .map(|_| chance.pick(points))
-            .collect::<Vec<_>>();
-        let list = [&ends[..1], &middle, &ends[1..]].concat();
-        ask(call, &bytes(&list), "retained points", counts)?;
-    }
-    for _ in 0..3 {
-        let list = walk(&call.scene(), ends[0], chance);
-        let said = ask(call, &bytes(&list), "a walk", counts)?;
-        counts.add(
-            if said == YES {
-                "walks that are routes"
-            } else {
-                "walks that are none"
-            },
-            1,
-        );
-    }
-    Ok(())
-}
-
-/// A walk over random steps that takes the connector once there is one.
-fn walk(scene: &Scene, start: Waypoint, chance: &mut Chance) -> Vec<Waypoint> {
-    let mut checks = original::Checks::new(scene);
-    let mut list = vec![start];
-    let mut at = start.feet;
-    for _ in 0..1 + chance.below(24) {
-        if let Some(last) = checks.connector(at).filter(|_| !chance.once_in(3)) {
-            list.push(last);
-            break;
-        }
-        let steps = checks.steps(at);
-        if steps.is_empty() {
-            break;
-        }
-        let next = chance.pick(&steps);
-        list.push(next);
-        at = next.feet;
-    }
-    list
 }
 
 /// The same tables after an edit that no scene could hold, with the list that
-/// the search gives there, or with the two ends.
+/// the search gives there, or with none.
 fn edited_parts(scene: &Scene, number: u64, counts: &mut Counts) -> Option<String> {
     let edit = &EDITS[Chance::new(number).below(EDITS.len())];
     let call = edited(scene, &[edit], number);
@@ -254,5 +197,9 @@ fn edited_parts(scene: &Scene, number: u64, counts: &mut Counts) -> Option<Strin
         Some(answer) => answer.list.iter().flat_map(|point| point.bytes()).collect(),
         None => Vec::new(),
     };
-    ask(&call, &list, edit.name, counts).err()
+    let whole = call.whole();
+    let judge = &mut Judge::new(whole.as_ref());
+    ask(&call, judge, &list, &mut Chance::new(number), counts)
+        .map_err(|parts| format!("{}: {parts}", edit.name))
+        .err()
 }

@@ -8,9 +8,15 @@ mod claims;
 mod compare;
 pub mod draft;
 mod hunt;
+pub mod lists;
+pub mod notice;
+pub mod pairs;
+pub mod questions;
 pub mod recipes;
 pub mod shrink;
+pub mod spoilt;
 mod table;
+pub mod told;
 
 use std::path::PathBuf;
 
@@ -21,6 +27,7 @@ use crate::recipes::{RECIPES, Recipe};
 
 const USAGE: &str = "\
 oracle mutants
+oracle mutants reasons FROM COUNT
 oracle mutants agree SEED COUNT [RECIPE ..]
 oracle mutants claims SEED COUNT [RECIPE ..]
 oracle mutants tidy
@@ -32,7 +39,12 @@ oracle mutants hunt RECIPE SEED COUNT ENOUGH [NAME ..]
 pub fn run(arguments: &[String]) -> bool {
     let words: Vec<&str> = arguments.iter().map(String::as_str).collect();
     match words[..] {
-        [] => table::table(&scenes(), 0, 20_000),
+        [] => {
+            let searched = table::table(&scenes("directed"), 0, 20_000);
+            notice::table(&scenes("reasons"), 0..11_000).expect("the folder of questions")
+                && searched
+        }
+        ["reasons", from, count] => told::agree(number(from), number(count)),
         ["agree", seed, count, ref names @ ..] => {
             let (seed, count) = (number(seed), number(count));
             let agrees = |name: &&str| agree::agree(name, &recipe(name), seed, count);
@@ -44,7 +56,7 @@ pub fn run(arguments: &[String]) -> bool {
             recipes_of(names).iter().all(keeps)
         }
         ["tidy"] => {
-            hunt::tidy(&scenes());
+            hunt::tidy(&scenes("directed"));
             true
         }
         ["hunt", name, seed, count, enough, ref names @ ..] => {
@@ -55,7 +67,7 @@ pub fn run(arguments: &[String]) -> bool {
                 seeds,
                 number(enough) as usize,
                 &recipe(name),
-                &scenes(),
+                &scenes("directed"),
             );
             true
         }
@@ -78,9 +90,9 @@ fn recipes_of<'a>(names: &[&'a str]) -> Vec<&'a str> {
     names.to_vec()
 }
 
-/// The directed scenes.
-fn scenes() -> PathBuf {
-    PathBuf::from(concat!(env!("CARGO_MANIFEST_DIR"), "/../../scenes/directed"))
+/// A folder of the repository's scenes.
+fn scenes(folder: &str) -> PathBuf {
+    PathBuf::from(concat!(env!("CARGO_MANIFEST_DIR"), "/../../scenes")).join(folder)
 }
 
 fn number(word: &str) -> u64 {
@@ -91,7 +103,7 @@ fn number(word: &str) -> u64 {
 /// The variants of these names, or those without a directed scene.
 fn chosen(names: &[&str]) -> Vec<Variant> {
     if names.is_empty() {
-        return table::survivors(&scenes());
+        return table::survivors(&scenes("directed"));
     }
     let named = |name: &&str| {
         VARIANTS

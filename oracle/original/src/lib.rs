@@ -11,5 +11,5 @@ mod route;
 mod search;
 
 pub use policy::{Apex, Call, Found, Policy, door_passage, find_path, jump_apex, permission_bytes};
-pub use route::walk_back;
+pub use route::{Walks, walk_back};
 pub use search::{Checks, Column, Navigator, find_walk_path, judge, valid_request, verdict};

@@ -1,33 +1,118 @@
-//! 01's Route, over the original's checks, and the walk-back's answer.
+//! 01's Route, over the original's checks, and the walk-back's answer with its
+//! first reason (02, No. 3).
 
-use scene::{Refusal, Scene, Waypoint, f64_at, u64_at};
+use scene::{Scene, Walked, Waypoint, YES, f64_at, u64_at};
 
 use crate::search::{Checks, valid_request};
 
-/// What the walk-back answers to a list in 40-byte records: "3;
-/// `valid_request` (else no); 4, the budget not read; then yes exactly for a
-/// list that is a route. An empty list, a partial record or a movement above 3
-/// is no."
-pub fn walk_back(scene: &Scene, list: &[u8]) -> Result<bool, Refusal> {
-    let refused = |number| Err(Refusal { number, record: 0 });
+/// The numbers of the walk-back's own reasons, in 02's order.
+const INVALID_REQUEST: u64 = 111;
+const BAD_LIST: u64 = 112;
+const GOAL_OUT_OF_RANGE: u64 = 113;
+const START_NOT_STANDABLE: u64 = 114;
+const GOAL_NOT_STANDABLE: u64 = 115;
+const WRONG_START: u64 = 116;
+const NOT_A_STEP: u64 = 117;
+const WRONG_LABEL: u64 = 118;
+const WRONG_END: u64 = 119;
+
+/// What the walk-back answers to a list in 40-byte records.
+pub fn walk_back(scene: &Scene, list: &[u8]) -> Walked {
+    Walks::new(scene).walk_back(list)
+}
+
+/// The walk-back on a scene, for any number of lists.
+pub struct Walks<'a> {
+    scene: &'a Scene,
+    checks: Checks,
+    /// What is told whatever the list.
+    refused: Option<u64>,
+}
+
+impl<'a> Walks<'a> {
+    pub fn new(scene: &'a Scene) -> Self {
+        Self {
+            scene,
+            checks: Checks::new(scene),
+            refused: refused(scene),
+        }
+    }
+
+    /// What no list changes; a bad list; the ends; then pair by pair; the end.
+    pub fn walk_back(&mut self, list: &[u8]) -> Walked {
+        if let Some(number) = self.refused {
+            return Walked::told(number);
+        }
+        let points: Vec<Waypoint> = list.chunks_exact(40).map(waypoint).collect();
+        let whole = list.len().is_multiple_of(40) && points.iter().all(|at| at.movement <= 3);
+        let (Some(first), Some(last), true) = (points.first(), points.last(), whole) else {
+            return Walked::told(BAD_LIST);
+        };
+        if let Some(number) = self.ends(first) {
+            return Walked::told(number);
+        }
+        for place in 1..points.len() {
+            let at_end = place + 1 == points.len();
+            if let Some(number) = self.pair(points[place - 1].feet, &points[place], at_end) {
+                return Walked::at(number, place);
+            }
+        }
+        let there = same_point(last.feet, self.scene.request.goal);
+        Walked::told(if there { YES } else { WRONG_END })
+    }
+
+    /// Why a list that begins so is no route, whatever follows.
+    fn ends(&mut self, first: &Waypoint) -> Option<u64> {
+        let [start, goal] = [self.scene.request.start, self.scene.request.goal];
+        if !self.checks.in_range(goal) {
+            return Some(GOAL_OUT_OF_RANGE);
+        }
+        if !self.checks.standable(start) {
+            return Some(START_NOT_STANDABLE);
+        }
+        if !self.checks.standable(goal) {
+            return Some(GOAL_NOT_STANDABLE);
+        }
+        let begins = same_point(first.feet, start) && first.movement == 0 && first.lift == 0.0;
+        (!begins).then_some(WRONG_START)
+    }
+
+    /// Why a pair is none of the graph's. One that is has no reason; of another
+    /// the edge's comes first, and where it has an edge, that edge's movement
+    /// and lift tell whether they alone are wrong.
+    fn pair(&mut self, from: [f64; 3], next: &Waypoint, at_end: bool) -> Option<u64> {
+        if self.joins(from, next, at_end) {
+            return None;
+        }
+        Some(match self.checks.edge_check(from, next.feet) {
+            Err(number) => number,
+            Ok(own) if self.joins(from, &own, at_end) => WRONG_LABEL,
+            Ok(_) => NOT_A_STEP,
+        })
+    }
+
+    /// Whether a graph step leads from a point to the list's next, or at the end
+    /// of the list the connector.
+    fn joins(&mut self, from: [f64; 3], next: &Waypoint, at_end: bool) -> bool {
+        let is_next = |point: &Waypoint| same_waypoint(point, next);
+        let step = self.checks.steps(from).iter().any(is_next);
+        step || (at_end && self.checks.connector(from).as_ref().is_some_and(is_next))
+    }
+}
+
+/// "3; `valid_request` ..; 4, the budget not read."
+fn refused(scene: &Scene) -> Option<u64> {
     if scene::bad_world(&scene.tables.raw()) {
-        return refused(3);
+        return Some(3);
     }
     if !valid_request(scene) {
-        return Ok(false);
+        return Some(INVALID_REQUEST);
     }
     let unread = scene::Request {
         node_budget: 0,
         ..scene.request
     };
-    if scene::too_large(&unread, &scene.body) {
-        return refused(4);
-    }
-    if !list.len().is_multiple_of(40) {
-        return Ok(false);
-    }
-    let points: Vec<Waypoint> = list.chunks(40).map(waypoint).collect();
-    Ok(points.iter().all(|point| point.movement <= 3) && route(scene, &points))
+    scene::too_large(&unread, &scene.body).then_some(4)
 }
 
 fn waypoint(record: &[u8]) -> Waypoint {
@@ -48,32 +133,4 @@ fn same_point(a: [f64; 3], b: [f64; 3]) -> bool {
 /// numbers.
 fn same_waypoint(a: &Waypoint, b: &Waypoint) -> bool {
     same_point(a.feet, b.feet) && a.movement == b.movement && a.lift == b.lift
-}
-
-/// A route of a scene whose request is valid and not too large.
-fn route(scene: &Scene, list: &[Waypoint]) -> bool {
-    let mut checks = Checks::new(scene);
-    let [start, goal] = [scene.request.start, scene.request.goal];
-    let (Some(first), Some(last)) = (list.first(), list.last()) else {
-        return false;
-    };
-    let ends = checks.in_range(goal) && checks.standable(start) && checks.standable(goal);
-    if !ends
-        || !same_point(first.feet, start)
-        || first.movement != 0
-        || first.lift != 0.0
-        || !same_point(last.feet, goal)
-    {
-        return false;
-    }
-    let count = list.len();
-    list.windows(2).enumerate().all(|(place, pair)| {
-        let is_next = |point: &Waypoint| same_waypoint(point, &pair[1]);
-        let step = checks.steps(pair[0].feet).iter().any(is_next);
-        let at_end = place + 2 == count;
-        step || (at_end
-            && checks
-                .connector(pair[0].feet)
-                .is_some_and(|point| is_next(&point)))
-    })
 }

@@ -280,6 +280,66 @@ impl Checks {
         ask!(self, checks => checks.edge(vector(from), vector(to)))
     }
 
+    /// The edge, or the number of the first of its checks that fails (02, No.
+    /// 3), each asked by itself. Whether there is an edge the original says; but
+    /// a coordinate that is no finite number "differs from the start's by at
+    /// most" nothing, where the original lets a NaN pass (docs/DIFFERENCES.md).
+    pub fn edge_check(&mut self, from: [f64; 3], to: [f64; 3]) -> Result<Waypoint, u64> {
+        let finite = from.iter().chain(&to).all(|n| n.is_finite());
+        let edge = finite.then(|| self.edge(from, to)).flatten();
+        match (self.reason(from, to), edge) {
+            (None, Some(point)) => Ok(point),
+            (Some(number), None) => Err(number),
+            _ => panic!("the original's edge and its checks part: {from:?} to {to:?}"),
+        }
+    }
+
+    /// The first check that fails: in order the height, target and raised point
+    /// in range, the target standable, lift, crossing and settle clear, the
+    /// segment supported.
+    fn reason(&mut self, from: [f64; 3], to: [f64; 3]) -> Option<u64> {
+        let lift = match self.lift(to[1] - from[1]) {
+            Ok(lift) => lift,
+            Err(number) => return Some(number),
+        };
+        let raised = [from[0], from[1] + lift, from[2]];
+        for (number, feet) in [(103, to), (104, raised)] {
+            if feet.iter().any(|n| n.is_nan()) || !self.in_range(feet) {
+                return Some(number);
+            }
+        }
+        if !self.standable(to) {
+            return Some(105);
+        }
+        for (number, area) in (106..).zip(self.areas(from, lift, to)) {
+            if !self.clear_area(area) {
+                return Some(number);
+            }
+        }
+        (!self.supported_segment(from, to)).then_some(109)
+    }
+
+    /// The lift by a difference in height, as the original's edge works it out,
+    /// or 101 for too high, 102 for too deep.
+    fn lift(&self, dy: f64) -> Result<f64, u64> {
+        let step = self.request.step_height.min(self.body.step_height);
+        let jump = self.request.jump_height;
+        if dy > searched::E {
+            match dy {
+                _ if dy <= step + searched::E => Ok(dy),
+                _ if dy <= jump + searched::E => Ok(jump),
+                _ => Err(101),
+            }
+        } else if dy < -searched::E {
+            match -dy > self.request.max_drop + searched::E {
+                true => Err(102),
+                false => Ok(0.0),
+            }
+        } else {
+            Ok(dy.max(0.0))
+        }
+    }
+
     /// The body's box at a point.
     pub fn body_box(&self, feet: [f64; 3]) -> [f64; 6] {
         numbers(Aabb::from_feet(

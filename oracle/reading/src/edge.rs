@@ -5,6 +5,7 @@ use scene::Waypoint;
 use crate::Variant::*;
 use crate::boxes::{Area, Point, X, Y, Z, minus};
 use crate::graph::{E, Graph};
+use crate::reason::Reason::{self, *};
 
 const WALK: u64 = 0;
 const STEP: u64 = 1;
@@ -22,8 +23,9 @@ impl Graph<'_> {
         }
     }
 
-    /// The movement and lift for a difference in y, if there is one.
-    fn movement(&self, dy: f64) -> Option<(u64, f64)> {
+    /// The movement and lift for a difference in y, if there is one. What is no
+    /// number neither rises nor falls.
+    fn movement(&self, dy: f64) -> Result<(u64, f64), Reason> {
         let rises = match self.edit {
             RiseWithoutE => dy > 0.0,
             RiseAtE => dy >= E,
@@ -34,11 +36,11 @@ impl Graph<'_> {
             FallAtE => dy <= -E,
             _ => dy < -E,
         };
-        if rises {
-            return self.climb(dy);
+        if rises || dy.is_nan() && self.is(ToldNanTooHigh) {
+            return self.climb(dy).ok_or(TooHigh);
         }
-        if falls {
-            return self.fall(-dy);
+        if falls || dy.is_nan() && self.is(ToldNanTooDeep) {
+            return self.fall(-dy).ok_or(TooDeep);
         }
         // "Otherwise Walk, lift the larger of dy and 0."
         let lift = match self.edit {
@@ -48,7 +50,7 @@ impl Graph<'_> {
             _ if dy > 0.0 => dy,
             _ => 0.0,
         };
-        Some((WALK, lift))
+        Ok((WALK, lift))
     }
 
     /// "Step with lift dy if dy ≤ step + E, else Jump with lift jump_height if
@@ -96,7 +98,13 @@ impl Graph<'_> {
 
     /// "Edge": the target with its movement and lift, if the body gets there.
     pub fn edge(&self, from: Point, to: Point) -> Option<Waypoint> {
-        let (movement, lift) = self.movement(to[Y] - from[Y])?;
+        self.edge_check(from, to).ok()
+    }
+
+    /// "The edge check should answer its first reason" (02, No. 3).
+    pub fn edge_check(&self, from: Point, to: Point) -> Result<Waypoint, Reason> {
+        let moving = self.movement(to[Y] - from[Y]);
+        let (movement, lift) = moving.unwrap_or((WALK, 0.0));
         let raised_y = match self.edit {
             StepRaisedToTarget if movement == STEP => to[Y],
             _ => from[Y] + lift,
@@ -105,18 +113,27 @@ impl Graph<'_> {
         let across = [to[X], raised_y, to[Z]];
         // "Then target and raised point in range, target standable, the lift,
         // crossing and settle areas clear, the segment supported."
-        let passes = (self.is(TargetRangeUnread) || self.in_range(to))
-            && (self.is(RaisedRangeUnread) || self.in_range(raised))
-            && (self.is(TargetStandableUnread) || self.standable(to))
-            && (self.is(LiftUnread) || self.clear(self.lift_area(from, raised, lift)))
-            && (self.is(CrossingUnread) || self.clear(self.crossing_area(from, raised, across)))
-            && (self.is(SettleUnread) || self.clear(self.sweep(across, to)))
-            && (self.is(SegmentUnread) || self.supported(from, to));
-        passes.then_some(Waypoint {
-            feet: to,
-            lift,
-            movement,
-        })
+        let passes = |reason: &Reason| match reason {
+            TargetOutOfRange => self.is(TargetRangeUnread) || self.in_range(to),
+            RaisedOutOfRange => self.is(RaisedRangeUnread) || self.in_range(raised),
+            TargetNotStandable => self.is(TargetStandableUnread) || self.standable(to),
+            LiftBlocked => self.is(LiftUnread) || self.clear(self.lift_area(from, raised, lift)),
+            CrossingBlocked => {
+                self.is(CrossingUnread) || self.clear(self.crossing_area(from, raised, across))
+            }
+            SettleBlocked => self.is(SettleUnread) || self.clear(self.sweep(across, to)),
+            Unsupported => self.is(SegmentUnread) || self.supported(from, to),
+            height => moving != Err(*height),
+        };
+        let mut reasons = Reason::of_edges(self.edit).into_iter();
+        match reasons.find(|reason| !passes(reason)) {
+            Some(reason) => Err(reason.told(self.edit)),
+            None => Ok(Waypoint {
+                feet: to,
+                lift,
+                movement,
+            }),
+        }
     }
 
     /// The body at `from`, grown towards `to` by their difference.

@@ -77,6 +77,9 @@ impl Graph<'_> {
                 .into_iter()
                 .all(|axis| far(axis) - E <= request.max_range),
             RangeFlat => [X, Z].into_iter().all(|axis| far(axis) <= most),
+            ToldNanInRange => [X, Y, Z]
+                .into_iter()
+                .all(|axis| far(axis) <= most || far(axis).is_nan()),
             RangeRound => (far(X) * far(X) + far(Y) * far(Y) + far(Z) * far(Z)).sqrt() <= most,
             _ => [X, Y, Z].into_iter().all(|axis| far(axis) <= most),
         }

@@ -1,5 +1,5 @@
-//! A plain reading of document 01: what each sentence says, one function a
-//! paragraph, without a thought for speed. It shares nothing with the original's
+//! A plain reading of document 01, and of 02's No. 3 and No. 7: what each
+//! sentence says, one function a paragraph, without a thought for speed. It shares nothing with the original's
 //! code; where 01 leaves a sum to the source, it takes the source's.
 //!
 //! It comes with variants, each of which misreads one sentence on purpose, so
@@ -11,6 +11,7 @@ mod graph;
 pub mod index;
 mod lookup;
 mod policy;
+mod reason;
 mod request;
 mod root;
 mod route;
@@ -18,6 +19,7 @@ mod search;
 mod steps;
 mod support;
 mod variant;
+mod walk_back;
 mod world;
 
 pub use boxes::Area;
@@ -26,7 +28,9 @@ pub use policy::{
     DAMAGING, DOOR, GRASS, IRON_DOOR, OPEN, Passage, Policy, WATER, fill_permissions,
     find_path_request, jump_apex, passage, permission,
 };
+pub use reason::Reason;
 pub use request::{Rooms, bad_world, search, search_in, too_large, valid_request};
 pub use root::is_root;
 pub use route::{is_route, reachable_points};
-pub use variant::{ASKED, VARIANTS, Variant};
+pub use variant::{ASKED, TOLD, VARIANTS, Variant};
+pub use walk_back::walk_back;

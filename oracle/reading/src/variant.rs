@@ -1,26 +1,27 @@
-//! The variants: each misreads one sentence of 01, or of 02's No. 7, and is
-//! switched at the place of that sentence.
+//! The variants: each misreads one sentence of 01, or of 02's No. 3 or No. 7,
+//! and is switched at the place of that sentence.
 //!
-//! Left out, because no answer can show them: the order of the lift, crossing
-//! and settle tests (all must hold); the start's estimate (it waits alone); an
-//! occupiable unknown cell (its cube fills the voxel); a voxel that touches in
-//! x or z (the cells that are looked at never only touch there); a re-push
-//! whose estimate is equal (a cost lower by E lowers every estimate below
-//! 4.5e8, and range 64 keeps them there); a node other than the start at the
-//! goal (whatever discovers it has a connector); halving by 2 or by 0.5;
+//! Left out, because no answer can show them: the start's estimate (it waits
+//! alone); an occupiable unknown cell (its cube fills the voxel); a voxel that
+//! touches in x or z (the cells that are looked at never only touch there); a
+//! re-push whose estimate is equal (a cost lower by E lowers every estimate
+//! below 4.5e8, and range 64 keeps them there); a node other than the start at
+//! the goal (whatever discovers it has a connector); halving by 2 or by 0.5;
 //! finiteness other than that of steps, jump and drop, and a limit of 0 or less
-//! (no coordinate is smaller than such a limit); 1 -
-//! covered ≤ E instead of covered ≥ 1 - E (the same, for this E); a lookup that
-//! leaves out the nodes of the expansion under way (its points all differ).
+//! (no coordinate is smaller than such a limit); 1 - covered ≤ E instead of
+//! covered ≥ 1 - E (the same, for this E); a lookup that leaves out the nodes of
+//! the expansion under way (its points all differ).
 //!
 //! Three misreadings show only where `supported` is asked by itself: in a search
 //! the body stands at the segment's start and the target is standable, so that
-//! some interval begins at 0 and one ends at 1.
+//! some interval begins at 0 and one ends at 1. Those of 02's No. 3 show only in
+//! the reason of an edge or of a walk-back, or in its place.
 
 macro_rules! variants {
     (
         searched { $($part:literal { $($sentence:literal { $($name:ident: $edit:literal,)* })* })* }
         asked { $($part_asked:literal { $($sentence_asked:literal { $($asked:ident: $edit_asked:literal,)* })* })* }
+        told { $($part_told:literal { $($sentence_told:literal { $($told:ident: $edit_told:literal,)* })* })* }
     ) => {
         /// A way to read 01: as written, or with one sentence misread.
         #[derive(Debug, Clone, Copy, PartialEq, Eq, Hash)]
@@ -29,6 +30,7 @@ macro_rules! variants {
             ReadAsWritten,
             $($($(#[doc = $edit] $name,)*)*)*
             $($($(#[doc = $edit_asked] $asked,)*)*)*
+            $($($(#[doc = $edit_told] $told,)*)*)*
         }
 
         /// Every variant that a search can show, in 01's order.
@@ -37,6 +39,9 @@ macro_rules! variants {
         /// The variants that only a question to `supported` shows.
         pub const ASKED: &[Variant] = &[$($($(Variant::$asked,)*)*)*];
 
+        /// The variants that only a reason shows, of an edge or of a walk-back.
+        pub const TOLD: &[Variant] = &[$($($(Variant::$told,)*)*)*];
+
         impl Variant {
             /// The part of 01, the sentence, and what the variant does instead.
             pub fn about(self) -> [&'static str; 3] {
@@ -44,6 +49,7 @@ macro_rules! variants {
                     Variant::ReadAsWritten => ["", "", "nothing is misread"],
                     $($($(Variant::$name => [$part, $sentence, $edit],)*)*)*
                     $($($(Variant::$asked => [$part_asked, $sentence_asked, $edit_asked],)*)*)*
+                    $($($(Variant::$told => [$part_told, $sentence_told, $edit_told],)*)*)*
                 }
             }
         }
@@ -452,6 +458,103 @@ variants! {
             "1 - E suffices" {
                 AskedCoverToOne: "1 is needed",
                 AskedCoverAtEOut: "exactly 1 - E does not suffice",
+            }
+        }
+    }
+    told {
+        "02, No. 3, the edge" {
+            "too high, too deep, target out of range, raised point out of range, target not standable, lift blocked, crossing blocked, settle blocked, segment unsupported" {
+                ToldHighForDeep: "too high and too deep are exchanged",
+                ToldDeepForTarget: "too deep and target out of range are exchanged",
+                ToldTargetForRaised: "target and raised point out of range are exchanged",
+                ToldRaisedForStanding: "raised point out of range and target not standable are exchanged",
+                ToldStandingForLift: "target not standable and lift blocked are exchanged",
+                ToldLiftForCrossing: "lift and crossing blocked are exchanged",
+                ToldCrossingForSettle: "crossing and settle blocked are exchanged",
+                ToldSettleForSegment: "settle blocked and segment unsupported are exchanged",
+            }
+            "its first reason .. in 01's order" {
+                ToldRangeBeforeHeight: "the target's range is judged before the height",
+                ToldRaisedBeforeTarget: "the raised point is judged before the target's range",
+                ToldStandingBeforeRaised: "the target's standing is judged before the raised point",
+                ToldLiftBeforeStanding: "the lift is judged before the target's standing",
+                ToldCrossingBeforeLift: "the crossing is judged before the lift",
+                ToldSettleBeforeCrossing: "the settling is judged before the crossing",
+                ToldSegmentBeforeSettle: "the segment is judged before the settling",
+            }
+            "each coordinate differs from the start's by at most max_range + E" {
+                ToldNanInRange: "a NaN is in range",
+            }
+            "Otherwise Walk" {
+                ToldNanTooHigh: "a NaN difference in height is too high",
+                ToldNanTooDeep: "a NaN difference in height is too deep",
+            }
+        }
+        "02, No. 3, the walk-back" {
+            "invalid request, bad list, goal out of range, start not standable, goal not standable, wrong start; .. not a graph step, wrong movement or lift; then wrong end" {
+                ToldRequestForList: "invalid request and bad list are exchanged",
+                ToldListForGoalRange: "bad list and goal out of range are exchanged",
+                ToldGoalRangeForStart: "goal out of range and start not standable are exchanged",
+                ToldStartForGoal: "start and goal not standable are exchanged",
+                ToldGoalForWrongStart: "goal not standable and wrong start are exchanged",
+                ToldWrongStartForStep: "wrong start and not a graph step are exchanged",
+                ToldStepForLabel: "not a graph step and wrong movement or lift are exchanged",
+                ToldLabelForEnd: "wrong movement or lift and wrong end are exchanged",
+            }
+            "its first reason: invalid request, bad list (judged after 4), goal out of range, start not standable, goal not standable, wrong start" {
+                ToldLimitsBeforeRequest: "4 is judged before the request",
+                ToldListBeforeLimits: "the list is judged before 4",
+                ToldListBeforeRequest: "the list is judged before the request",
+                ToldListAfterGoalRange: "the list is judged after the goal's range",
+                ToldListAfterEnds: "the list is judged after the ends",
+                ToldListAfterStart: "the list is judged after its start",
+                ToldStartBeforeGoalRange: "the start is judged before the goal's range",
+                ToldGoalBeforeStart: "the goal's standing is judged before the start's",
+                ToldWrongStartBeforeGoal: "the list's start is judged before the goal's standing",
+                ToldPairsBeforeStart: "the list's start is judged after its pairs",
+                ToldEndBeforePairs: "the list's end is judged before its pairs",
+            }
+            "An empty list, a partial record or a movement above 3" {
+                ToldEmptyIsWrongStart: "an empty list is a wrong start",
+                ToldPartialUnread: "a partial record at the end is not read",
+                ToldMovementAtItsPair: "a movement above 3 is wrong at its pair",
+                ToldMovementOfTheStart: "a movement above 3 of the start is a wrong start",
+                ToldMovementHalfRead: "the low half of a movement is read",
+            }
+            "the start first (Walk, lift 0)" {
+                ToldStartMovementUnread: "the start's movement is not read",
+                ToldStartLiftUnread: "the start's lift is not read",
+                ToldStartLiftByBits: "the start's lift is no -0.0",
+                ToldZeroSignCounts: "-0.0 is another coordinate than 0",
+            }
+            "for each pair in order" {
+                ToldLastPair: "the last pair that has a reason is told",
+                ToldPairsByReason: "the edges of all pairs come before their graph steps",
+            }
+            "the edge's reason" {
+                ToldEdgeBackwards: "the edge is asked from the later point to the earlier",
+                ToldEdgeFromStart: "the edge is asked from the start",
+                ToldStepBeforeEdge: "not a graph step is judged before the edge",
+            }
+            "not a graph step (nor, at the last pair, a connector)" {
+                ToldConnectorAnywhere: "a connector at any pair",
+                ToldConnectorNever: "no connector",
+                ToldConnectorToAnyPoint: "at the last pair an edge to any point that is near enough",
+            }
+            "wrong movement or lift" {
+                ToldLabelBeforeStep: "it is judged before the graph step",
+                ToldMovementUnread: "the movement is not read",
+                ToldLiftUnread: "the lift is not read",
+                ToldLiftByBits: "lifts compare by bits",
+                ToldLiftWithinE: "lifts compare within E",
+            }
+            "then wrong end" {
+                ToldEndUnread: "the end is not read",
+            }
+            "With a pair's reason goes its later point's place" {
+                ToldPlaceOneMore: "the place is one more",
+                ToldPlaceOneLess: "the earlier point's place",
+                ToldPlaceOfTheEnd: "a wrong end has the last point's place",
             }
         }
     }

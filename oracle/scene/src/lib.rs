@@ -1,24 +1,28 @@
 //! A scene as document 01 describes it: the request, the body and the tables,
 //! the answer to it, and both in bytes, in text and as walkprint prints them.
 //!
-//! Written from document 01 alone; nothing here knows the original.
+//! Written from documents 01 and 02 alone; nothing here knows the original.
 
+mod asked;
 mod bytes;
 mod large;
 mod make;
 mod print;
 mod random;
 mod read;
+mod reasons;
 mod record;
 mod text;
 mod world;
 
+pub use asked::{Asked, Question, asked};
 pub use bytes::{f64_at, u32_at, u64_at};
 pub use large::{LARGE, large, stairs};
 pub use make::{KINDS, make};
 pub use print::{name, print, print_refusal, print_verdict};
 pub use random::Random;
 pub use read::{BadScene, Ends, Partial, RECORD, Steps, read, read_partial};
+pub use reasons::{Walked, YES, words};
 pub use record::{Record, write_bytes};
 pub use text::{from_text, to_text};
 pub use world::{RawTables, bad_world};

@@ -4,7 +4,7 @@ use std::fmt::Write;
 
 use crate::{Answer, Outcome, Refusal, Verdict};
 
-const MOVEMENTS: [&str; 4] = ["walk", "step", "jump", "drop"];
+pub(crate) const MOVEMENTS: [&str; 4] = ["walk", "step", "jump", "drop"];
 
 /// An outcome's name in lower case.
 pub fn name(outcome: Outcome) -> &'static str {

@@ -302,7 +302,7 @@ impl<'a> Words<'a> {
 
 /// A float: decimal, or 0x and the bits; then perhaps ^+K or ^-K, the number
 /// K places further or nearer on the line of all floats.
-fn float(word: &str) -> Result<f64, String> {
+pub(crate) fn float(word: &str) -> Result<f64, String> {
     let (base, shift) = match word.split_once('^') {
         Some((base, shift)) => (
             base,
