@@ -1,6 +1,8 @@
 // The digest of a case's answers (oracle/README.md, `store`).
 use heights::Height;
 use moves::EdgeAnswer;
+use moves::EdgeCheck;
+use moves::Waypoint;
 use outcomes::Answer;
 
 // One more number, stirred by Marsaglia's xorshift of 64 bits: two rows that differ in one number have two digests.
@@ -38,14 +40,28 @@ pub(crate) fn with_height(d: u64, h: Height) -> u64 {
     }
 }
 
+// A waypoint's feet and lift.
+fn with_waypoint(d: u64, w: Waypoint) -> u64 {
+    let e = with_float(with_float(d, w.feet.x), w.feet.y);
+    with_float(with_float(e, w.feet.z), w.lift)
+}
+
 // The movement's number, then feet and lift; 4 where there is no edge.
 pub(crate) fn with_edge(d: u64, a: EdgeAnswer) -> u64 {
     let EdgeAnswer::To(w) = a else {
         return with(d, 4);
     };
     let movement = w.movement;
-    let e = with_float(with(d, moves::movement_number(movement)), w.feet.x);
-    with_float(with_float(with_float(e, w.feet.y), w.feet.z), w.lift)
+    with_waypoint(with(d, moves::movement_number(movement)), w)
+}
+
+// The edge check's number, as the C interface tells it, then of an edge feet and lift.
+pub(crate) fn with_check(d: u64, a: EdgeCheck) -> u64 {
+    let e = with(d, c_answers::edge_number(a));
+    let EdgeCheck::Passes(w) = a else {
+        return e;
+    };
+    with_waypoint(e, w)
 }
 
 // The outcome and the three counts, then every byte of the four rooms.

@@ -44,8 +44,7 @@ fn column(
     digest::with_height(digest::with_height(d, first), next)
 }
 
-// Of the two points: whether the first is in range and standable, the box between them clear, the segment supported; the edge, the first's connector, and the edge
-// check's number.
+// Of the two points: whether the first is in range and standable, the box between them clear, the segment supported; the edge check, and the first's connector.
 fn pair(
     s: Scene,
     cells: &[u8],
@@ -65,10 +64,9 @@ fn pair(
     let supported = segments::supported_segment(w, cells, perms, shapes, boxes, body.width, a, b);
     let e = digest::with_yes(digest::with_yes(d, in_range), standable);
     let f = digest::with_yes(digest::with_yes(e, clear), supported);
-    let to = edges::edge(w, cells, perms, shapes, boxes, r, body, a, b);
+    let to = edges::edge_check(w, cells, perms, shapes, boxes, r, body, a, b);
     let end = edges::connector(w, cells, perms, shapes, boxes, r, body, a);
-    let check = edges::edge_check(w, cells, perms, shapes, boxes, r, body, a, b);
-    digest::with(digest::with_edge(digest::with_edge(f, to), end), c_answers::edge_number(check))
+    digest::with_edge(digest::with_check(f, to), end)
 }
 
 // All of it, and first whether the graph looks at the column.
