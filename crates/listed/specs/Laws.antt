@@ -22,8 +22,8 @@ unfolding badList waypoints
 bad-begins s = let e : length s / 40 - 0 ≡ length s / 40 = omega arith in rw e
 
 module _ (s : List ℕ) (k : ℕ) (bad : Bool) where
-  pub in-turn : (ltb k (length s / 40) && not bad) ≡ true → (k < length s / 40) × (bad ≡ false)
-  in-turn t = go (ltb k (length s / 40)) refl bad t
+  pub still-good : (ltb k (length s / 40) && not bad) ≡ true → (k < length s / 40) × (bad ≡ false)
+  still-good t = go (ltb k (length s / 40)) refl bad t
     where
       go : (a : Bool) → ltb k (length s / 40) ≡ a → (b : Bool) → (a && not b) ≡ true → (k < length s / 40) × (b ≡ false)
       go true e false t = (ltb-true k (length s / 40) e, refl)
@@ -32,7 +32,7 @@ module _ (s : List ℕ) (k : ℕ) (bad : Bool) where
 
   pub bad-on : (ltb k (length s / 40) && not bad) ≡ true → (v : WaypointRecord) → v ≡ waypointAt s k → (bad || aboveFrom s k) ≡ (ltb 3 (v .label .movement) || aboveFrom s (k + 1))
   unfolding entriesFrom
-  bad-on t v h = let e : length s / 40 - k ≡ suc (length s / 40 - (k + 1)) = omega (arith, in-turn t .0) in rw (in-turn t .1, e, add-one, h)
+  bad-on t v h = let e : length s / 40 - k ≡ suc (length s / 40 - (k + 1)) = omega (arith, still-good t .0) in rw (still-good t .1, e, add-one, h)
 
   pub bad-ends : (ltb k (length s / 40) && not bad) ≡ false → (bad || aboveFrom s k) ≡ bad
   unfolding entriesFrom

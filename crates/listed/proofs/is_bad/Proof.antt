@@ -3,11 +3,10 @@ use mathlib.Core.Path.{_≡_, sym, _∙_}
 use mathlib.Core.Bool.{_||_}
 use Prim.Native.Nat.{_-_, _/_}
 use native.Mathlib.Omega.{arith}
-use borrow.Author.Needs.{needs}
 use denote.Ref.{now}
 use lib.ListN.{length}
 use Rattle.listed.specs.Listed.{badList}
-use Rattle.listed.specs.Laws.{aboveFrom, bad-begins, in-turn, bad-on, bad-ends}
+use Rattle.listed.specs.Laws.{aboveFrom, bad-begins, still-good, bad-on, bad-ends}
 use Rattle.listed.proofs.is_bad.Statement.{statement}
 use Rattle.listed.proofs.is_bad.Tie as tie
 
@@ -24,10 +23,10 @@ get-waypoint-requires : tie.Need-get-waypoint-requires Inv-loop μ-loop
 get-waypoint-requires c κs = tt
 
 add-k : tie.Need-add-k Inv-loop μ-loop
-add-k c = omega (arith, in-turn (now (c .before .before .before .before .before .args .list)) (c .before .before .before .loop .k) (c .before .before .before .loop .bad) (c .before .before .loop-test .taken) .0)
+add-k c = omega (arith, still-good (now (c .before .before .before .before .before .args .list)) (c .before .before .before .loop .k) (c .before .before .before .loop .bad) (c .before .before .loop-test .taken) .0)
 
 loop-less : tie.Need-loop-less Inv-loop μ-loop
-loop-less c = omega (arith, in-turn (now (c .before .before .before .before .before .args .list)) (c .before .before .before .loop .k) (c .before .before .before .loop .bad) (c .before .before .loop-test .taken) .0)
+loop-less c = omega (arith, still-good (now (c .before .before .before .before .before .args .list)) (c .before .before .before .loop .k) (c .before .before .before .loop .bad) (c .before .before .loop-test .taken) .0)
 
 loop-again : tie.Need-loop-again Inv-loop μ-loop
 loop-again c = c .before .before .before .loop .inv ∙ bad-on (now (c .before .before .before .before .before .args .list)) (c .before .before .before .loop .k) (c .before .before .before .loop .bad) (c .before .before .loop-test .taken) _ (c .before .get-waypoint .ensures)
