@@ -1,4 +1,4 @@
--- A list, pair by pair, as the code goes through it.
+-- What the code goes by: a list, pair by pair, and the tests before the pairs.
 use Prim.Native.Nat.{ℕ, suc, _+_, _-_, _/_, _≤_, _<_}
 use native.Mathlib.Omega.{arith}
 use native.Mathlib.Numerals.{add-one}
@@ -20,8 +20,13 @@ use Rattle.rooms.specs.Records.{waypointAt}
 use Rattle.rooms.specs.Waypoints.{samePoint}
 use Rattle.words.specs.Words.{feetOf}
 use Rattle.steps.specs.Graph.{graph}
-use Rattle.listed.specs.Listed.{entry, entriesFrom}
+use Rattle.places.specs.Places.{inRange, standable}
+use Rattle.listed.specs.Listed.{entry, entriesFrom, badList}
+use Rattle.listed.specs.Compared.{starts}
 use Rattle.pairs.specs.Laws.{turned}
+use Rattle.walk_back.specs.declared.Fault.the-variants.{BadList, GoalOutOfRange, StartNotStandable, GoalNotStandable, WrongStart}
+use Rattle.walk_back.specs.declared.Walked.the-variants.{No}
+use Rattle.walk_back.specs.WalkBack.{walkedBy, goingOn, walkedList}
 
 -- the records from record k on
 abbrev pub rest : List ℕ → ℕ → List (Feet × Label)
@@ -67,3 +72,34 @@ module _ (sp : Space) (r : Request) (body : Body) (s : List ℕ) (p : Feet) (k :
 
       pub breaks : false ≡ joined (graph sp r body) (eqb (k + 1) (length s / 40)) p (entry v) → goingFrom ≡ Broken k p (entry v) (eqb (k + 1) (length s / 40))
       breaks e = rw (rest-on s k h, here, ← last-is) (pair-broken (graph sp r body) k p (entry (waypointAt s k)) (rest s (k + 1)) (rw (last-is, ← here) (sym e)))
+
+-- ---- the tests before the pairs: what is answered at the first that fails
+
+module _ (sp : Space) (r : Request) (body : Body) (s : List ℕ) where
+  pub bad-list : badList s ≡ true → No BadList ≡ walkedList sp r body s
+  unfolding walkedList
+  bad-list a = rw a
+
+  module _ (a : badList s ≡ false) where
+    pub goal-out : inRange r (r .goal) ≡ false → No GoalOutOfRange ≡ walkedList sp r body s
+    unfolding walkedList
+    goal-out b = rw (a, b)
+
+    module _ (b : inRange r (r .goal) ≡ true) where
+      pub start-falls : standable sp body (r .start) ≡ false → No StartNotStandable ≡ walkedList sp r body s
+      unfolding walkedList
+      start-falls c = rw (a, b, c)
+
+      module _ (c : standable sp body (r .start) ≡ true) where
+        pub goal-falls : standable sp body (r .goal) ≡ false → No GoalNotStandable ≡ walkedList sp r body s
+        unfolding walkedList
+        goal-falls d = rw (a, b, c, d)
+
+        module _ (d : standable sp body (r .goal) ≡ true) where
+          pub wrong-start : starts (r .start) (waypointAt s 0) ≡ false → No WrongStart ≡ walkedList sp r body s
+          unfolding walkedList
+          wrong-start e = rw (a, b, c, d, e)
+
+          pub pairs-decide : starts (r .start) (waypointAt s 0) ≡ true → walkedBy sp r body (goingOn sp r body s) ≡ walkedList sp r body s
+          unfolding walkedList
+          pairs-decide e = rw (a, b, c, d, e)

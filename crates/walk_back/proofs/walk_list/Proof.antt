@@ -8,7 +8,7 @@ use Rattle.places.specs.Places.{inRange, standable}
 use Rattle.rooms.specs.Records.{waypointAt}
 use Rattle.listed.specs.Listed.{badList}
 use Rattle.listed.specs.Compared.{starts}
-use Rattle.walk_back.specs.WalkBack.{walkedList}
+use Rattle.walk_back.specs.Laws.{bad-list, goal-out, start-falls, goal-falls, wrong-start, pairs-decide}
 use Rattle.walk_back.proofs.walk_list.Statement.{statement}
 use Rattle.walk_back.proofs.walk_list.Tie as tie
 
@@ -38,43 +38,37 @@ is-bad-requires : tie.Need-is-bad-requires
 is-bad-requires c κs = tt
 
 returns : tie.Need-returns
-unfolding walkedList
-returns c = rw (sym (c .before .is-bad .ensures) ∙ c .if1 .taken)
+returns c = bad-list _ _ _ _ (sym (c .before .is-bad .ensures) ∙ c .if1 .taken)
 
 in-range-requires : tie.Need-in-range-requires
 in-range-requires c κs = tt
 
 returns-2 : tie.Need-returns-2
-unfolding walkedList
-returns-2 c = rw (whole (c .before .before), sym (c .before .in-range .ensures) ∙ not-true _ (c .if2 .taken))
+returns-2 c = goal-out _ _ _ _ (whole (c .before .before)) (sym (c .before .in-range .ensures) ∙ not-true _ (c .if2 .taken))
 
 standable-requires : tie.Need-standable-requires
 standable-requires c κs = tt
 
 returns-3 : tie.Need-returns-3
-unfolding walkedList
-returns-3 c = rw (whole (c .before .before .before .before), goal-in (c .before .before), sym (c .before .standable .ensures) ∙ not-true _ (c .if3 .taken))
+returns-3 c = start-falls _ _ _ _ (whole (c .before .before .before .before)) (goal-in (c .before .before)) (sym (c .before .standable .ensures) ∙ not-true _ (c .if3 .taken))
 
 standable-requires-2 : tie.Need-standable-requires-2
 standable-requires-2 c κs = tt
 
 returns-4 : tie.Need-returns-4
-unfolding walkedList
-returns-4 c = rw (whole (c .before .before .before .before .before .before), goal-in (c .before .before .before .before), start-stands (c .before .before), sym (c .before .standable2 .ensures) ∙ not-true _ (c .if4 .taken))
+returns-4 c = goal-falls _ _ _ _ (whole (c .before .before .before .before .before .before)) (goal-in (c .before .before .before .before)) (start-stands (c .before .before)) (sym (c .before .standable2 .ensures) ∙ not-true _ (c .if4 .taken))
 
 begins-at-requires : tie.Need-begins-at-requires
 begins-at-requires c κs = tt
 
 returns-5 : tie.Need-returns-5
-unfolding walkedList
-returns-5 c = rw (whole (c .before .before .before .before .before .before .before .before), goal-in (c .before .before .before .before .before .before), start-stands (c .before .before .before .before), goal-stands (c .before .before), sym (c .before .begins-at .ensures) ∙ not-true _ (c .if5 .taken))
+returns-5 c = wrong-start _ _ _ _ (whole (c .before .before .before .before .before .before .before .before)) (goal-in (c .before .before .before .before .before .before)) (start-stands (c .before .before .before .before)) (goal-stands (c .before .before)) (sym (c .before .begins-at .ensures) ∙ not-true _ (c .if5 .taken))
 
 leads-requires : tie.Need-leads-requires
 leads-requires c κs = tt
 
 returns-6 : tie.Need-returns-6
-unfolding walkedList
-returns-6 c = rw (whole (c .before .before .before .before .before .before .before .before .before), goal-in (c .before .before .before .before .before .before .before), start-stands (c .before .before .before .before .before), goal-stands (c .before .before .before), begins (c .before)) (c .leads .ensures)
+returns-6 c = c .leads .ensures ∙ pairs-decide _ _ _ _ (whole (c .before .before .before .before .before .before .before .before .before)) (goal-in (c .before .before .before .before .before .before .before)) (start-stands (c .before .before .before .before .before)) (goal-stands (c .before .before .before)) (begins (c .before))
 
 pub walk-list-spec : {M : Type 1} → statement M
 walk-list-spec =

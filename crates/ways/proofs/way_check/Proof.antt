@@ -6,7 +6,8 @@ use denote.Ref.{now}
 use Rattle.world.specs.Space.{Space, space}
 use Rattle.clear.specs.Clear.{clear}
 use Rattle.places.specs.Places.{inRange, standable}
-use Rattle.ways.specs.Ways.{raised, liftArea, crossingArea, settleArea, wayCheck}
+use Rattle.ways.specs.Ways.{raised, liftArea, crossingArea, settleArea}
+use Rattle.ways.specs.Laws.{target-out, raised-out, not-standable, lift-blocked, crossing-blocked, settle-blocked, unsupported, passes}
 use Rattle.ways.proofs.way_check.Statement.{statement}
 use Rattle.ways.proofs.way_check.Tie as tie
 
@@ -39,29 +40,25 @@ in-range-requires : tie.Need-in-range-requires
 in-range-requires c κs = tt
 
 returns : tie.Need-returns
-unfolding wayCheck
-returns c = rw (sym (c .before .in-range .ensures) ∙ not-true _ (c .if1 .taken))
+returns c = target-out _ _ _ _ _ _ _ (sym (c .before .in-range .ensures) ∙ not-true _ (c .if1 .taken))
 
 in-range-requires-2 : tie.Need-in-range-requires-2
 in-range-requires-2 c κs = tt
 
 returns-2 : tie.Need-returns-2
-unfolding wayCheck
-returns-2 c = rw (target-in (c .before .before), sym (c .before .in-range2 .ensures) ∙ not-true _ (c .if2 .taken))
+returns-2 c = raised-out _ _ _ _ _ _ _ (target-in (c .before .before)) (sym (c .before .in-range2 .ensures) ∙ not-true _ (c .if2 .taken))
 
 standable-requires : tie.Need-standable-requires
 standable-requires c κs = tt
 
 returns-3 : tie.Need-returns-3
-unfolding wayCheck
-returns-3 c = rw (target-in (c .before .before .before .before), raised-in (c .before .before), sym (c .before .standable .ensures) ∙ not-true _ (c .if3 .taken))
+returns-3 c = not-standable _ _ _ _ _ _ _ (target-in (c .before .before .before .before)) (raised-in (c .before .before)) (sym (c .before .standable .ensures) ∙ not-true _ (c .if3 .taken))
 
 sweep-clear-requires : tie.Need-sweep-clear-requires
 sweep-clear-requires c κs = tt
 
 returns-4 : tie.Need-returns-4
-unfolding wayCheck
-returns-4 c = rw (target-in (c .before .before .before .before .before .before), raised-in (c .before .before .before .before), stands (c .before .before), sym (c .before .sweep-clear .ensures) ∙ not-true _ (c .if4 .taken))
+returns-4 c = lift-blocked _ _ _ _ _ _ _ (target-in (c .before .before .before .before .before .before)) (raised-in (c .before .before .before .before)) (stands (c .before .before)) (sym (c .before .sweep-clear .ensures) ∙ not-true _ (c .if4 .taken))
 
 difference-requires : tie.Need-difference-requires
 difference-requires c κs = tt
@@ -70,8 +67,7 @@ sweep-clear-requires-2 : tie.Need-sweep-clear-requires-2
 sweep-clear-requires-2 c κs = tt
 
 returns-5 : tie.Need-returns-5
-unfolding wayCheck
-returns-5 c = rw (target-in (c .before .before .before .before .before .before .before .before .before), raised-in (c .before .before .before .before .before .before .before), stands (c .before .before .before .before .before), lifts (c .before .before .before), sym (rw (c .before .before .difference .ensures) at (c .before .sweep-clear2 .ensures)) ∙ not-true _ (c .if5 .taken))
+returns-5 c = crossing-blocked _ _ _ _ _ _ _ (target-in (c .before .before .before .before .before .before .before .before .before)) (raised-in (c .before .before .before .before .before .before .before)) (stands (c .before .before .before .before .before)) (lifts (c .before .before .before)) (sym (rw (c .before .before .difference .ensures) at (c .before .sweep-clear2 .ensures)) ∙ not-true _ (c .if5 .taken))
 
 difference-requires-2 : tie.Need-difference-requires-2
 difference-requires-2 c κs = tt
@@ -80,19 +76,16 @@ sweep-clear-requires-3 : tie.Need-sweep-clear-requires-3
 sweep-clear-requires-3 c κs = tt
 
 returns-6 : tie.Need-returns-6
-unfolding wayCheck
-returns-6 c = rw (target-in (c .before .before .before .before .before .before .before .before .before .before .before .before), raised-in (c .before .before .before .before .before .before .before .before .before .before), stands (c .before .before .before .before .before .before .before .before), lifts (c .before .before .before .before .before .before), crosses (c .before .before .before), sym (rw (c .before .before .difference2 .ensures) at (c .before .sweep-clear3 .ensures)) ∙ not-true _ (c .if6 .taken))
+returns-6 c = settle-blocked _ _ _ _ _ _ _ (target-in (c .before .before .before .before .before .before .before .before .before .before .before .before)) (raised-in (c .before .before .before .before .before .before .before .before .before .before)) (stands (c .before .before .before .before .before .before .before .before)) (lifts (c .before .before .before .before .before .before)) (crosses (c .before .before .before)) (sym (rw (c .before .before .difference2 .ensures) at (c .before .sweep-clear3 .ensures)) ∙ not-true _ (c .if6 .taken))
 
 supported-segment-requires : tie.Need-supported-segment-requires
 supported-segment-requires c κs = tt
 
 returns-7 : tie.Need-returns-7
-unfolding wayCheck
-returns-7 c = rw (target-in (c .before .before .before .before .before .before .before .before .before .before .before .before .before .before), raised-in (c .before .before .before .before .before .before .before .before .before .before .before .before), stands (c .before .before .before .before .before .before .before .before .before .before), lifts (c .before .before .before .before .before .before .before .before), crosses (c .before .before .before .before .before), settles (c .before .before), sym (c .before .supported-segment .ensures) ∙ not-true _ (c .if7 .taken))
+returns-7 c = unsupported _ _ _ _ _ _ _ (target-in (c .before .before .before .before .before .before .before .before .before .before .before .before .before .before)) (raised-in (c .before .before .before .before .before .before .before .before .before .before .before .before)) (stands (c .before .before .before .before .before .before .before .before .before .before)) (lifts (c .before .before .before .before .before .before .before .before)) (crosses (c .before .before .before .before .before)) (settles (c .before .before)) (sym (c .before .supported-segment .ensures) ∙ not-true _ (c .if7 .taken))
 
 returns-8 : tie.Need-returns-8
-unfolding wayCheck
-returns-8 c = rw (target-in (c .before .before .before .before .before .before .before .before .before .before .before .before .before .before), raised-in (c .before .before .before .before .before .before .before .before .before .before .before .before), stands (c .before .before .before .before .before .before .before .before .before .before), lifts (c .before .before .before .before .before .before .before .before), crosses (c .before .before .before .before .before), settles (c .before .before), sym (c .before .supported-segment .ensures) ∙ not-false _ (c .if7 .left))
+returns-8 c = passes _ _ _ _ _ _ _ (target-in (c .before .before .before .before .before .before .before .before .before .before .before .before .before .before)) (raised-in (c .before .before .before .before .before .before .before .before .before .before .before .before)) (stands (c .before .before .before .before .before .before .before .before .before .before)) (lifts (c .before .before .before .before .before .before .before .before)) (crosses (c .before .before .before .before .before)) (settles (c .before .before)) (sym (c .before .supported-segment .ensures) ∙ not-false _ (c .if7 .left))
 
 pub way-check-spec : {M : Type 1} → statement M
 way-check-spec =
