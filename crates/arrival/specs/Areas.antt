@@ -1,16 +1,18 @@
--- Points and boxes that differ at most in signs of zeros: an area is clear where the other one is.
+-- Points and boxes that differ at most in signs of zeros: an area is clear where the other one is, and has the same door.
 use mathlib.Core.Path.{_≡_, refl, _∙_}
 use mathlib.Core.List.{List, [], _∷_}
 use lib.Dec.{T}
 use lib.Ieee.{Float, binary64, fits, lt, ofBits}
 use lib.Ieee.Fits.{add-fits, sub-fits}
 use Rattle.floats.specs.Floats.{nought, smaller, larger, canonical}
+use Rattle.regions.specs.declared.Region.{Region}
 use Rattle.regions.specs.declared.Spot.{Spot}
 use Rattle.world.specs.declared.Point.{Point}
 use Rattle.world.specs.declared.Aabb.{Aabb}
 use Rattle.world.specs.Boxes.{plus, minus, span, fromFeet, expandTowards, meets, corner, voxel}
 use Rattle.world.specs.Space.{Space, Block}
 use Rattle.clear.specs.Clear.{hits, free, allFree, around, clear}
+use Rattle.clear.specs.Doors.{firstDoor, cellDoor, crossed, doorIn}
 use Rattle.arrival.specs.Alike.{Alike, Zero, zero-alike, add-alike, sub-alike, with-zero, lt-alike, smaller-alike, larger-alike, floor-alike, ceil-alike}
 
 pub record AlikePoint (p q : Point) : Type 0 where
@@ -115,7 +117,7 @@ swept-nowhere width height p q d h k z =
     let f = feet-alike width height p q h in
     record { min = through-point _ _ _ (g .min) (f .min); max = through-point _ _ _ (g .max) (f .max) }
 
--- ---- clear
+-- ---- clear, and the door
 
 module _ (a b : Aabb) (h : AlikeBox a b) where
   meets-alike : (v : Aabb) → meets v a ≡ meets v b
@@ -138,6 +140,22 @@ module _ (a b : Aabb) (h : AlikeBox a b) where
   unfolding free
   free-alike p k = rw (meets-alike (voxel p), hits-alike (k .boxes))
 
+  cell-door-alike : (p : Point) (k : Block) → cellDoor a p k ≡ cellDoor b p k
+  unfolding cellDoor
+  cell-door-alike p k = rw (meets-alike (voxel p))
+
+  around-alike : around a ≡ around b
+  unfolding around
+  around-alike =
+      rw (
+        floor-alike (a .min .y) (b .min .y) (h .min .y),
+        ceil-alike (a .max .y) (b .max .y) (h .max .y),
+        floor-alike (a .min .x) (b .min .x) (h .min .x),
+        ceil-alike (a .max .x) (b .max .x) (h .max .x),
+        floor-alike (a .min .z) (b .min .z) (h .min .z),
+        ceil-alike (a .max .z) (b .max .z) (h .max .z),
+      )
+
   module _ (sp : Space) where
     all-alike : (ps : List Spot) → allFree sp a ps ≡ allFree sp b ps
     unfolding allFree
@@ -145,13 +163,14 @@ module _ (a b : Aabb) (h : AlikeBox a b) where
     all-alike (p ∷ ps) = rw (free-alike (corner (p .x) (p .y) (p .z)) (sp (p .x) (p .y) (p .z)), all-alike ps)
 
     pub clear-alike : clear sp a ≡ clear sp b
-    unfolding clear around
-    clear-alike =
-        rw (
-          floor-alike (a .min .y) (b .min .y) (h .min .y),
-          ceil-alike (a .max .y) (b .max .y) (h .max .y),
-          floor-alike (a .min .x) (b .min .x) (h .min .x),
-          ceil-alike (a .max .x) (b .max .x) (h .max .x),
-          floor-alike (a .min .z) (b .min .z) (h .min .z),
-          ceil-alike (a .max .z) (b .max .z) (h .max .z),
-        ) (all-alike _)
+    unfolding clear
+    clear-alike = rw around-alike (all-alike _)
+
+    first-alike : (ps : List Spot) → firstDoor (λ p. cellDoor a (corner (p .x) (p .y) (p .z)) (sp (p .x) (p .y) (p .z))) ps ≡ firstDoor (λ p. cellDoor b (corner (p .x) (p .y) (p .z)) (sp (p .x) (p .y) (p .z))) ps
+    unfolding firstDoor
+    first-alike [] = refl
+    first-alike (p ∷ ps) = rw (cell-door-alike (corner (p .x) (p .y) (p .z)) (sp (p .x) (p .y) (p .z)), first-alike ps)
+
+    pub door-alike : doorIn sp a ≡ doorIn sp b
+    unfolding doorIn crossed
+    door-alike = rw around-alike (first-alike _)

@@ -148,9 +148,9 @@ words-as-numbers x n f number h = go (eqb (word x) (canonicalWord n)) refl (eq x
     go true e false g = sym (then-equal (eqb-true _ _ e)) ∙ g
     go false e true g = absurd (eqb-false _ _ e (then-same g))
 
--- "lifts compare as numbers": a label of a list is like an edge's where the movements are one and the lifts, as numbers, are equal
+-- "lifts compare as numbers": a label of a list is like an edge's where the movements are one, the lifts, as numbers, are equal, and the doors are one
 pub lifts-as-numbers : (sp : Space) (r : Request) (body : Body) → isNan (r .«jump_height») ≡ false → (from to : Point) (w : Waypoint) → edge sp r body from to ≡ To w →
     T (fits binary64 (w .lift)) → (l : Label) → l .lift < 2 ^ 64 →
-    alike (labelOf w) l ≡ (eqb (movementNumber (w .movement)) (l .movement) && eq (w .lift) (ofBits binary64 (l .lift)))
+    alike (labelOf w) l ≡ (eqb (movementNumber (w .movement)) (l .movement) && (eq (w .lift) (ofBits binary64 (l .lift)) && eqb (w .door) (l .door)))
 unfolding alike labelOf
 lifts-as-numbers sp r body jumps from to w e f l h = rw (words-as-numbers (w .lift) (l .lift) f (lift-number r body jumps sp from to w e) h)

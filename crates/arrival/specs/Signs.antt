@@ -22,6 +22,7 @@ use Rattle.world.specs.Boxes.{minus}
 use Rattle.world.specs.Space.{Space, Block}
 use Rattle.world.specs.Laws.{both}
 use Rattle.clear.specs.Clear.{clear}
+use Rattle.clear.specs.Doors.{doorIn}
 use Rattle.moves.specs.declared.answer.Movement.{Movement}
 use Rattle.moves.specs.declared.answer.Movement.the-variants.{Walk}
 use Rattle.moves.specs.declared.answer.Moving.{Moving}
@@ -31,7 +32,7 @@ use Rattle.moves.specs.declared.answer.EdgeAnswer.{EdgeAnswer}
 use Rattle.moves.specs.declared.answer.EdgeAnswer.the-variants.{To, Nowhere}
 use Rattle.moves.specs.Moves.{stepHeight, moving}
 use Rattle.places.specs.Places.{inRange, standable, near}
-use Rattle.edges.specs.Edges.{raised, across, up, swept, wayClear, passable, edgeBy, edge, connector}
+use Rattle.edges.specs.Edges.{raised, across, up, swept, wayClear, passable, wayDoor, edgeBy, edge, connector}
 use Rattle.heights.specs.declared.Band.{Band}
 use Rattle.heights.specs.Heights.{reaches, topsOf, topsIn, tops, heights}
 use Rattle.sides.specs.Sides.{levelTo}
@@ -43,7 +44,7 @@ use Rattle.steps.specs.Columns.{centre, centreOf, bandOf, target, level, edgesA
 use Rattle.steps.specs.Graph.{graph}
 use Rattle.steps.specs.GraphLaws.{graph-laws}
 use Rattle.arrival.specs.Alike.{Alike, Zero, zero-alike, zero-or-same, add-alike, sub-alike, lt-alike, le-alike, smaller-alike, larger-alike, absolute-alike, floor-alike}
-use Rattle.arrival.specs.Areas.{AlikePoint, Held, itself, minus-alike, feet-alike, swept-alike, clear-alike}
+use Rattle.arrival.specs.Areas.{AlikePoint, Held, itself, minus-alike, feet-alike, swept-alike, clear-alike, door-alike}
 use Rattle.arrival.specs.Supports.{supported-alike}
 
 -- ---- the movement: differences in height that are alike are zeros, which is a Walk with lift 0, or one number
@@ -87,7 +88,7 @@ standable-alike sp body p q h =
 -- the same answer with another target
 abbrev pub towards : Point → EdgeAnswer → EdgeAnswer
 towards to Nowhere = Nowhere
-towards to (To w) = To (record { feet = to; lift = w .lift; movement = w .movement })
+towards to (To w) = To (record { feet = to; lift = w .lift; movement = w .movement; door = w .door })
 
 module _ (sp : Space) (r : Request) (body : Body) (p q a b : Point) (h : AlikePoint p q) (k : AlikePoint a b) where
   raised-alike : (lift : Float) → AlikePoint (raised p lift) (raised q lift)
@@ -115,19 +116,34 @@ module _ (sp : Space) (r : Request) (body : Body) (p q a b : Point) (h : AlikePo
         supported-alike p q a b h k sp (body .width),
       )
 
-  -- no edge of both, or two of the same movement and the same lift
+  door-by-area : (c d e f : Point) → AlikePoint c d → AlikePoint e f → doorIn sp (swept body c e) ≡ doorIn sp (swept body d f)
+  unfolding swept
+  door-by-area c d e f l m = door-alike _ _ (swept-alike (body .width) (body .height) c d e f l m) sp
+
+  door-same : (lift : Float) → wayDoor sp body p a lift ≡ wayDoor sp body q b lift
+  unfolding wayDoor
+  door-same lift =
+      let up-there = raised-alike lift in
+      let over-there = across-alike lift in
+      rw (
+        door-by-area p q (up lift) (up lift) h (itself (up lift)),
+        door-by-area (raised p lift) (raised q lift) (minus (across p lift a) (raised p lift)) (minus (across q lift b) (raised q lift)) up-there (minus-alike (across p lift a) (raised p lift) (across q lift b) (raised q lift) over-there up-there),
+        door-by-area (across p lift a) (across q lift b) (minus a (across p lift a)) (minus b (across q lift b)) over-there (minus-alike a (across p lift a) b (across q lift b) k over-there),
+      )
+
+  -- no edge of both, or two of the same movement, the same lift and the same door
   pub edge-towards : edge sp r body p a ≡ towards a (edge sp r body q b)
   unfolding edge
   edge-towards = rw (moving-alike r body (sub binary64 (a .y) (p .y)) (sub binary64 (b .y) (q .y)) (sub-alike (a .y) (p .y) (b .y) (q .y) (k .y) (h .y))) (by (moving r body (sub binary64 (b .y) (q .y))))
     where
-      pick : (m : Movement) (lift : Float) (c : Bool) →
-          cond c (To (record { feet = a; lift = lift; movement = m })) Nowhere ≡ towards a (cond c (To (record { feet = b; lift = lift; movement = m })) Nowhere)
-      pick m lift true = refl
-      pick m lift false = refl
+      pick : (m : Movement) (lift : Float) (door : ℕ) (c : Bool) →
+          cond c (To (record { feet = a; lift = lift; movement = m; door = door })) Nowhere ≡ towards a (cond c (To (record { feet = b; lift = lift; movement = m; door = door })) Nowhere)
+      pick m lift door true = refl
+      pick m lift door false = refl
 
       by : (m : Moving) → edgeBy sp r body p a m ≡ towards a (edgeBy sp r body q b m)
       by None = refl
-      by (By m lift) = rw (passable-same lift) (pick m lift (passable sp r body q b lift))
+      by (By m lift) = rw (passable-same lift, door-same lift) (pick m lift (wayDoor sp body q b lift) (passable sp r body q b lift))
 
 module _ (sp : Space) (r : Request) (body : Body) (p q : Point) (h : AlikePoint p q) where
   pub edge-same : (to : Point) → edge sp r body p to ≡ edge sp r body q to

@@ -47,14 +47,14 @@ module _ (window cells perms shapes boxes request body list : List ℕ) where
   pub record NoStepTo (m : ℕ) : Type 0 where
     pub earlier : ℕ
     pub place : m ≡ earlier + 1
-    pub inside : m < length list / 40
+    pub inside : m < length list / 48
     pub steps-before : (j : ℕ) → j < earlier → hasStep 𝓖 (waypointAt list j .feet) (entry (waypointAt list (j + 1))) ≡ true
-    pub no-label : (l : Label) → joined 𝓖 (eqb (m + 1) (length list / 40)) (waypointAt list earlier .feet) (waypointAt list m .feet, l) ≡ false
+    pub no-label : (l : Label) → joined 𝓖 (eqb (m + 1) (length list / 48)) (waypointAt list earlier .feet) (waypointAt list m .feet, l) ≡ false
 
   broken : {m : ℕ} {fault : PairFault} → BreaksAt sp question (bodyIn body) list m fault → fault ≡ NotAStep → NoStepTo m
   broken {m} b e =
-      let says : Says (windowIn window) cells perms shapes boxes question (bodyIn body) (waypointAt list (b .earlier) .feet) (waypointAt list m .feet) (eqb (m + 1) (length list / 40)) NotAStep =
-      rw (sym (b .why) ∙ e) at (a-pair-whatever-its-label (windowIn window) cells perms shapes boxes question (bodyIn body) (waypointAt list (b .earlier) .feet) (waypointAt list m .feet) (asked-in-f64 window request body) (eqb (m + 1) (length list / 40))) in
+      let says : Says (windowIn window) cells perms shapes boxes question (bodyIn body) (waypointAt list (b .earlier) .feet) (waypointAt list m .feet) (eqb (m + 1) (length list / 48)) NotAStep =
+      rw (sym (b .why) ∙ e) at (a-pair-whatever-its-label (windowIn window) cells perms shapes boxes question (bodyIn body) (waypointAt list (b .earlier) .feet) (waypointAt list m .feet) (asked-in-f64 window request body) (eqb (m + 1) (length list / 48))) in
       record { earlier = b .earlier; place = b .place; inside = b .inside; steps-before = b .steps-before; no-label = says }
 
   -- 117 comes with a place, and there it says that

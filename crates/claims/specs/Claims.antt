@@ -37,6 +37,7 @@ use Rattle.search.specs.FindWalkPath.{endOf, beforeSearch, found, nodesAfter, o
 use Rattle.walk_back.specs.declared.Walked.the-variants.{Yes}
 use Rattle.walk_back.specs.Movements.{movement-at}
 use Rattle.walk_back.specs.WalkBack.{IsRoute, RouteList, walked}
+use Rattle.fields.specs.Pieces.{Bytes}
 use Rattle.claims.specs.Words.{withBudget, InF64, keptPoints, closedWords, pushOf, after, LowestFirst}
 use Rattle.claims.specs.Laws.Calls as calls
 use Rattle.claims.specs.Laws.Search.{not-searching}
@@ -65,7 +66,7 @@ module _ (w : Window) (cells perms shapes boxes : List ℕ) (r : Request) (body 
   -- Found: the list that the output begins with is a route by 01, of at most one point more than the budget, and the output past it is as it was.
   pub found-is-a-route : answer .outcome ≡ Found →
       (t : List (Feet × Label)) × IsRoute sp r body t
-      × (output ≡ listBytes t ++ drop (40 * length t) out)
+      × (output ≡ listBytes t ++ drop (48 * length t) out)
       × (answer .count ≡ length t)
       × (length t ≤ r .«node_budget» + 1)
   found-is-a-route e =
@@ -140,12 +141,12 @@ module _ (w : Window) (cells perms shapes boxes : List ℕ) (r : Request) (body 
       (outcomeNumber (answer .outcome) < 3) × (endOf sp r body ≢ Searching)
   a-search-ends n = (calls.ends-below-three w cells perms shapes boxes r body nodes front index out n, not-searching sp r body)
 
-  -- Found: the first 40 × count bytes of the output read back as a route. For a request of f64s, as every caller's is.
-  pub found-reads-back : InF64 r → answer .outcome ≡ Found → RouteList sp r body (take (40 * answer .count) output)
+  -- Found: the first 48 × count bytes of the output read back as a route. For a request of f64s and a cell table of bytes, as every caller's are.
+  pub found-reads-back : InF64 r → Bytes cells → answer .outcome ≡ Found → RouteList sp r body (take (48 * answer .count) output)
   found-reads-back = read-back w cells perms shapes boxes r body nodes front index out
 
   -- So what the search writes, the walk-back accepts.
-  pub walk-back-accepts : InF64 r → answer .outcome ≡ Found → walked w cells perms shapes boxes r body (take (40 * answer .count) output) ≡ Yes
+  pub walk-back-accepts : InF64 r → Bytes cells → answer .outcome ≡ Found → walked w cells perms shapes boxes r body (take (48 * answer .count) output) ≡ Yes
   walk-back-accepts = accepted w cells perms shapes boxes r body nodes front index out
 
   -- A route has no movement but 01's four, so the walk-back answers no to a list with a movement above 3.

@@ -1,5 +1,6 @@
 -- Lemmas on the definitions, as the claims cite them.
 pub mod Edges
+pub mod Doors
 pub mod Budget
 pub mod Order
 pub mod Search

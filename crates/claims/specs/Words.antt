@@ -45,7 +45,7 @@ pub record InF64 (r : Request) : Type 0 where
   pub goal-z : T (fits binary64 (r .goal .z))
   pub jump : T (fits binary64 (r .«jump_height»))
 
--- ---- the first n records of a node room: their points, and their closed words, the u32 at byte 52 of each record's 56
+-- ---- the first n records of a node room: their points, and their closed words, the u32 at byte 60 of each record's 64
 
 abbrev pub keptPoints : ℕ → List ℕ → List Feet
 keptPoints n room = firsts n (λ k. nodeAt room k .feet)

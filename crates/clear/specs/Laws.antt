@@ -1,8 +1,8 @@
--- Laws that the loops go by.
+-- Laws that the loops go by: a run of boxes, a cell by the tests on it, and the cells of a region one after the other, with x and z exchanged.
 use Prim.Native.Nat.{ℕ, _+_, _-_, _*_, _<_}
 use native.Mathlib.Omega.{arith}
-use mathlib.Core.Path.{_≡_, refl, sym}
-use mathlib.Core.Bool.{Bool, true, false, not, _&&_, _||_, true≢false}
+use mathlib.Core.Path.{_≡_, refl, sym, ap, _∙_}
+use mathlib.Core.Bool.{Bool, true, false, not, _&&_, _||_, cond, true≢false}
 use mathlib.Core.List.{List, _∷_, map}
 use borrow.Author.Tests.{eqb-true}
 use lib.Dec.{ltb, eqb}
@@ -16,9 +16,11 @@ use Rattle.world.specs.declared.Aabb.{Aabb}
 use Rattle.world.specs.declared.Found.the-variants.{Here, End}
 use Rattle.world.specs.declared.Cell.the-variants.{Unknown, Known}
 use Rattle.world.specs.Boxes.{meets, moved, cube, corner, voxel}
-use Rattle.world.specs.Laws.{run-none as boxes-none, run-end as boxes-end, run-more as boxes-more, turns-end}
-use Rattle.world.specs.Space.{Space, run, boxHere, blockOf}
-use Rattle.clear.specs.Clear.{hits, free, allFree}
+use Rattle.world.specs.Laws.{both, run-none as boxes-none, run-end as boxes-end, run-more as boxes-more, turns-end}
+use Rattle.world.specs.Space.{Space, Block, run, boxHere, noDoor, blockOf}
+use Rattle.clear.specs.declared.Passage.{Passage}
+use Rattle.clear.specs.Clear.{hits, free, allFree, clear}
+use Rattle.clear.specs.Doors.{orElse, firstDoor, cellDoor, doorIn, passage}
 
 -- ---- a run of boxes
 
@@ -49,6 +51,10 @@ module _ (area : Aabb) (by : Point) (s : List ℕ) (at left : ℕ) where
 
 -- ---- a cell, by the tests on it
 
+-- what a cell is to an area
+abbrev pub cellPassage : Aabb → Point → Block → Passage
+cellPassage area p b = record { clear = free area p b; door = cellDoor area p b }
+
 neither : (a b : Bool) → (not a && not (b || false)) ≡ not (a || b)
 neither true b = refl
 neither false true = refl
@@ -65,55 +71,109 @@ passed true met rest e = refl
 passed false false rest e = refl
 passed false true rest e = cc
 
-module _ (area : Aabb) (p : Point) (boxes : List ℕ) (may support : Bool) (first many : ℕ) where
-  -- where a body may be in the cell and it has no box
-  pub air : (may && eqb many 0) ≡ true → free area p (blockOf boxes (Known may support first many) p) ≡ true
-  unfolding free blockOf hits
-  air t = go may t
+-- a cell without a door, whether its voxel meets the area or not
+no-door : (met : Bool) {door : ℕ} → door ≡ noDoor → door ≡ cond met door noDoor
+no-door true e = refl
+no-door false e = e
+
+module _ (area : Aabb) (p : Point) (boxes : List ℕ) (may support : Bool) (first many door : ℕ) where
+  -- where a body may be in the cell, and it has no box and no door
+  pub air : ((may && eqb many 0) && eqb door noDoor) ≡ true → record { clear = true; door = door } ≡ cellPassage area p (blockOf boxes (Known may support first many door) p)
+  unfolding free blockOf hits cellDoor
+  air t = λ i. record { clear = go may (both _ _ t .0) i; door = no-door (meets (voxel p) area) (eqb-true door noDoor (both (may && eqb many 0) _ t .1)) i }
     where
-      go : (may : Bool) → (may && eqb many 0) ≡ true → free area p (blockOf boxes (Known may support first many) p) ≡ true
+      go : (may : Bool) → (may && eqb many 0) ≡ true → true ≡ free area p (blockOf boxes (Known may support first many door) p)
       go true t = let z : many ≡ 0 = eqb-true many 0 t in rw (z, boxes-none (drop (48 * first) boxes) 0)
       go false t = absurd (true≢false (sym t))
 
 module _ (area : Aabb) (p : Point) (boxes : List ℕ) {met : Bool} (e : meets (voxel p) area ≡ met) where
-  pub unknown : {hit : Bool} → meets (moved cube p) area ≡ hit → not (met || hit) ≡ free area p (blockOf boxes Unknown p)
-  unfolding free blockOf hits
-  unknown {hit} f = rw (e, f) (sym (neither met hit))
+  pub unknown : {hit : Bool} → meets (moved cube p) area ≡ hit → record { clear = not (met || hit); door = noDoor } ≡ cellPassage area p (blockOf boxes Unknown p)
+  unfolding free blockOf hits cellDoor
+  unknown {hit} f = rw (e, f) (λ i. record { clear = sym (neither met hit) i; door = no-door met refl i })
 
-  module _ (may support : Bool) (first many : ℕ) where
+  module _ (may support : Bool) (first many door : ℕ) where
     -- where the voxel meets the area and a body may not be in the cell
-    pub may-not : (met && not may) ≡ true → free area p (blockOf boxes (Known may support first many) p) ≡ false
-    unfolding free blockOf
-    may-not t = rw e (barred may met _ t)
+    pub may-not : (met && not may) ≡ true → record { clear = false; door = cond met door noDoor } ≡ cellPassage area p (blockOf boxes (Known may support first many door) p)
+    unfolding free blockOf cellDoor
+    may-not t = rw (e, barred may met _ t)
 
     -- else its boxes decide
-    pub may-be : (met && not may) ≡ false →
-        free area p (blockOf boxes (Known may support first many) p) ≡ not (runHits area p (drop (48 * first) boxes) many 0)
-    unfolding free blockOf
-    may-be t = rw e (passed may met _ t)
+    pub may-be : {hit : Bool} → (met && not may) ≡ false → hit ≡ runHits area p (drop (48 * first) boxes) many 0 →
+        record { clear = not hit; door = cond met door noDoor } ≡ cellPassage area p (blockOf boxes (Known may support first many door) p)
+    unfolding free blockOf cellDoor
+    may-be t h = rw (e, passed may met _ t, h)
 
--- ---- the loop over the cells: a turn with all free so far, and the end
+-- ---- what a passage tells
+
+module _ (sp : Space) (area : Aabb) {a : Passage} (e : a ≡ passage sp area) where
+  pub is-clear : {b : Bool} → a .clear ≡ b → clear sp area ≡ b
+  unfolding passage
+  is-clear t = sym (ap (λ (p : Passage). p .clear) e) ∙ t
+
+  pub its-door : a .clear ≡ true → a .door ≡ doorIn sp area
+  unfolding passage
+  its-door t = ap (λ (p : Passage). p .door) e ∙ rw (is-clear t)
+
+-- ---- the first of two doors
+
+or-none : (door : ℕ) → orElse door noDoor ≡ door
+unfolding orElse
+or-none door = go (eqb door noDoor) refl
+  where
+    go : (b : Bool) → eqb door noDoor ≡ b → cond b noDoor door ≡ door
+    go true e = sym (eqb-true door noDoor e)
+    go false e = refl
+
+or-assoc : (a b c : ℕ) → orElse a (orElse b c) ≡ orElse (orElse a b) c
+unfolding orElse
+or-assoc a b c = go (eqb a noDoor) refl
+  where
+    go : (t : Bool) → eqb a noDoor ≡ t → cond t (cond (eqb b noDoor) c b) a ≡ cond (eqb (cond t b a) noDoor) c (cond t b a)
+    go true e = refl
+    go false e = rw e
+
+-- ---- the loop over the cells of a region with x and z exchanged: a turn with all free so far, and the end
+
+abbrev pub turned : Spot → Spot
+turned p = record { x = p .z; y = p .y; z = p .x }
 
 module _ (sp : Space) (area : Aabb) where
-  -- what a turn asks
+  -- what a turn asks, and what it is told of doors
   abbrev pub freeAt : Spot → Bool
   freeAt p = free area (corner (p .x) (p .y) (p .z)) (sp (p .x) (p .y) (p .z))
+
+  abbrev pub doorAt : Spot → ℕ
+  doorAt p = cellDoor area (corner (p .x) (p .y) (p .z)) (sp (p .x) (p .y) (p .z))
+
+  -- what the cells of such a region are together
+  abbrev pub freeAlong : List Spot → Bool
+  freeAlong ps = allFree sp area (map turned ps)
+
+  abbrev pub doorAlong : List Spot → ℕ
+  doorAlong ps = firstDoor doorAt (map turned ps)
+
+  abbrev pub passageAlong : List Spot → Passage
+  passageAlong ps = record { clear = freeAlong ps; door = cond (freeAlong ps) (doorAlong ps) noDoor }
 
   pub turn : (more free : Bool) → (more && free) ≡ true → (more ≡ true) × (free ≡ true)
   turn true true t = (refl, refl)
   turn true false t = (refl, t)
   turn false free t = (t, absurd (let z : _≡_ {A = ℕ} 0 1 = cc in omega arith))
 
-  pub goes-on : (ps qs : List Spot) (p : Spot) (free next : Bool) → free ≡ true → ps ≡ p ∷ qs → freeAt p ≡ next →
-      free && allFree sp area ps ≡ next && allFree sp area qs
+  pub goes-on : (ps qs : List Spot) (p : Spot) (free next : Bool) → free ≡ true → ps ≡ p ∷ qs → freeAt (turned p) ≡ next → free && freeAlong ps ≡ next && freeAlong qs
   unfolding allFree
   goes-on ps qs p free next t e f = rw (t, e, f)
 
-  pub ends : (r : Region) (c : Cursor) (free : Bool) → (c .more && free) ≡ false → free && allFree sp area (toCome r c) ≡ free
-  unfolding allFree
-  ends r c free t = go (c .more) refl free t
+  pub doors-on : (ps qs : List Spot) (p : Spot) (door next : ℕ) → ps ≡ p ∷ qs → doorAt (turned p) ≡ next → orElse door (doorAlong ps) ≡ orElse (orElse door next) (doorAlong qs)
+  unfolding firstDoor
+  doors-on ps qs p door next e f = rw (e, f) (or-assoc door next (doorAlong qs))
+
+  pub ends : (r : Region) (c : Cursor) (free : Bool) (door : ℕ) (ps : List Spot) → (c .more && free) ≡ false → freeAlong ps ≡ free && freeAlong (toCome r c) →
+      doorAlong ps ≡ orElse door (doorAlong (toCome r c)) → record { clear = free; door = cond free door noDoor } ≡ passageAlong ps
+  unfolding allFree firstDoor
+  ends r c free door ps t f d = go (c .more) refl free t f
     where
-      go : (more : Bool) → c .more ≡ more → (b : Bool) → (more && b) ≡ false → b && allFree sp area (toCome r c) ≡ b
-      go more p false t = refl
-      go true p true t = cc
-      go false p true t = rw (ended r c p)
+      go : (more : Bool) → c .more ≡ more → (b : Bool) → (more && b) ≡ false → freeAlong ps ≡ b && freeAlong (toCome r c) → record { clear = b; door = cond b door noDoor } ≡ passageAlong ps
+      go more p false t f = rw f
+      go true p true t f = absurd (true≢false t)
+      go false p true t f = rw (f, d, ended r c p, or-none door)

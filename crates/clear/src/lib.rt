@@ -1,17 +1,48 @@
-// Clear areas (01, The graph): whether a body fits into an area, by the boxes and the permissions of the cells that it reaches.
+// Clear areas (01, The graph): whether a body fits into an area, by the boxes and the permissions of the cells that it reaches; and the door that it meets there
+// (02, No. 5), which the same pass finds: the cells come in the clear check's y, x, z order.
 ghost use mathlib.Core.Path.{_≡_};
+ghost use mathlib.Core.Bool.{cond};
 ghost use mathlib.Core.List.{map};
 ghost use Rattle.regions.specs.Regions.{cellsOf};
 ghost use Rattle.world.specs.declared.Aabb.{Aabb};
 ghost use Rattle.world.specs.Boxes.{moved, corner};
-ghost use Rattle.world.specs.Space.{run, space};
-ghost use Rattle.clear.specs.Clear.{hits, free, allFree, clear};
+ghost use Rattle.world.specs.Space.{run, noDoor, space};
+ghost use Rattle.clear.specs.Clear.{hits, clear};
+ghost use Rattle.clear.specs.Doors.{orElse, passage};
+ghost use Rattle.clear.specs.Laws.{cellPassage, passageAlong};
 use regions::Region;
 use world::Aabb;
 use world::Cell;
 use world::Found;
+use world::NO_DOOR;
 use world::Point;
 use world::Window;
+
+// What an area is to a body: whether it is clear, and its door.
+pub struct Passage {
+    pub clear: bool,
+    pub door: u32,
+}
+
+// The first of two doors: the second where the first is none.
+pub fn or_else(a: u32, b: u32) -> u32
+    ensures { λ r. ⌜ r ≡ orElse a b ⌝ }
+{
+    if a == NO_DOOR {
+        return b;
+    }
+    a
+}
+
+// The door of a cell whose voxel meets an area, or does not.
+fn met_door(meets: bool, door: u32) -> u32
+    ensures { λ r. ⌜ r ≡ cond meets door noDoor ⌝ }
+{
+    if meets {
+        return door;
+    }
+    NO_DOOR
+}
 
 // Whether one of so many box records of a part of the table, moved by a point, intersects an area.
 fn run_hits(part: &[u8], boxes: u32, by: Point, area: Aabb) -> bool
@@ -31,8 +62,8 @@ fn run_hits(part: &[u8], boxes: u32, by: Point, area: Aabb) -> bool
     hit
 }
 
-// Whether a cell is free for an area. Of air, as most cells are, nothing is worked out.
-fn cell_free(
+// Whether a cell is free for an area, and its door where its voxel intersects the area. Of air, as most cells are, nothing is worked out.
+fn cell_passage(
     w: Window,
     cells: &[u8],
     perms: &[u8],
@@ -42,34 +73,42 @@ fn cell_free(
     x: i64,
     y: i64,
     z: i64,
-) -> bool
-    ensures { λ r. ⌜ r ≡ free area (corner x y z) (space w (now (cells .entry)) (now (perms .entry)) (now (shapes .entry)) (now (boxes .entry)) x y z) ⌝ }
+) -> Passage
+    ensures { λ r. ⌜ r ≡ cellPassage area (corner x y z) (space w (now (cells .entry)) (now (perms .entry)) (now (shapes .entry)) (now (boxes .entry)) x y z) ⌝ }
 {
     match space::cell_at(w, cells, perms, shapes, x, y, z) {
         Cell::Unknown => {
             let p = points::corner_of(x, y, z);
             let meets = boxes::intersects(boxes::voxel_at(p), area);
-            !(meets | boxes::intersects(boxes::offset(boxes::unit(), p), area))
+            let hit = boxes::intersects(boxes::offset(boxes::unit(), p), area);
+            Passage {
+                clear: !(meets | hit),
+                door: NO_DOOR,
+            }
         }
         Cell::Known {
             occupied,
             support: _,
             first,
             count,
+            door,
         } => {
-            if occupied & (count == 0) {
-                return true;
+            if occupied & (count == 0) & (door == NO_DOOR) {
+                return Passage { clear: true, door };
             }
             let p = points::corner_of(x, y, z);
-            if boxes::intersects(boxes::voxel_at(p), area) & !occupied {
-                return false;
+            let meets = boxes::intersects(boxes::voxel_at(p), area);
+            let door = met_door(meets, door);
+            if meets & !occupied {
+                return Passage { clear: false, door };
             }
-            !run_hits(world::boxes_from(boxes, first), count, p, area)
+            let clear = !run_hits(world::boxes_from(boxes, first), count, p, area);
+            Passage { clear, door }
         }
     }
 }
 
-// Whether the cells of a region are free for an area.
+// The same of the cells of a region whose axes x and z are exchanged: whether all are free, and, if so, the first door.
 fn all_free(
     w: Window,
     cells: &[u8],
@@ -78,17 +117,45 @@ fn all_free(
     boxes: &[u8],
     area: Aabb,
     region: Region,
-) -> bool
-    ensures { λ r. ⌜ r ≡ allFree (space w (now (cells .entry)) (now (perms .entry)) (now (shapes .entry)) (now (boxes .entry))) area (cellsOf region) ⌝ }
+) -> Passage
+    ensures { λ r. ⌜ r ≡ passageAlong (space w (now (cells .entry)) (now (perms .entry)) (now (shapes .entry)) (now (boxes .entry))) area (cellsOf region) ⌝ }
 {
     let mut free = true;
+    let mut door = NO_DOOR;
     let mut cursor = regions::first_in(region);
     while cursor.more & free {
         let at = cursor.at;
-        free = cell_free(w, cells, perms, shapes, boxes, area, at.x, at.y, at.z);
+        let cell = cell_passage(w, cells, perms, shapes, boxes, area, at.z, at.y, at.x);
+        free = cell.clear;
+        door = or_else(door, cell.door);
         cursor = regions::next_in(region, at);
     }
-    free
+    Passage {
+        clear: free,
+        door: met_door(free, door),
+    }
+}
+
+// Whether an area is clear, and its door. A region's cells come with x fastest, and the clear check's with z fastest, so the two axes are exchanged.
+pub fn passage_of(
+    w: Window,
+    cells: &[u8],
+    perms: &[u8],
+    shapes: &[u8],
+    boxes: &[u8],
+    area: Aabb,
+) -> Passage
+    ensures { λ r. ⌜ r ≡ passage (space w (now (cells .entry)) (now (perms .entry)) (now (shapes .entry)) (now (boxes .entry))) area ⌝ }
+{
+    let ys = regions::reached(area.min.y, area.max.y, 1);
+    let xs = regions::reached(area.min.x, area.max.x, 0);
+    let zs = regions::reached(area.min.z, area.max.z, 0);
+    let region = Region {
+        ys,
+        zs: xs,
+        xs: zs,
+    };
+    all_free(w, cells, perms, shapes, boxes, area, region)
 }
 
 // Whether an area is clear.
@@ -102,9 +169,5 @@ pub fn clear_area(
 ) -> bool
     ensures { λ r. ⌜ r ≡ clear (space w (now (cells .entry)) (now (perms .entry)) (now (shapes .entry)) (now (boxes .entry))) area ⌝ }
 {
-    let ys = regions::reached(area.min.y, area.max.y, 1);
-    let xs = regions::reached(area.min.x, area.max.x, 0);
-    let zs = regions::reached(area.min.z, area.max.z, 0);
-    let region = Region { ys, xs, zs };
-    all_free(w, cells, perms, shapes, boxes, area, region)
+    passage_of(w, cells, perms, shapes, boxes, area).clear
 }

@@ -17,9 +17,9 @@ use Rattle.outcomes.specs.declared.Outcome.the-variants.{Found}
 use Rattle.outcomes.specs.Outcomes.{listIn, countsOf, endQuiet, endAt, answerOf}
 
 -- a list that has room is written, and no list changes nothing
-pub written-is : (l : List (Feet × Label)) (old : List ℕ) → 40 * length l ≤ length old → written l old ≡ listBytes l ++ drop (40 * length l) old
+pub written-is : (l : List (Feet × Label)) (old : List ℕ) → 48 * length l ≤ length old → written l old ≡ listBytes l ++ drop (48 * length l) old
 unfolding written
-written-is l old h = let e = le-leb (length l) (length old / 40) (omega arith) in rw e
+written-is l old h = let e = le-leb (length l) (length old / 48) (omega arith) in rw e
 
 written-quiet : (d : ℕ) (old : List ℕ) → old ≡ written (listIn (endQuiet d)) old
 written-quiet zero old = sym (written-is [] old (omega arith))

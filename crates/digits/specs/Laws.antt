@@ -153,8 +153,10 @@ length-decimal v = length-digits 10 (places v) v
 -- for those who write a line: a number's field, and n bytes left behind it
 
 pub hex-field : {s t : List ℕ} {at r : ℕ} (v end n : ℕ) → (r ≡ behind (hex v) at s) × (t ≡ withField (hex v) end at s) → at + (21 + n) ≤ length s →
-    Field s t at r (hex v) end × (r + n ≤ length t)
-hex-field {s} {t} {at} {r} v end n e room = placed s t (hex v) at r end n room (omega (arith, length-hex v)) (e .0) (e .1)
+    Field s t at r (hex v) end × (r + (4 + n) ≤ length t)
+hex-field {s} {t} {at} {r} v end n e room =
+    let f = placed s t (hex v) at r end n room (omega (arith, length-hex v)) (e .0) (e .1) in
+    (f .0, omega (arith, length-hex v, f .0 .wrote .next, f .0 .size, length-append (hex v) (end ∷ [])))
 
 pub decimal-field : {s t : List ℕ} {at r : ℕ} (v end n : ℕ) → v < 2 ^ 64 → (r ≡ behind (decimal v) at s) × (t ≡ withField (decimal v) end at s) →
     at + (21 + n) ≤ length s → Field s t at r (decimal v) end × (r + n ≤ length t)

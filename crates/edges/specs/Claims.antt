@@ -23,7 +23,7 @@ use Rattle.moves.specs.declared.answer.Reason.{Reason}
 use Rattle.moves.specs.declared.answer.Reason.the-variants.{TooHigh, TooDeep, TargetOutOfRange, RaisedOutOfRange, TargetNotStandable, LiftBlocked, CrossingBlocked, SettleBlocked, Unsupported}
 use Rattle.moves.specs.declared.answer.EdgeCheck.the-variants.{Passes, Fails}
 use Rattle.moves.specs.Moves.{reasonNumber, stepHeight, rising, falling, moving}
-use Rattle.ways.specs.Ways.{raised, liftArea, crossingArea, settleArea, wayCheck}
+use Rattle.ways.specs.Ways.{raised, liftArea, crossingArea, settleArea, waypointBy, wayCheck}
 use Rattle.edges.specs.Reasons.{checkBy, edgeCheck}
 
 none-by : {A : Type 0} {m : _} {l : Float} → By m l ≡ None → A
@@ -85,7 +85,7 @@ module _ (sp : Space) (r : Request) (body : Body) (from to : Point) where
   unfolding wayCheck
   by-moving {why} None n e = too-far r body (sub binary64 (to .y) (from .y)) n (let z : cond (lt E (sub binary64 (to .y) (from .y))) TooHigh TooDeep ≡ why = cc in z)
   by-moving (By movement lift) n e =
-      in-turn (record { feet = to; lift = lift; movement = movement }) (inRange r to) (inRange r (raised from lift)) (standable sp body to) (clear sp (liftArea body from lift))
+      in-turn (waypointBy sp body from to lift movement) (inRange r to) (inRange r (raised from lift)) (standable sp body to) (clear sp (liftArea body from lift))
       (clear sp (crossingArea body from to lift)) (clear sp (settleArea body from to lift)) (supported sp (body .width) from to) e
 
   -- "The edge check should answer its first reason: .. in 01's order."

@@ -16,7 +16,8 @@ use Rattle.moves.specs.declared.answer.EdgeAnswer.the-variants.{To, Nowhere}
 use Rattle.moves.specs.Moves.{moving}
 -- the corners of the way, and the area that a body sweeps from a point on
 pub use Rattle.ways.specs.Ways.{raised, across, up}
-unfoldable pub use Rattle.ways.specs.Ways.{swept}
+unfoldable pub use Rattle.ways.specs.Ways.{swept, wayDoor}
+pub use Rattle.ways.specs.Ways.{waypointBy}
 
 -- "the lift, crossing and settle areas clear"
 unfoldable pub wayClear : Space → Body → Point → Point → Float → Bool
@@ -30,11 +31,11 @@ unfoldable pub passable : Space → Request → Body → Point → Point → Flo
 passable sp r body from to lift =
     inRange r to && inRange r (raised from lift) && standable sp body to && wayClear sp body from to lift && supported sp (body .width) from to
 
--- the waypoint that a movement leads to, where there is one and the way is passable
+-- the waypoint that a movement leads to, where there is one and the way is passable; it carries the way's door (02, No. 5)
 abbrev pub edgeBy : Space → Request → Body → Point → Point → Moving → EdgeAnswer
 edgeBy sp r body from to None = Nowhere
 edgeBy sp r body from to (By movement lift) =
-    cond (passable sp r body from to lift) (To (record { feet = to; lift = lift; movement = movement })) Nowhere
+    cond (passable sp r body from to lift) (To (waypointBy sp body from to lift movement)) Nowhere
 
 -- 01, The graph, "Edge": the movement by dy, and then the checks
 unfoldable pub edge : Space → Request → Body → Point → Point → EdgeAnswer

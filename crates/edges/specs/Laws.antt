@@ -16,7 +16,7 @@ use Rattle.moves.specs.declared.answer.Reason.the-variants.{TargetOutOfRange, R
 use Rattle.moves.specs.declared.answer.EdgeCheck.the-variants.{Passes, Fails}
 use Rattle.moves.specs.declared.answer.EdgeAnswer.the-variants.{To, Nowhere}
 use Rattle.moves.specs.Moves.{moving}
-use Rattle.ways.specs.Ways.{raised, liftArea, crossingArea, settleArea, wayCheck}
+use Rattle.ways.specs.Ways.{raised, liftArea, crossingArea, settleArea, waypointBy, wayCheck}
 use Rattle.edges.specs.Edges.{wayClear, passable, edgeBy, edge}
 use Rattle.edges.specs.Reasons.{checkBy, edgeCheck, edgeOf}
 
@@ -38,7 +38,7 @@ module _ (sp : Space) (r : Request) (body : Body) (from to : Point) where
   unfolding wayCheck passable wayClear
   by-movement None = refl
   by-movement (By movement lift) =
-      in-order (record { feet = to; lift = lift; movement = movement }) (inRange r to) (inRange r (raised from lift)) (standable sp body to) (clear sp (liftArea body from lift))
+      in-order (waypointBy sp body from to lift movement) (inRange r to) (inRange r (raised from lift)) (standable sp body to) (clear sp (liftArea body from lift))
       (clear sp (crossingArea body from to lift)) (clear sp (settleArea body from to lift)) (supported sp (body .width) from to)
 
   -- the edge is what its check lets pass

@@ -105,6 +105,7 @@ fn cell_lowest(
             support,
             first,
             count,
+            door: _,
         } => {
             if support & (0 < count) {
                 let by = points::corner_of(cx, y, cz);

@@ -23,9 +23,9 @@ abbrev pub through : List Point → Float
 through [] = nought
 through (p ∷ ps) = onward nought p ps
 
--- "Waypoint record 40 bytes: feet x, y, z, .."
+-- "Waypoint record .. bytes: feet x, y, z, ..", 48 bytes by 02, No. 5
 abbrev pub feetAt : List ℕ → ℕ → Point
-feetAt list k = pointAt list (40 * k)
+feetAt list k = pointAt list (48 * k)
 
 -- the feet of n records from record k on
 abbrev pub feetFrom : List ℕ → ℕ → ℕ → List Point
@@ -34,4 +34,4 @@ feetFrom list k (suc n) = feetAt list k ∷ feetFrom list (suc k) n
 
 -- the length of the whole records of a list
 unfoldable pub lengthOf : List ℕ → Float
-lengthOf list = through (feetFrom list 0 (length list / 40))
+lengthOf list = through (feetFrom list 0 (length list / 48))

@@ -11,9 +11,9 @@ use Rattle.world.specs.declared.Point.{Point}
 use Rattle.lengths.specs.Length.{apart, onward, through, feetAt, feetFrom, lengthOf}
 
 -- at the first record, whether there is one or not
-pub starts : (list : List ℕ) → lengthOf list ≡ onward nought (feetAt list 0) (feetFrom list 1 (length list / 40 - 1))
+pub starts : (list : List ℕ) → lengthOf list ≡ onward nought (feetAt list 0) (feetFrom list 1 (length list / 48 - 1))
 unfolding lengthOf
-starts list = go (length list / 40)
+starts list = go (length list / 48)
   where
     go : (n : ℕ) → through (feetFrom list 0 n) ≡ onward nought (feetAt list 0) (feetFrom list 1 (n - 1))
     go zero = refl

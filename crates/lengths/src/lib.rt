@@ -15,12 +15,12 @@ fn apart(from: Point, to: Point) -> f64
 pub fn length_of(list: &[u8]) -> f64
     ensures { λ r. ⌜ r ≡ lengthOf (now (list .entry)) ⌝ }
 {
-    let n = list.len() / 40;
+    let n = list.len() / 48;
     let mut total: f64 = 0.0;
     let mut from = world::point_at(list, 0);
     let mut k: usize = 1;
     while k < n {
-        let to = world::point_at(list, 40 * k);
+        let to = world::point_at(list, 48 * k);
         total = total + apart(from, to);
         from = to;
         k += 1;

@@ -9,7 +9,7 @@ use Rattle.rooms.specs.declared.WaypointRecord.{WaypointRecord}
 use Rattle.rooms.specs.Waypoints.{samePoint, alike, standing}
 use Rattle.words.specs.Words.{feetOf, labelOf}
 
--- an edge leads to a record: its point, its movement and its lift
+-- an edge leads to a record: its point, its movement, its lift and its door (02, No. 5)
 unfoldable pub leadsTo : WaypointRecord → Waypoint → Bool
 leadsTo v step = samePoint (feetOf (step .feet)) (v .feet) && alike (labelOf step) (v .label)
 
@@ -18,6 +18,6 @@ abbrev pub labelledBy : EdgeAnswer → Label → Bool
 labelledBy Nowhere l = false
 labelledBy (To step) l = alike (labelOf step) l
 
--- a record is the start's: its point, Walk, and lift 0
+-- a record is the start's: its point, Walk, lift 0, and no door
 abbrev pub starts : Point → WaypointRecord → Bool
 starts start v = samePoint (feetOf start) (v .feet) && alike standing (v .label)

@@ -15,30 +15,30 @@ use Rattle.listed.specs.Listed.{entriesFrom, waypoints, above3, badList}
 
 -- whether one of the records from k on has a movement above 3
 abbrev pub aboveFrom : List ℕ → ℕ → Bool
-aboveFrom s k = has above3 (entriesFrom s k (length s / 40 - k))
+aboveFrom s k = has above3 (entriesFrom s k (length s / 48 - k))
 
-pub bad-begins : (s : List ℕ) → badList s ≡ ((not (eqb (length s % 40) 0) || eqb (length s) 0) || aboveFrom s 0)
+pub bad-begins : (s : List ℕ) → badList s ≡ ((not (eqb (length s % 48) 0) || eqb (length s) 0) || aboveFrom s 0)
 unfolding badList waypoints
-bad-begins s = let e : length s / 40 - 0 ≡ length s / 40 = omega arith in rw e
+bad-begins s = let e : length s / 48 - 0 ≡ length s / 48 = omega arith in rw e
 
 module _ (s : List ℕ) (k : ℕ) (bad : Bool) where
-  pub still-good : (ltb k (length s / 40) && not bad) ≡ true → (k < length s / 40) × (bad ≡ false)
-  still-good t = go (ltb k (length s / 40)) refl bad t
+  pub still-good : (ltb k (length s / 48) && not bad) ≡ true → (k < length s / 48) × (bad ≡ false)
+  still-good t = go (ltb k (length s / 48)) refl bad t
     where
-      go : (a : Bool) → ltb k (length s / 40) ≡ a → (b : Bool) → (a && not b) ≡ true → (k < length s / 40) × (b ≡ false)
-      go true e false t = (ltb-true k (length s / 40) e, refl)
+      go : (a : Bool) → ltb k (length s / 48) ≡ a → (b : Bool) → (a && not b) ≡ true → (k < length s / 48) × (b ≡ false)
+      go true e false t = (ltb-true k (length s / 48) e, refl)
       go true e true t = absurd (let z : _≡_ {A = ℕ} 0 1 = cc in omega arith)
       go false e b t = absurd (let z : _≡_ {A = ℕ} 0 1 = cc in omega arith)
 
-  pub bad-on : (ltb k (length s / 40) && not bad) ≡ true → (v : WaypointRecord) → v ≡ waypointAt s k → (bad || aboveFrom s k) ≡ (ltb 3 (v .label .movement) || aboveFrom s (k + 1))
+  pub bad-on : (ltb k (length s / 48) && not bad) ≡ true → (v : WaypointRecord) → v ≡ waypointAt s k → (bad || aboveFrom s k) ≡ (ltb 3 (v .label .movement) || aboveFrom s (k + 1))
   unfolding entriesFrom
-  bad-on t v h = let e : length s / 40 - k ≡ suc (length s / 40 - (k + 1)) = omega (arith, still-good t .0) in rw (still-good t .1, e, add-one, h)
+  bad-on t v h = let e : length s / 48 - k ≡ suc (length s / 48 - (k + 1)) = omega (arith, still-good t .0) in rw (still-good t .1, e, add-one, h)
 
-  pub bad-ends : (ltb k (length s / 40) && not bad) ≡ false → (bad || aboveFrom s k) ≡ bad
+  pub bad-ends : (ltb k (length s / 48) && not bad) ≡ false → (bad || aboveFrom s k) ≡ bad
   unfolding entriesFrom
-  bad-ends t = go (ltb k (length s / 40)) refl bad t
+  bad-ends t = go (ltb k (length s / 48)) refl bad t
     where
-      go : (a : Bool) → ltb k (length s / 40) ≡ a → (b : Bool) → (a && not b) ≡ false → (b || aboveFrom s k) ≡ b
+      go : (a : Bool) → ltb k (length s / 48) ≡ a → (b : Bool) → (a && not b) ≡ false → (b || aboveFrom s k) ≡ b
       go a e true t = refl
       go true e false t = absurd (let z : _≡_ {A = ℕ} 0 1 = cc in omega arith)
-      go false e false t = let z : length s / 40 - k ≡ 0 = omega (arith, ltb-false k (length s / 40) e) in rw z
+      go false e false t = let z : length s / 48 - k ≡ 0 = omega (arith, ltb-false k (length s / 48) e) in rw z

@@ -1,4 +1,4 @@
-// The found list (01: "Waypoint record 40 bytes"): the nodes back from the last one over their parents, written from its end.
+// The found list (01, "Tables"; waypoint records have 48 bytes by 02, No. 5): the nodes back from the last one over their parents, written from its end.
 use rooms::Feet;
 use rooms::Label;
 use rooms::get_node;
@@ -28,8 +28,8 @@ fn span(nodes: &[u8], n: usize, k: usize) -> usize
 
 // The m points of the list back from node k, written from the last to the first.
 fn back(nodes: &[u8], n: usize, k: usize, m: usize, out: &mut [u8])
-    requires { ⌜ (m ≡ length (walk n (now nodes) n k)) × (40 * m ≤ length (now out)) ⌝ }
-    ensures { λ _. ⌜ now (out .exit) ≡ listBytes (reverseAux (walk n (now (nodes .entry)) n k) []) ++ drop (40 * m) (now (out .entry)) ⌝ }
+    requires { ⌜ (m ≡ length (walk n (now nodes) n k)) × (48 * m ≤ length (now out)) ⌝ }
+    ensures { λ _. ⌜ now (out .exit) ≡ listBytes (reverseAux (walk n (now (nodes .entry)) n k) []) ++ drop (48 * m) (now (out .entry)) ⌝ }
 {
     let mut j = m;
     let mut at = k;
@@ -45,11 +45,11 @@ fn back(nodes: &[u8], n: usize, k: usize, m: usize, out: &mut [u8])
 pub fn list_at(nodes: &[u8], n: usize, k: usize, out: &mut [u8]) -> usize
     ensures { λ r. ⌜ Listed (now (nodes .entry)) n k [] r (now (out .entry)) (now (out .exit)) ⌝ }
 {
-    if nodes.len() / 56 < n {
+    if nodes.len() / 64 < n {
         return 0;
     }
     let m = span(nodes, n, k);
-    if out.len() / 40 < m {
+    if out.len() / 48 < m {
         return m;
     }
     back(nodes, n, k, m, out);
@@ -60,12 +60,12 @@ pub fn list_at(nodes: &[u8], n: usize, k: usize, out: &mut [u8]) -> usize
 pub fn list_by(nodes: &[u8], n: usize, k: usize, goal: Feet, label: Label, out: &mut [u8]) -> usize
     ensures { λ r. ⌜ Listed (now (nodes .entry)) n k ((goal, label) ∷ []) r (now (out .entry)) (now (out .exit)) ⌝ }
 {
-    if nodes.len() / 56 < n {
+    if nodes.len() / 64 < n {
         return 0;
     }
     let m = span(nodes, n, k);
     let count = m + 1;
-    if out.len() / 40 < count {
+    if out.len() / 48 < count {
         return count;
     }
     put_waypoint(out, m, goal, label);

@@ -38,13 +38,20 @@ unfoldable pub movingGiven : Moving → ℕ × List Float
 movingGiven (By m lift) = (movedNumber m, lift ∷ [])
 movingGiven None = (noneNumber, [])
 
--- and of an edge the values are those of its waypoint, in the order of 01's record: "feet x, y, z, lift", then the movement, which the number says.
-abbrev pub waypointGiven : Waypoint → List Float
-waypointGiven w = w .feet .x ∷ w .feet .y ∷ w .feet .z ∷ w .lift ∷ []
+-- and of an edge the values are those of its waypoint, in the order of 01's record: "feet x, y, z, lift", then the movement, which the number says, and behind it the
+-- door (02, No. 5).
+abbrev pub Values : Type 0
+Values = List Float × List ℕ
 
-unfoldable pub edgeGiven : EdgeAnswer → ℕ × List Float
+abbrev pub waypointGiven : Waypoint → Values
+waypointGiven w = (w .feet .x ∷ w .feet .y ∷ w .feet .z ∷ w .lift ∷ [], w .door ∷ [])
+
+abbrev pub noValues : Values
+noValues = ([], [])
+
+unfoldable pub edgeGiven : EdgeAnswer → ℕ × Values
 edgeGiven (To w) = (movedNumber (w .movement), waypointGiven w)
-edgeGiven Nowhere = (noneNumber, [])
+edgeGiven Nowhere = (noneNumber, noValues)
 
 -- 02, No. 3: "too high, too deep, target out of range, raised point out of range, target not standable, lift blocked, crossing blocked, settle blocked, segment
 -- unsupported", in this order from 101 on
@@ -64,11 +71,11 @@ abbrev pub checkNumber : EdgeCheck → ℕ
 checkNumber (Passes w) = movedNumber (w .movement)
 checkNumber (Fails why) = reasonNumber why
 
-abbrev pub checkValues : EdgeCheck → List Float
+abbrev pub checkValues : EdgeCheck → Values
 checkValues (Passes w) = waypointGiven w
-checkValues (Fails why) = []
+checkValues (Fails why) = noValues
 
-unfoldable pub checkGiven : EdgeCheck → ℕ × List Float
+unfoldable pub checkGiven : EdgeCheck → ℕ × Values
 checkGiven a = (checkNumber a, checkValues a)
 
 -- "step = the smaller step height"

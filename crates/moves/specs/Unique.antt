@@ -19,7 +19,7 @@ use Rattle.moves.specs.declared.answer.Reason.{Reason}
 use Rattle.moves.specs.declared.answer.Reason.the-variants.{TooHigh, TooDeep, TargetOutOfRange, RaisedOutOfRange, TargetNotStandable, LiftBlocked, CrossingBlocked, SettleBlocked, Unsupported}
 use Rattle.moves.specs.declared.answer.EdgeCheck.{EdgeCheck}
 use Rattle.moves.specs.declared.answer.EdgeCheck.the-variants.{Passes, Fails}
-use Rattle.moves.specs.Moves.{movedNumber, noneNumber, movingGiven, edgeGiven, reasonNumber, checkGiven}
+use Rattle.moves.specs.Moves.{movedNumber, noneNumber, movingGiven, Values, noValues, waypointGiven, edgeGiven, reasonNumber, checkGiven}
 
 abbrev movement : ℕ → Movement
 movement n = cond (eqb n (movedNumber Walk)) Walk (cond (eqb n (movedNumber Step)) Step (cond (eqb n (movedNumber Jump)) Jump Drop))
@@ -40,30 +40,32 @@ moving-back None = refl
 pub one-moving : (a b : Moving) → movingGiven a ≡ movingGiven b → a ≡ b
 one-moving a b e = sym (moving-back a) ∙ ap moving e ∙ moving-back b
 
--- ---- an edge, by its number and its waypoint's four
+-- ---- an edge, by its number, its waypoint's four, and its door
 
-abbrev waypoint : ℕ → List Float → Waypoint
-waypoint n values =
+abbrev waypoint : ℕ → Values → Waypoint
+waypoint n (values, doors) =
     record {
       feet = record { x = getD values 0 nought; y = getD values 1 nought; z = getD values 2 nought };
       lift = getD values 3 nought;
       movement = movement n;
+      door = getD doors 0 0;
     }
 
-by-movement : (feet : Point) (lift : Float) (m : Movement) → waypoint (movedNumber m) (feet .x ∷ feet .y ∷ feet .z ∷ lift ∷ []) ≡ record { feet = feet; lift = lift; movement = m }
-by-movement feet lift Walk = refl
-by-movement feet lift Step = refl
-by-movement feet lift Jump = refl
-by-movement feet lift Drop = refl
+by-movement : (feet : Point) (lift : Float) (door : ℕ) (m : Movement) →
+    waypoint (movedNumber m) (feet .x ∷ feet .y ∷ feet .z ∷ lift ∷ [], door ∷ []) ≡ record { feet = feet; lift = lift; movement = m; door = door }
+by-movement feet lift door Walk = refl
+by-movement feet lift door Step = refl
+by-movement feet lift door Jump = refl
+by-movement feet lift door Drop = refl
 
-abbrev edge : ℕ × List Float → EdgeAnswer
+abbrev edge : ℕ × Values → EdgeAnswer
 edge (n, values) = cond (eqb n noneNumber) Nowhere (To (waypoint n values))
 
 edge-back : (a : EdgeAnswer) → edge (edgeGiven a) ≡ a
 unfolding edgeGiven
-edge-back (To w) = moved (w .movement) ∙ ap To (by-movement (w .feet) (w .lift) (w .movement))
+edge-back (To w) = moved (w .movement) ∙ ap To (by-movement (w .feet) (w .lift) (w .door) (w .movement))
   where
-    moved : (m : Movement) → cond (eqb (movedNumber m) noneNumber) Nowhere (To (waypoint (movedNumber m) (w .feet .x ∷ w .feet .y ∷ w .feet .z ∷ w .lift ∷ []))) ≡ To (waypoint (movedNumber m) (w .feet .x ∷ w .feet .y ∷ w .feet .z ∷ w .lift ∷ []))
+    moved : (m : Movement) → cond (eqb (movedNumber m) noneNumber) Nowhere (To (waypoint (movedNumber m) (waypointGiven w))) ≡ To (waypoint (movedNumber m) (waypointGiven w))
     moved Walk = refl
     moved Step = refl
     moved Jump = refl
@@ -73,7 +75,7 @@ edge-back Nowhere = refl
 pub one-edge : (a b : EdgeAnswer) → edgeGiven a ≡ edgeGiven b → a ≡ b
 one-edge a b e = sym (edge-back a) ∙ ap edge e ∙ edge-back b
 
--- ---- a reason, by its number; and an edge check, by its number and its waypoint's four
+-- ---- a reason, by its number; and an edge check, by its number, its waypoint's four, and its door
 
 abbrev pub reason : ℕ → Reason
 reason n =
@@ -99,21 +101,21 @@ reason-back SettleBlocked = refl
 reason-back Unsupported = refl
 
 -- the numbers of edges are above those of reasons
-abbrev check : ℕ × List Float → EdgeCheck
+abbrev check : ℕ × Values → EdgeCheck
 check (n, values) = cond (ltb n (movedNumber Walk)) (Fails (reason n)) (Passes (waypoint n values))
 
 check-back : (a : EdgeCheck) → check (checkGiven a) ≡ a
 unfolding checkGiven
-check-back (Passes w) = moved (w .movement) ∙ ap Passes (by-movement (w .feet) (w .lift) (w .movement))
+check-back (Passes w) = moved (w .movement) ∙ ap Passes (by-movement (w .feet) (w .lift) (w .door) (w .movement))
   where
-    moved : (m : Movement) → check (movedNumber m, w .feet .x ∷ w .feet .y ∷ w .feet .z ∷ w .lift ∷ []) ≡ Passes (waypoint (movedNumber m) (w .feet .x ∷ w .feet .y ∷ w .feet .z ∷ w .lift ∷ []))
+    moved : (m : Movement) → check (movedNumber m, waypointGiven w) ≡ Passes (waypoint (movedNumber m) (waypointGiven w))
     moved Walk = refl
     moved Step = refl
     moved Jump = refl
     moved Drop = refl
 check-back (Fails why) = failed why ∙ ap Fails (reason-back why)
   where
-    failed : (a : Reason) → check (reasonNumber a, []) ≡ Fails (reason (reasonNumber a))
+    failed : (a : Reason) → check (reasonNumber a, noValues) ≡ Fails (reason (reasonNumber a))
     failed TooHigh = refl
     failed TooDeep = refl
     failed TargetOutOfRange = refl

@@ -17,10 +17,12 @@ pub enum Moving {
     None,
 }
 
+// The point that an edge leads to, how a body comes there, and the door that it meets on the way (02, No. 5): a state's number, or 4294967295.
 pub struct Waypoint {
     pub feet: Point,
     pub lift: f64,
     pub movement: Movement,
+    pub door: u64,
 }
 
 pub enum EdgeAnswer {

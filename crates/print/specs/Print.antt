@@ -18,7 +18,7 @@ use Rattle.print_lines.specs.declared.Told.{Told}
 unfoldable pub refusal : ℕ → ℕ → Told
 refusal number bad = record { number = number; bad = bad; waypoints = 0; retained = 0; closed = 0; total = nought }
 
--- what a search's answer says, with the output room that it left: the length is that of the list's records, 40 bytes each
+-- what a search's answer says, with the output room that it left: the length is that of the list's records, 48 bytes each
 unfoldable pub toldOf : search.Answer → List ℕ → Told
 toldOf a out = record {
   number = outcomeNumber (a .outcome);
@@ -26,7 +26,7 @@ toldOf a out = record {
   waypoints = a .count;
   retained = a .retained;
   closed = a .closed;
-  total = lengthOf (take (40 * a .count) out);
+  total = lengthOf (take (48 * a .count) out);
 }
 
 module _ (cells perms shapes boxes : List ℕ) where

@@ -22,10 +22,10 @@ fn write_lines(told: Told, list: &[u8], n: usize) {
 
 // Searches the scene that was read, or not, and prints what there is to tell. The rooms are those of a budget of 512.
 fn print_told(answer: SceneAnswer, cells: &[u8], perms: &[u8], shapes: &[u8], boxes: &[u8]) {
-    let mut nodes = [0u8; 28672];
+    let mut nodes = [0u8; 32768];
     let mut front = [0u8; 12288];
     let mut index = [0u8; 4096];
-    let mut out = [0u8; 20520];
+    let mut out = [0u8; 24624];
     let told = telling::tell(
         answer,
         cells,

@@ -33,12 +33,12 @@ fn front_of(s: &[u8], n: usize) -> &[u8]
 
 // The bytes of the first n waypoint records, or all.
 fn list_of(out: &[u8], n: usize) -> &[u8]
-    ensures { λ r. ⌜ now r ≡ take (40 * n) (now (out .entry)) ⌝ }
+    ensures { λ r. ⌜ now r ≡ take (48 * n) (now (out .entry)) ⌝ }
 {
-    if out.len() / 40 < n {
+    if out.len() / 48 < n {
         return out;
     }
-    let bytes = 40 * n;
+    let bytes = 48 * n;
     &out[..bytes]
 }
 

@@ -34,7 +34,7 @@ fn put_open(
     cost: u64,
     entry: Entry,
 )
-    requires { ⌜ (56 * j + 56 ≤ length (now nodes)) × (24 * j + 24 ≤ length (now front)) × (k < nobody) ⌝ }
+    requires { ⌜ (64 * j + 64 ≤ length (now nodes)) × (24 * j + 24 ≤ length (now front)) × (k < nobody) ⌝ }
     ensures { λ _. ⌜ WroteNode (now (nodes .entry)) j (childRecord k feet label cost) (now (nodes .exit)) × WroteEntry (now (front .entry)) j entry (now (front .exit)) ⌝ }
 {
     let node = NodeRecord {

@@ -38,10 +38,10 @@ le-as-lt x n = go (ltb x (n + 1)) refl
     go false e = lt-leb x n (omega (arith, ltb-false x (n + 1) e))
 
 pub room-divided : (n nodes front out : ℕ) (wrongIndex : Bool) →
-    (ltb (nodes / 56) n || ltb (front / 24) n || leb (out / 40) n || wrongIndex) ≡ (noRoom n nodes front out || wrongIndex)
+    (ltb (nodes / 64) n || ltb (front / 24) n || leb (out / 48) n || wrongIndex) ≡ (noRoom n nodes front out || wrongIndex)
 unfolding noRoom
 room-divided n nodes front out wrongIndex =
-    rw (few 56 n nodes (omega arith), few 24 n front (omega arith), le-as-lt (out / 40) n ∙ few 40 (n + 1) out (omega arith))
+    rw (few 64 n nodes (omega arith), few 24 n front (omega arith), le-as-lt (out / 48) n ∙ few 48 (n + 1) out (omega arith))
 
 module _ (w : Window) (cells perms shapes boxes : List ℕ) (r : Request) (body : Body) (nodes front out : ℕ) (wrongIndex : Bool) where
   abbrev bad : Bool
@@ -93,9 +93,9 @@ module _ (w : Window) (cells perms shapes boxes : List ℕ) (r : Request) (body 
   pub record Begun : Type 0 where
     pub world : bad ≡ false
     pub few-nodes : r .«node_budget» ≤ 4096
-    pub node-room : 56 * r .«node_budget» ≤ nodes
+    pub node-room : 64 * r .«node_budget» ≤ nodes
     pub front-room : 24 * r .«node_budget» ≤ front
-    pub out-room : 40 * (r .«node_budget» + 1) ≤ out
+    pub out-room : 48 * (r .«node_budget» + 1) ≤ out
 
   small : large ≡ false → r .«node_budget» ≤ 4096
   unfolding tooLarge
@@ -106,13 +106,13 @@ module _ (w : Window) (cells perms shapes boxes : List ℕ) (r : Request) (body 
   has-room b l e′ =
       let n = r .«node_budget» in
       let e = or-false (noRoom n nodes front out) wrongIndex e′ .0 in
-      let f = or-false (ltb nodes (56 * n) || ltb front (24 * n)) (ltb out (40 * (n + 1))) e .0 in
+      let f = or-false (ltb nodes (64 * n) || ltb front (24 * n)) (ltb out (48 * (n + 1))) e .0 in
       record {
         world = b;
         few-nodes = small l;
-        node-room = ltb-false nodes (56 * n) (or-false (ltb nodes (56 * n)) (ltb front (24 * n)) f .0);
-        front-room = ltb-false front (24 * n) (or-false (ltb nodes (56 * n)) (ltb front (24 * n)) f .1);
-        out-room = ltb-false out (40 * (n + 1)) (or-false (ltb nodes (56 * n) || ltb front (24 * n)) (ltb out (40 * (n + 1))) e .1) }
+        node-room = ltb-false nodes (64 * n) (or-false (ltb nodes (64 * n)) (ltb front (24 * n)) f .0);
+        front-room = ltb-false front (24 * n) (or-false (ltb nodes (64 * n)) (ltb front (24 * n)) f .1);
+        out-room = ltb-false out (48 * (n + 1)) (or-false (ltb nodes (64 * n) || ltb front (24 * n)) (ltb out (48 * (n + 1))) e .1) }
 
   -- a test that a search passed was not met
   passed : (b : Bool) (o : Outcome) (x : Option Outcome) → cond b (some o) x ≡ none → (b ≡ false) × (x ≡ none)

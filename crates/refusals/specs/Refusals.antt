@@ -19,7 +19,7 @@ use Rattle.refusals.specs.declared.Judged.the-variants.{Refused, Begins}
 
 -- "5 NoRoom: node or frontier room under node_budget records, output under node_budget + 1": rooms of so many bytes
 unfoldable pub noRoom : ℕ → ℕ → ℕ → ℕ → Bool
-noRoom budget nodes front out = ltb nodes (56 * budget) || ltb front (24 * budget) || ltb out (40 * (budget + 1))
+noRoom budget nodes front out = ltb nodes (64 * budget) || ltb front (24 * budget) || ltb out (48 * (budget + 1))
 
 -- "Search order: 3; `valid_request` (else 1); 4; 5; goal in range, start standable, goal standable (else 1); budget 0 (2); search": what is answered
 -- without a search, or none where it begins. Of the rooms only the sizes count. 02, No. 7: "5 also for an index room of a wrong size"; a search without an

@@ -38,7 +38,7 @@ pub fn judge(
         return Judged::Refused(Outcome::TooLarge);
     }
     let n = r.node_budget as usize;
-    if (nodes / 56 < n) | (front / 24 < n) | (out / 40 <= n) | wrong_index {
+    if (nodes / 64 < n) | (front / 24 < n) | (out / 48 <= n) | wrong_index {
         return Judged::Refused(Outcome::NoRoom);
     }
     if !ends::ends_good(w, cells, perms, shapes, boxes, r, body) {

@@ -1,4 +1,5 @@
 // The digest of a case's answers (oracle/README.md, `store`).
+use clear::Passage;
 use heights::Height;
 use moves::EdgeAnswer;
 use moves::EdgeCheck;
@@ -40,13 +41,18 @@ pub(crate) fn with_height(d: u64, h: Height) -> u64 {
     }
 }
 
-// A waypoint's feet and lift.
-fn with_waypoint(d: u64, w: Waypoint) -> u64 {
-    let e = with_float(with_float(d, w.feet.x), w.feet.y);
-    with_float(with_float(e, w.feet.z), w.lift)
+// Whether an area is clear, and its door.
+pub(crate) fn with_passage(d: u64, a: Passage) -> u64 {
+    with(with_yes(d, a.clear), a.door as u64)
 }
 
-// The movement's number, then feet and lift; 4 where there is no edge.
+// A waypoint's feet, lift and door.
+fn with_waypoint(d: u64, w: Waypoint) -> u64 {
+    let e = with_float(with_float(d, w.feet.x), w.feet.y);
+    with(with_float(with_float(e, w.feet.z), w.lift), w.door)
+}
+
+// The movement's number, then feet, lift and door; 4 where there is no edge.
 pub(crate) fn with_edge(d: u64, a: EdgeAnswer) -> u64 {
     let EdgeAnswer::To(w) = a else {
         return with(d, 4);
@@ -55,7 +61,7 @@ pub(crate) fn with_edge(d: u64, a: EdgeAnswer) -> u64 {
     with_waypoint(with(d, moves::movement_number(movement)), w)
 }
 
-// The edge check's number, as the C interface tells it, then of an edge feet and lift.
+// The edge check's number, as the C interface tells it, then of an edge feet, lift and door.
 pub(crate) fn with_check(d: u64, a: EdgeCheck) -> u64 {
     let e = with(d, c_answers::edge_number(a));
     let EdgeCheck::Passes(w) = a else {
@@ -68,10 +74,10 @@ pub(crate) fn with_check(d: u64, a: EdgeCheck) -> u64 {
 pub(crate) fn with_search(
     d: u64,
     a: Answer,
-    nodes: &[u8; 28800],
-    front: &[u8; 28800],
+    nodes: &[u8; 32896],
+    front: &[u8; 32896],
     index: &[u8; 8208],
-    out: &[u8; 28800],
+    out: &[u8; 32896],
 ) -> u64 {
     let outcome = a.outcome;
     let e = with(with(d, outcomes::number_of(outcome)), a.count as u64);

@@ -12,7 +12,7 @@ fn extend_front(room: &mut [u8], x: usize, nodes: &[u8], n: usize) -> usize {
 }
 
 // How many of n nodes are entered.
-pub(crate) fn entered(index: &mut [u8; 8208], x: usize, nodes: &[u8; 28800], n: usize) -> usize {
+pub(crate) fn entered(index: &mut [u8; 8208], x: usize, nodes: &[u8; 32896], n: usize) -> usize {
     extend_front(index, x, nodes, n)
 }
 
@@ -33,7 +33,7 @@ pub(crate) fn with_found(
     d: u64,
     index: &[u8; 8208],
     x: usize,
-    nodes: &[u8; 28800],
+    nodes: &[u8; 32896],
     m: usize,
     n: usize,
     goal: Feet,

@@ -15,15 +15,15 @@ pub(crate) fn searched(
     d: u64,
 ) -> u64 {
     let fill = scene_records::byte_at(asked, sheet::FILL);
-    let mut nodes = [fill; 28800];
-    let mut front = [fill; 28800];
+    let mut nodes = [fill; 32896];
+    let mut front = [fill; 32896];
     let mut index = [fill; 8208];
-    let mut out = [fill; 28800];
+    let mut out = [fill; 32896];
     stores::put_u32(&mut index, 0, 0);
-    let n = sheet::number(asked, sheet::NODES) % 28801;
-    let f = sheet::number(asked, sheet::FRONT) % 28801;
+    let n = sheet::number(asked, sheet::NODES) % 32897;
+    let f = sheet::number(asked, sheet::FRONT) % 32897;
     let x = sheet::number(asked, sheet::INDEX) % 8209;
-    let o = sheet::number(asked, sheet::OUT) % 28801;
+    let o = sheet::number(asked, sheet::OUT) % 32897;
     let lent = sheet::front(cells, sheet::number(asked, sheet::CELLS));
     let a = search::find_walk_path(
         s.window,

@@ -99,16 +99,16 @@ module _ (number bad waypoints retained closed : ℕ) (total : Float) where
   refusal-first h = rw (le-ltb number 3 h)
 
 module _ (list : List ℕ) (place : ℕ) where
-  pub no-record : length list / 40 ≤ place → waypointLine list place ≡ []
+  pub no-record : length list / 48 ≤ place → waypointLine list place ≡ []
   unfolding waypointLine
-  no-record h = rw (le-ltb place (length list / 40) h)
+  no-record h = rw (le-ltb place (length list / 48) h)
 
-  pub no-movement : (m : ℕ) → m ≡ field 8 list (40 * place + 32) → 3 < m → place < length list / 40 → waypointLine list place ≡ []
+  pub no-movement : (m : ℕ) → m ≡ field 8 list (48 * place + 32) → 3 < m → place < length list / 48 → waypointLine list place ≡ []
   unfolding waypointLine
-  no-movement m e h p = rw (lt-ltb place (length list / 40) p, ← e, lt-leb m 3 h)
+  no-movement m e h p = rw (lt-ltb place (length list / 48) p, ← e, lt-leb m 3 h)
 
-  pub a-record : (m x y z lift : ℕ) → place < length list / 40 → m ≤ 3 → m ≡ field 8 list (40 * place + 32) →
-      x ≡ field 8 list (40 * place) → y ≡ field 8 list (40 * place + 8) → z ≡ field 8 list (40 * place + 16) → lift ≡ field 8 list (40 * place + 24) →
-      waypointLine list place ≡ waypointFields place m x y z lift
+  pub a-record : (m x y z lift door : ℕ) → place < length list / 48 → m ≤ 3 → m ≡ field 8 list (48 * place + 32) →
+      x ≡ field 8 list (48 * place) → y ≡ field 8 list (48 * place + 8) → z ≡ field 8 list (48 * place + 16) → lift ≡ field 8 list (48 * place + 24) →
+      door ≡ field 8 list (48 * place + 40) → waypointLine list place ≡ waypointFields place m x y z lift door
   unfolding waypointLine
-  a-record m x y z lift p h em ex ey ez el = rw (lt-ltb place (length list / 40) p, ← em, le-leb m 3 h, ← ex, ← ey, ← ez, ← el)
+  a-record m x y z lift door p h em ex ey ez el ed = rw (lt-ltb place (length list / 48) p, ← em, le-leb m 3 h, ← ex, ← ey, ← ez, ← el, ← ed)

@@ -76,18 +76,19 @@ unfoldable pub firstLine : ℕ → ℕ → ℕ → ℕ → ℕ → Float → Lis
 firstLine number bad waypoints retained closed total =
     cond (ltb number 3) (lineOne number waypoints retained closed (toBits binary64 total)) (refusedLine number bad)
 
--- "a line a waypoint: place, movement, x, y, z, lift", the numbers by their bits
-unfoldable pub waypointFields : ℕ → ℕ → ℕ → ℕ → ℕ → ℕ → List ℕ
-waypointFields place movement x y z lift = line (decimal place ∷ movementWord movement ∷ hex x ∷ hex y ∷ hex z ∷ hex lift ∷ [])
+-- "a line a waypoint: place, movement, x, y, z, lift", the numbers by their bits; and 02, No. 5, of the door: "walkprint prints it last in decimal"
+unfoldable pub waypointFields : ℕ → ℕ → ℕ → ℕ → ℕ → ℕ → ℕ → List ℕ
+waypointFields place movement x y z lift door =
+    line (decimal place ∷ movementWord movement ∷ hex x ∷ hex y ∷ hex z ∷ hex lift ∷ decimal door ∷ [])
 
--- the line of record `place` of a list of "Waypoint record 40 bytes: feet x, y, z, lift, movement as u64"; no byte where the list has no such record,
--- or the record no movement from 0 to 3
+-- the line of record `place` of a list of waypoint records, 48 bytes each: "feet x, y, z, lift, movement as u64", and the door; no byte where the list has no such
+-- record, or the record no movement from 0 to 3
 unfoldable pub waypointLine : List ℕ → ℕ → List ℕ
 waypointLine list place =
-    let at = 40 * place in
+    let at = 48 * place in
     let movement = field 8 list (at + 32) in
-    cond (ltb place (length list / 40) && leb movement 3)
-    (waypointFields place movement (field 8 list at) (field 8 list (at + 8)) (field 8 list (at + 16)) (field 8 list (at + 24)))
+    cond (ltb place (length list / 48) && leb movement 3)
+    (waypointFields place movement (field 8 list at) (field 8 list (at + 8)) (field 8 list (at + 16)) (field 8 list (at + 24)) (field 8 list (at + 40)))
     []
 
 -- ---- in a buffer

@@ -3,7 +3,7 @@ use Prim.Native.Nat.{ℕ, zero, suc, _+_, _-_, _*_, _<_, _≤_}
 use mathlib.Core.Path.{_≡_, refl, sym, ap, _∙_}
 use mathlib.Core.List.{List, [], _∷_, _++_}
 use native.Mathlib.Omega.{arith}
-use lib.ListN.{length, getD, set}
+use lib.ListN.{length, getD, set, length-append}
 use lib.Seq.{sets}
 use Rattle.digits.specs.Writing.{Field, sets-append, field-is}
 use Rattle.report.specs.Lines.{found, unreachable, budgetexceeded, refused, walk, step, jump, drops, outcomeWord, movementWord}
@@ -84,3 +84,16 @@ spells-movement (suc zero) h = record { is = refl; inside = omega arith; short =
 spells-movement (suc (suc zero)) h = record { is = refl; inside = omega arith; short = omega arith }
 spells-movement (suc (suc (suc zero))) h = record { is = refl; inside = omega arith; short = omega arith }
 spells-movement (suc (suc (suc (suc m)))) h = absurd (omega arith)
+
+-- ---- a movement's word has four letters, so five bytes of a line are used up behind it
+
+four-letters : (m : ℕ) → m ≤ 3 → length (movementWord m) ≡ 4
+unfolding movementWord
+four-letters zero h = refl
+four-letters (suc zero) h = refl
+four-letters (suc (suc zero)) h = refl
+four-letters (suc (suc (suc zero))) h = refl
+four-letters (suc (suc (suc (suc m)))) h = absurd (omega arith)
+
+pub behind-movement : {s t : List ℕ} {at r end : ℕ} (m n : ℕ) → m ≤ 3 → Field s t at r (movementWord m) end → at + (5 + n) ≤ length s → r + n ≤ length t
+behind-movement {end = end} m n h w room = omega (arith, four-letters m h, length-append (movementWord m) (end ∷ []), w .wrote .next, w .size)

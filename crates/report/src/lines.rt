@@ -1,4 +1,4 @@
-// walkprint's lines (01, "Scenes and walkprint"), each written at the start of a lent buffer. A line has at most 128 bytes: a buffer that is
+// walkprint's lines (01, "Scenes and walkprint"; 02, No. 5), each written at the start of a lent buffer. A line has at most 128 bytes: a buffer that is
 // shorter is left as it was, and the answer is 0.
 ghost use mathlib.Core.Path.{_≡_};
 ghost use Prim.Native.Nat.{_+_, _≤_};
@@ -68,16 +68,18 @@ fn waypoint_fields(
     y: u64,
     z: u64,
     lift: u64,
+    door: u64,
 ) -> usize
     requires { ⌜ (128 ≤ length (now out)) × (movement ≤ 3) ⌝ }
-    ensures { λ r. ⌜ Whole (now (out .entry)) (now (out .exit)) r (waypointFields place movement x y z lift) ⌝ }
+    ensures { λ r. ⌜ Whole (now (out .entry)) (now (out .exit)) r (waypointFields place movement x y z lift door) ⌝ }
 {
     let a = digits::put_decimal(out, 0, place, SPACE);
     let b = words::put_word(out, a, words::movement_word(movement));
     let c = digits::put_hex(out, b, x, SPACE);
     let d = digits::put_hex(out, c, y, SPACE);
     let e = digits::put_hex(out, d, z, SPACE);
-    digits::put_hex(out, e, lift, NEWLINE)
+    let f = digits::put_hex(out, e, lift, SPACE);
+    digits::put_decimal(out, f, door, NEWLINE)
 }
 
 // The line of the waypoint at a place of a list of records. Nothing is written where there is no such record, or no such movement.
@@ -88,10 +90,10 @@ pub fn waypoint_line(out: &mut [u8], list: &[u8], place: usize) -> usize
     if out.len() < ROOM {
         return 0;
     }
-    if list.len() / 40 <= place {
+    if list.len() / 48 <= place {
         return 0;
     }
-    let at = 40 * place;
+    let at = 48 * place;
     let movement = fields::u64_at(list, at + 32);
     if 3 < movement {
         return 0;
@@ -100,5 +102,6 @@ pub fn waypoint_line(out: &mut [u8], list: &[u8], place: usize) -> usize
     let y = fields::u64_at(list, at + 8);
     let z = fields::u64_at(list, at + 16);
     let lift = fields::u64_at(list, at + 24);
-    waypoint_fields(out, place as u64, movement, x, y, z, lift)
+    let door = fields::u64_at(list, at + 40);
+    waypoint_fields(out, place as u64, movement, x, y, z, lift, door)
 }

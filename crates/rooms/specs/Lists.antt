@@ -1,4 +1,4 @@
--- The list that a search found, on the node room and in bytes (01, "Tables": "Waypoint record 40 bytes"). Definitions only.
+-- The list that a search found, on the node room and in bytes (01, "Tables", "Waypoint record"; 02, No. 5: 48 bytes). Definitions only.
 use mathlib.Core.Path.{_≡_}
 use mathlib.Core.Bool.{Bool, true, false, cond}
 use mathlib.Core.List.{List, [], _∷_, _++_, reverseAux}
@@ -25,9 +25,9 @@ walk (suc f) a n k = walkBy (ltb k n) (nodeWaypoint a k) (walk f a n (nodeAt a k
 
 -- the list of n nodes that ends at node k, and then t; none where the room has fewer nodes
 unfoldable pub listOf : List ℕ → ℕ → ℕ → List (Feet × Label) → List (Feet × Label)
-listOf a n k t = cond (leb n (length a / 56)) (reverseAux (walk n a n k) t) []
+listOf a n k t = cond (leb n (length a / 64)) (reverseAux (walk n a n k) t) []
 
--- "Waypoint record 40 bytes", one behind another
+-- waypoint records of 48 bytes, one behind another
 abbrev pub waypointBytes : Feet × Label → List ℕ
 waypointBytes w = recordBytes waypointLayout (waypointWords (w .0) (w .1))
 
@@ -36,7 +36,7 @@ listBytes ws = recordsBytes waypointBytes ws
 
 -- "Output past the list stays"; where the output has no room for the list, all of it
 unfoldable pub written : List (Feet × Label) → List ℕ → List ℕ
-written ws old = cond (leb (length ws) (length old / 40)) (listBytes ws ++ drop (40 * length ws) old) old
+written ws old = cond (leb (length ws) (length old / 48)) (listBytes ws ++ drop (48 * length ws) old) old
 
 -- a list written, and how many points it has
 pub record Listed (a : List ℕ) (n k : ℕ) (t : List (Feet × Label)) (r : ℕ) (old out : List ℕ) : Type 0 where

@@ -68,4 +68,4 @@ nodeBytes n = recordBytes nodeLayout (nodeWords (recordOf n))
 
 -- "the node room holds the retained nodes in discovery order, then its old bytes"
 abbrev pub nodeRoom : List ℕ → List (Node Feet Label Note) → List ℕ
-nodeRoom old ns = recordsBytes nodeBytes ns ++ drop (56 * length ns) old
+nodeRoom old ns = recordsBytes nodeBytes ns ++ drop (64 * length ns) old

@@ -1,4 +1,4 @@
-// The rooms of the search (01, "Tables, little-endian records"): node records, frontier records, and the list that is written of them.
+// The rooms of the search (01, "Tables, little-endian records"; 02, No. 5): node records, frontier records, and the list that is written of them.
 //
 // The types stand here, as the raw words of the records, so that whatever bytes a room holds are read and written back as they were. `records` reads one
 // record; the crates `writes`, `scans` and `lists` write one, look through a room, and write the found list. Every public function answers for every room:
@@ -17,19 +17,20 @@ pub struct Feet {
     pub z: u64,
 }
 
-// What an edge says of the point that it leads to: the pattern of its lift, and its movement's number.
+// What an edge says of the point that it leads to: the pattern of its lift, its movement's number, and its door (02, No. 5).
 pub struct Label {
     pub lift: u64,
     pub movement: u64,
+    pub door: u64,
 }
 
-// A waypoint record, 40 bytes: a node record begins with one, and a list consists of them.
+// A waypoint record, 48 bytes: a node record begins with one, and a list consists of them.
 pub struct WaypointRecord {
     pub feet: Feet,
     pub label: Label,
 }
 
-// A node record, 56 bytes: a waypoint, the pattern of its cost, its parent's number, whether it is closed.
+// A node record, 64 bytes: a waypoint, the pattern of its cost, its parent's number, whether it is closed.
 pub struct NodeRecord {
     pub feet: Feet,
     pub label: Label,
@@ -55,3 +56,6 @@ pub struct Counts {
 
 // The parent of the start: none.
 pub const NOBODY: u32 = 4294967295;
+
+// The door of the start, and of an edge that meets none.
+pub const NO_DOOR: u64 = 4294967295;

@@ -1,4 +1,4 @@
-// One record of a room read (01: "Node record 56 bytes", "Frontier record 24 bytes", "Waypoint record 40 bytes").
+// One record of a room read (01, "Tables", with the sizes of 02, No. 5): a waypoint of 48 bytes, a node of 64, a frontier record of 24.
 use crate::Entry;
 use crate::Feet;
 use crate::Label;
@@ -41,7 +41,12 @@ fn waypoint_at(room: &[u8], at: usize) -> WaypointRecord
     let feet = feet_at(room, at);
     let lift = fields::u64_at(room, at + 24);
     let movement = fields::u64_at(room, at + 32);
-    let label = Label { lift, movement };
+    let door = fields::u64_at(room, at + 40);
+    let label = Label {
+        lift,
+        movement,
+        door,
+    };
     WaypointRecord { feet, label }
 }
 
@@ -49,20 +54,20 @@ fn waypoint_at(room: &[u8], at: usize) -> WaypointRecord
 pub fn get_waypoint(list: &[u8], k: usize) -> WaypointRecord
     ensures { λ r. ⌜ r ≡ waypointAt (now (list .entry)) k ⌝ }
 {
-    waypoint_at(list, offset_of(list, 40, k))
+    waypoint_at(list, offset_of(list, 48, k))
 }
 
 // Node k.
 pub fn get_node(nodes: &[u8], k: usize) -> NodeRecord
     ensures { λ r. ⌜ r ≡ nodeAt (now (nodes .entry)) k ⌝ }
 {
-    let at = offset_of(nodes, 56, k);
+    let at = offset_of(nodes, 64, k);
     let waypoint = waypoint_at(nodes, at);
     let feet = waypoint.feet;
     let label = waypoint.label;
-    let cost = fields::u64_at(nodes, at + 40);
-    let parent = fields::u32_at(nodes, at + 48);
-    let closed = fields::u32_at(nodes, at + 52);
+    let cost = fields::u64_at(nodes, at + 48);
+    let parent = fields::u32_at(nodes, at + 56);
+    let closed = fields::u32_at(nodes, at + 60);
     NodeRecord {
         feet,
         label,
@@ -76,7 +81,7 @@ pub fn get_node(nodes: &[u8], k: usize) -> NodeRecord
 pub fn get_feet(nodes: &[u8], k: usize) -> Feet
     ensures { λ r. ⌜ r ≡ nodeAt (now (nodes .entry)) k .feet ⌝ }
 {
-    feet_at(nodes, offset_of(nodes, 56, k))
+    feet_at(nodes, offset_of(nodes, 64, k))
 }
 
 // The frontier record of node k.

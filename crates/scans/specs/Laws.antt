@@ -37,9 +37,9 @@ module _ (p : ℕ → Bool) where
   first-end k n e = rw e
 
 -- a node with another x is not at the point
-pub apart : (a : List ℕ) (q : Feet) (k : ℕ) → sameWord (field 8 a (56 * k)) (q .x) ≡ false → isAt a q k ≡ false
+pub apart : (a : List ℕ) (q : Feet) (k : ℕ) → sameWord (field 8 a (64 * k)) (q .x) ≡ false → isAt a q k ≡ false
 unfolding nodeAt samePoint
-apart a q k h = rw (add-zero (56 * k), h)
+apart a q k h = rw (add-zero (64 * k), h)
 
 -- ---- the next of the frontier
 

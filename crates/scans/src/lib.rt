@@ -22,8 +22,8 @@ fn next_near(nodes: &[u8], from: usize, n: usize, q: Feet) -> usize
 {
     let border = n % NODES;
     let mut i = from;
-    if 56 * border <= nodes.len() {
-        while i < border && !same_word(fields::u64_at(nodes, 56 * i), q.x) {
+    if 64 * border <= nodes.len() {
+        while i < border && !same_word(fields::u64_at(nodes, 64 * i), q.x) {
             i += 1;
         }
     }

@@ -69,7 +69,7 @@ module _ (w : Window) (cells perms shapes boxes : List ℕ) (r : Request) (body 
   -- "On 1 to 5 the output is untouched", "Output past the list stays."
   abbrev pub outBy : Option Outcome → List ℕ → List ℕ
   outBy (some o) old = old
-  outBy none old = listBytes (listIn (endOf here r body)) ++ drop (40 * length (listIn (endOf here r body))) old
+  outBy none old = listBytes (listIn (endOf here r body)) ++ drop (48 * length (listIn (endOf here r body))) old
 
   -- for the four rooms that are lent
   abbrev beforeSearchIn : (nodes front index out : List ℕ) → Option Outcome

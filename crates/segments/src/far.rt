@@ -132,6 +132,7 @@ fn keep_cell(
         support: _,
         first,
         count,
+        door: _,
     } = space::cell_at(w, cells, perms, shapes, x, y, z) else {
         return held;
     };

@@ -198,6 +198,6 @@ module _ (perms shapes : List ℕ) (state shape : ℕ) where
   no-state h = rw (le-ltb state (length perms) h)
 
   pub by-shape : state < length perms →
-      known perms shapes state shape ≡ knownBy (entryAt shapes shape) (λ first count. ofParts (getD perms state 0) first count)
+      known perms shapes state shape ≡ knownBy (entryAt shapes shape) (λ first count. ofParts (getD perms state 0) first count state)
   unfolding known
   by-shape h = rw (lt-ltb state (length perms) h)

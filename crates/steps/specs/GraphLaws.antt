@@ -47,7 +47,7 @@ self p = rw (eq-eqb (p .x) (p .x) refl, eq-eqb (p .y) (p .y) refl, eq-eqb (p .z)
 
 alike-self : (l : Label) → alike l l ≡ true
 unfolding alike sameWord
-alike-self l = rw (eq-eqb (l .movement) (l .movement) refl, eq-eqb (canonicalWord (l .lift)) (canonicalWord (l .lift)) refl)
+alike-self l = rw (eq-eqb (l .movement) (l .movement) refl, eq-eqb (canonicalWord (l .lift)) (canonicalWord (l .lift)) refl, eq-eqb (l .door) (l .door) refl)
 
 pub graph-laws : (sp : Space) (r : Request) (body : Body) → GraphLaws (graph sp r body)
 unfolding graph canonical samePoint sameWord pointOf coordinate

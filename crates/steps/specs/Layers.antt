@@ -54,12 +54,12 @@ tops-short band x z (b ∷ bs) = go (reaches band x z b) (tops-short band x z bs
 -- how many tops a cell has at most: an unknown one is no support
 abbrev most : Cell → ℕ
 most Unknown = 0
-most (Known o s first count) = count
+most (Known o s first count d) = count
 
 cell-tops : (band : Band) (x z : Float) (boxes : List ℕ) (c : Cell) (p : Point) → length (topsIn band x z (blockOf boxes c p)) ≤ most c
 unfolding topsIn blockOf
 cell-tops band x z boxes Unknown p = omega arith
-cell-tops band x z boxes (Known o s first count) p = go s
+cell-tops band x z boxes (Known o s first count d) p = go s
   where
     read : List Aabb
     read = run count (drop (48 * first) boxes) 0
@@ -74,10 +74,10 @@ cell-tops band x z boxes (Known o s first count) p = go s
 -- ---- a cell of a world that is not bad: at most 16, and none outside the window
 
 module _ (w : Window) (cells perms shapes boxes : List ℕ) (good : GoodWorld w cells shapes boxes) where
-  shape-most : (p shape : ℕ) (e : Entry) → entryAt shapes shape ≡ e → most (knownBy e (λ first count. ofParts p first count)) ≤ 16
+  shape-most : (p shape state : ℕ) (e : Entry) → entryAt shapes shape ≡ e → most (knownBy e (λ first count. ofParts p first count state)) ≤ 16
   unfolding ofParts
-  shape-most p shape Missing q = omega arith
-  shape-most p shape (Of first count) q = let h = entry-is shapes shape first count q in go (collides p) (omega (arith, h .2, good .counts shape (h .0)))
+  shape-most p shape state Missing q = omega arith
+  shape-most p shape state (Of first count) q = let h = entry-is shapes shape first count q in go (collides p) (omega (arith, h .2, good .counts shape (h .0)))
     where
       go : (t : Bool) → count ≤ 16 → cond t count 0 ≤ 16
       go true h = h
@@ -87,8 +87,8 @@ module _ (w : Window) (cells perms shapes boxes : List ℕ) (good : GoodWorld w 
   unfolding known
   known-most state shape = go (ltb state (length perms))
     where
-      go : (t : Bool) → most (cond t (knownBy (entryAt shapes shape) (λ first count. ofParts (getD perms state 0) first count)) Unknown) ≤ 16
-      go true = shape-most (getD perms state 0) shape (entryAt shapes shape) refl
+      go : (t : Bool) → most (cond t (knownBy (entryAt shapes shape) (λ first count. ofParts (getD perms state 0) first count state)) Unknown) ≤ 16
+      go true = shape-most (getD perms state 0) shape state (entryAt shapes shape) refl
       go false = omega arith
 
   cell-most : (p : Place) → most (cellIn cells perms shapes p) ≤ 16

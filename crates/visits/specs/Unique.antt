@@ -65,7 +65,7 @@ record Made (s : State Feet Label Note ℕ) (budget : ℕ) (r : Counts) (a f b g
   few : r .retained ≤ budget
 
 module _ {s : State Feet Label Note ℕ} {budget : ℕ} {r₁ r₂ : Counts} {a f b₁ g₁ b₂ g₂ : List ℕ} where
-  one-made : 56 * budget ≤ length a → 24 * budget ≤ length f → Lent a f b₁ g₁ → Lent a f b₂ g₂ →
+  one-made : 64 * budget ≤ length a → 24 * budget ≤ length f → Lent a f b₁ g₁ → Lent a f b₂ g₂ →
       Made s budget r₁ a f b₁ g₁ → Made s budget r₂ a f b₂ g₂ → (r₁ ≡ r₂) × (b₁ ≡ b₂) × (g₁ ≡ g₂)
   unfolding stateOf
   one-made p q l₁ l₂ m₁ m₂ = (

@@ -28,7 +28,7 @@ use Rattle.visits.specs.Best.{relaxed, best}
 
 -- rooms large enough for a budget whose nodes have numbers below none's, and counts that can grow by d
 pub record Ready (a f : List ℕ) (budget d : ℕ) (c : Counts) : Type 0 where
-  pub node-room : 56 * budget ≤ length a
+  pub node-room : 64 * budget ≤ length a
   pub front-room : 24 * budget ≤ length f
   pub numbered : budget ≤ nobody
   pub few : c .retained ≤ budget
@@ -39,13 +39,13 @@ pub record Ready (a f : List ℕ) (budget d : ℕ) (c : Counts) : Type 0 where
 -- the same as a test, for d = 1, with a node k that is there
 unfoldable pub ready : ℕ → ℕ → ℕ → ℕ → Counts → Bool
 ready nodes front budget k c =
-    (((leb budget (nodes / 56) && leb budget (front / 24)) && leb budget nobody)
+    (((leb budget (nodes / 64) && leb budget (front / 24)) && leb budget nobody)
     && (leb (c .retained) budget && ltb k (c .retained)))
     && ((ltb (c .pushed) (2 ^ 63) && ltb (c .dropped) (2 ^ 63)) && ltb (c .closed) (2 ^ 63))
 
 -- past m records nothing is changed
 pub record Kept (m : ℕ) (a f b g : List ℕ) : Type 0 where
-  pub nodes : (j : ℕ) → m ≤ j → drop (56 * j) b ≡ drop (56 * j) a
+  pub nodes : (j : ℕ) → m ≤ j → drop (64 * j) b ≡ drop (64 * j) a
   pub front : (j : ℕ) → m ≤ j → drop (24 * j) g ≡ drop (24 * j) f
 
 -- the first n nodes are where they were

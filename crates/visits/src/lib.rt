@@ -36,7 +36,7 @@ const FAR: u64 = 0x8000_0000_0000_0000;
 pub fn is_ready(nodes: usize, front: usize, budget: usize, k: usize, c: Counts) -> bool
     ensures { λ r. ⌜ r ≡ ready nodes front budget k c ⌝ }
 {
-    let roomy = (budget <= nodes / 56) & (budget <= front / 24) & (budget <= 4294967295);
+    let roomy = (budget <= nodes / 64) & (budget <= front / 24) & (budget <= 4294967295);
     let there = (c.retained <= budget) & (k < c.retained);
     let grows = (c.pushed < FAR) & (c.dropped < FAR) & (c.closed < FAR);
     roomy & there & grows
@@ -87,6 +87,7 @@ pub fn begin(nodes: &mut [u8], front: &mut [u8], budget: usize, start: Feet) -> 
     let label = Label {
         lift: 0,
         movement: 0,
+        door: rooms::NO_DOOR,
     };
     let node = NodeRecord {
         feet: start,

@@ -41,16 +41,16 @@ module _ (sp : Space) (r : Request) (body : Body) (list : List ℕ) where
   tested : validRequest r body ≡ true → isRouteList sp r body list ≡ true → RouteList sp r body list
   unfolding isRouteList
   tested v e =
-      let front = and-first (eqb (length list % 40) 0 && endsGood sp r body) _ e in
-      let ends = ends-parts sp r body (and-second (eqb (length list % 40) 0) _ front) in
+      let front = and-first (eqb (length list % 48) 0 && endsGood sp r body) _ e in
+      let ends = ends-parts sp r body (and-second (eqb (length list % 48) 0) _ front) in
       record {
-        whole = eqb-true _ _ (and-first (eqb (length list % 40) 0) _ front);
+        whole = eqb-true _ _ (and-first (eqb (length list % 48) 0) _ front);
         route = record {
           valid = v;
           goal-in-range = ends .0;
           start-standable = ends .1 .0;
           goal-standable = ends .1 .1;
-          way = route-test-exact (graph sp r body) (waypoints list) .0 (and-second (eqb (length list % 40) 0 && endsGood sp r body) _ e);
+          way = route-test-exact (graph sp r body) (waypoints list) .0 (and-second (eqb (length list % 48) 0 && endsGood sp r body) _ e);
         };
       }
 
@@ -59,7 +59,7 @@ module _ (sp : Space) (r : Request) (body : Body) (list : List ℕ) where
   passes l =
       let i = l .route in
       and-both _ _
-      (and-both _ _ (eq-eqb (length list % 40) 0 (l .whole)) (ends-all sp r body (i .goal-in-range) (i .start-standable) (i .goal-standable)))
+      (and-both _ _ (eq-eqb (length list % 48) 0 (l .whole)) (ends-all sp r body (i .goal-in-range) (i .start-standable) (i .goal-standable)))
       (route-test-exact (graph sp r body) (waypoints list) .1 (i .way))
 
 -- ---- the answer

@@ -30,15 +30,15 @@ use Rattle.walk_back.specs.WalkBack.{walkedBy, goingOn, walkedList}
 
 -- the records from record k on
 abbrev pub rest : List ℕ → ℕ → List (Feet × Label)
-rest s k = entriesFrom s k (length s / 40 - k)
+rest s k = entriesFrom s k (length s / 48 - k)
 
-pub rest-on : (s : List ℕ) (k : ℕ) → k < length s / 40 → rest s k ≡ entry (waypointAt s k) ∷ rest s (k + 1)
+pub rest-on : (s : List ℕ) (k : ℕ) → k < length s / 48 → rest s k ≡ entry (waypointAt s k) ∷ rest s (k + 1)
 unfolding entriesFrom
-rest-on s k h = let e : length s / 40 - k ≡ suc (length s / 40 - (k + 1)) = omega arith in rw (e, add-one)
+rest-on s k h = let e : length s / 48 - k ≡ suc (length s / 48 - (k + 1)) = omega arith in rw (e, add-one)
 
-pub rest-end : (s : List ℕ) (k : ℕ) → length s / 40 ≤ k → rest s k ≡ []
+pub rest-end : (s : List ℕ) (k : ℕ) → length s / 48 ≤ k → rest s k ≡ []
 unfolding entriesFrom
-rest-end s k h = let e : length s / 40 - k ≡ 0 = omega arith in rw e
+rest-end s k h = let e : length s / 48 - k ≡ 0 = omega arith in rw e
 
 module _ {P L : Type 0} (𝓖 : Graph P L) (k : ℕ) (p : P) (w : P × L) (ws : List (P × L)) where
   pair-on : joined 𝓖 (isLast 𝓖 ws) p w ≡ true → going 𝓖 k p (w ∷ ws) ≡ going 𝓖 (k + 1) (w .0) ws
@@ -54,23 +54,23 @@ module _ (sp : Space) (r : Request) (body : Body) (s : List ℕ) (p : Feet) (k :
   abbrev pub goingFrom : Going Feet Label
   goingFrom = going (graph sp r body) k p (rest s k)
 
-  pub at-end : length s / 40 ≤ k → goingFrom ≡ cond (samePoint (feetOf (r .goal)) p) Through Astray
+  pub at-end : length s / 48 ≤ k → goingFrom ≡ cond (samePoint (feetOf (r .goal)) p) Through Astray
   unfolding going graph
   at-end h = rw (rest-end s k h, turned p (feetOf (r .goal)))
 
-  module _ (h : k < length s / 40) where
-    last-is : isLast (graph sp r body) (rest s (k + 1)) ≡ eqb (k + 1) (length s / 40)
-    last-is = go (eqb (k + 1) (length s / 40)) refl
+  module _ (h : k < length s / 48) where
+    last-is : isLast (graph sp r body) (rest s (k + 1)) ≡ eqb (k + 1) (length s / 48)
+    last-is = go (eqb (k + 1) (length s / 48)) refl
       where
-        go : (b : Bool) → eqb (k + 1) (length s / 40) ≡ b → isLast (graph sp r body) (rest s (k + 1)) ≡ b
-        go true e = rw (rest-end s (k + 1) (omega (arith, eqb-true (k + 1) (length s / 40) e)))
-        go false e = rw (rest-on s (k + 1) (omega (arith, eqb-false (k + 1) (length s / 40) e)))
+        go : (b : Bool) → eqb (k + 1) (length s / 48) ≡ b → isLast (graph sp r body) (rest s (k + 1)) ≡ b
+        go true e = rw (rest-end s (k + 1) (omega (arith, eqb-true (k + 1) (length s / 48) e)))
+        go false e = rw (rest-on s (k + 1) (omega (arith, eqb-false (k + 1) (length s / 48) e)))
 
     module _ (v : WaypointRecord) (here : v ≡ waypointAt s k) where
-      pub goes-on : true ≡ joined (graph sp r body) (eqb (k + 1) (length s / 40)) p (entry v) → goingFrom ≡ going (graph sp r body) (k + 1) (v .feet) (rest s (k + 1))
+      pub goes-on : true ≡ joined (graph sp r body) (eqb (k + 1) (length s / 48)) p (entry v) → goingFrom ≡ going (graph sp r body) (k + 1) (v .feet) (rest s (k + 1))
       goes-on e = rw (rest-on s k h, here) (pair-on (graph sp r body) k p (entry (waypointAt s k)) (rest s (k + 1)) (rw (last-is, ← here) (sym e)))
 
-      pub breaks : false ≡ joined (graph sp r body) (eqb (k + 1) (length s / 40)) p (entry v) → goingFrom ≡ Broken k p (entry v) (eqb (k + 1) (length s / 40))
+      pub breaks : false ≡ joined (graph sp r body) (eqb (k + 1) (length s / 48)) p (entry v) → goingFrom ≡ Broken k p (entry v) (eqb (k + 1) (length s / 48))
       breaks e = rw (rest-on s k h, here, ← last-is) (pair-broken (graph sp r body) k p (entry (waypointAt s k)) (rest s (k + 1)) (rw (last-is, ← here) (sym e)))
 
 -- ---- the tests before the pairs: what is answered at the first that fails

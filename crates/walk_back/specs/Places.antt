@@ -37,15 +37,15 @@ module _ (sp : Space) (r : Request) (body : Body) (s : List ℕ) where
   pub record BreaksAt (m : ℕ) (fault : PairFault) : Type 0 where
     pub earlier : ℕ
     pub place : m ≡ earlier + 1
-    pub inside : m < length s / 40
+    pub inside : m < length s / 48
     pub steps-before : (j : ℕ) → j < earlier → hasStep (graph sp r body) (waypointAt s j .feet) (entry (waypointAt s (j + 1))) ≡ true
-    pub none : joined (graph sp r body) (eqb (m + 1) (length s / 40)) (waypointAt s earlier .feet) (entry (waypointAt s m)) ≡ false
-    pub why : fault ≡ pairFault sp r body (eqb (m + 1) (length s / 40)) (waypointAt s earlier .feet) (waypointAt s m .feet)
+    pub none : joined (graph sp r body) (eqb (m + 1) (length s / 48)) (waypointAt s earlier .feet) (entry (waypointAt s m)) ≡ false
+    pub why : fault ≡ pairFault sp r body (eqb (m + 1) (length s / 48)) (waypointAt s earlier .feet) (waypointAt s m .feet)
 
   -- Each pair of the list is a graph step, and its last point is not the goal.
   pub record EndsElsewhere : Type 0 where
-    pub steps-through : stepsAlong (graph sp r body) (waypointAt s 0 .feet) (entriesFrom s 1 (length s / 40 - 1)) ≡ true
-    pub elsewhere : samePoint (lastOf (graph sp r body) (waypointAt s 0 .feet) (entriesFrom s 1 (length s / 40 - 1))) (feetOf (r .goal)) ≡ false
+    pub steps-through : stepsAlong (graph sp r body) (waypointAt s 0 .feet) (entriesFrom s 1 (length s / 48 - 1)) ≡ true
+    pub elsewhere : samePoint (lastOf (graph sp r body) (waypointAt s 0 .feet) (entriesFrom s 1 (length s / 48 - 1))) (feetOf (r .goal)) ≡ false
 
   -- records from k + 1 on, some of them before one and some behind it: those before are the records up to `at`, and then comes w
   record Along (k c : ℕ) (before : List (Feet × Label)) (w : Feet × Label) (behind : List (Feet × Label)) : Type 0 where
@@ -84,19 +84,19 @@ module _ (sp : Space) (r : Request) (body : Body) (s : List ℕ) where
       one {i} false q here on l m = let d = eqb-false i k q in on (omega arith) (omega arith)
 
   -- the last pair is the one that ends the list
-  ends-list : (behind : List (Feet × Label)) (m : ℕ) → length s / 40 ≡ m + 1 + length behind → isLast (graph sp r body) behind ≡ eqb (m + 1) (length s / 40)
-  ends-list [] m e = sym (eq-eqb (m + 1) (length s / 40) (omega arith))
-  ends-list (u ∷ us) m e = sym (ne-eqb (m + 1) (length s / 40) (λ z. omega arith))
+  ends-list : (behind : List (Feet × Label)) (m : ℕ) → length s / 48 ≡ m + 1 + length behind → isLast (graph sp r body) behind ≡ eqb (m + 1) (length s / 48)
+  ends-list [] m e = sym (eq-eqb (m + 1) (length s / 48) (omega arith))
+  ends-list (u ∷ us) m e = sym (ne-eqb (m + 1) (length s / 48) (λ z. omega arith))
 
   -- where the list breaks off, it does so in its records
   pub broken-at : {m : ℕ} {q : Feet} {w : Feet × Label} {last : Bool} → goingOn sp r body s ≡ Broken m q w last → BreaksAt m (pairFault sp r body last q (w .0))
   broken-at {m} {q} {w} {last} e =
       let f = breaks-at-the-first-pair (graph sp r body) 1 (waypointAt s 0 .feet) _ e in
-      let a = along (f .before) 0 (length s / 40 - 1) (f .list) (f .steps-before) in
+      let a = along (f .before) 0 (length s / 48 - 1) (f .list) (f .steps-before) in
       let ends = a .ends (length (f .before)) (omega arith) in
-      let whole : length s / 40 ≡ m + 1 + length (f .behind) = omega (arith, a .count, f .place) in
+      let whole : length s / 48 ≡ m + 1 + length (f .behind) = omega (arith, a .count, f .place) in
       let placed : m ≡ length (f .before) + 1 = omega (arith, f .place) in
-      let closed : last ≡ eqb (m + 1) (length s / 40) = f .last-pair ∙ ends-list (f .behind) m whole in
+      let closed : last ≡ eqb (m + 1) (length s / 48) = f .last-pair ∙ ends-list (f .behind) m whole in
       let left : q ≡ waypointAt s (length (f .before)) .feet = f .leaves ∙ ends .0 in
       let later : w ≡ entry (waypointAt s m) = ends .1 ∙ ap (λ (k : ℕ). entry (waypointAt s k)) (sym placed) in
       record {
@@ -110,4 +110,4 @@ module _ (sp : Space) (r : Request) (body : Body) (s : List ℕ) where
 
   pub ends-elsewhere : goingOn sp r body s ≡ Astray → EndsElsewhere
   unfolding graph
-  ends-elsewhere e = let a = astray-is (graph sp r body) 1 (waypointAt s 0 .feet) (entriesFrom s 1 (length s / 40 - 1)) e in record { steps-through = a .0; elsewhere = a .1 }
+  ends-elsewhere e = let a = astray-is (graph sp r body) 1 (waypointAt s 0 .feet) (entriesFrom s 1 (length s / 48 - 1)) e in record { steps-through = a .0; elsewhere = a .1 }

@@ -70,7 +70,7 @@ module _ (sp : Space) (r : Request) (body : Body) where
   -- The test of a list: no partial record, good ends, and from the start by graph steps to the goal, the last pair allowed to be a connector. An empty list
   -- fails it, and so does a movement above 3, for no edge has one (`movement-above-three` of claims).
   unfoldable pub isRouteList : List ℕ → Bool
-  isRouteList list = eqb (length list % 40) 0 && endsGood sp r body && isRoute (graph sp r body) (waypoints list)
+  isRouteList list = eqb (length list % 48) 0 && endsGood sp r body && isRoute (graph sp r body) (waypoints list)
 
   -- "Route: valid request; goal in range; both ends standable; points compared by that rule, the start first (Walk, lift 0); each pair a graph step with its
   -- edge's movement and lift, the last pair allowed to be a connector; the last point equal to the goal. A single point is a route when start equals
@@ -86,7 +86,7 @@ module _ (sp : Space) (r : Request) (body : Body) where
 
   -- a list of whole records that is one
   pub record RouteList (list : List ℕ) : Type 0 where
-    pub whole : length list % 40 ≡ 0
+    pub whole : length list % 48 ≡ 0
     pub route : IsRoute (waypoints list)
 
   -- "then for each pair in order the edge's reason, not a graph step (nor, at the last pair, a connector), wrong movement or lift; then wrong end. With a pair's
@@ -98,7 +98,7 @@ module _ (sp : Space) (r : Request) (body : Body) where
 
   -- the records behind the first, from its point on
   abbrev pub goingOn : List ℕ → Going Feet Label
-  goingOn list = going (graph sp r body) 1 (waypointAt list 0 .feet) (entriesFrom list 1 (length list / 40 - 1))
+  goingOn list = going (graph sp r body) 1 (waypointAt list 0 .feet) (entriesFrom list 1 (length list / 48 - 1))
 
   -- "bad list (judged after 4), goal out of range, start not standable, goal not standable, wrong start; then for each pair in order .."
   unfoldable pub walkedList : List ℕ → Walked

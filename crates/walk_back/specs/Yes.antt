@@ -35,50 +35,50 @@ use Rattle.walk_back.specs.Movements.{movements-named}
 
 -- whole records, and not none; the start's first
 abbrev begins : Request → List ℕ → Bool
-begins r s = eqb (length s % 40) 0 && ltb 0 (length s) && starts (r .start) (waypointAt s 0)
+begins r s = eqb (length s % 48) 0 && ltb 0 (length s) && starts (r .start) (waypointAt s 0)
 
 -- ---- the test of a list, by its parts
 
 no-waypoints : (s : List ℕ) → length s ≡ 0 → waypoints s ≡ []
 unfolding waypoints entriesFrom
-no-waypoints s e = let d : length s / 40 ≡ 0 = omega arith in rw d
+no-waypoints s e = let d : length s / 48 ≡ 0 = omega arith in rw d
 
-waypoints-are : (s : List ℕ) → 0 < length s / 40 → waypoints s ≡ entry (waypointAt s 0) ∷ rest s 1
+waypoints-are : (s : List ℕ) → 0 < length s / 48 → waypoints s ≡ entry (waypointAt s 0) ∷ rest s 1
 unfolding waypoints
-waypoints-are s h = let e : length s / 40 ≡ length s / 40 - 0 = omega arith in ap (entriesFrom s 0) e ∙ rest-on s 0 h
+waypoints-are s h = let e : length s / 48 ≡ length s / 48 - 0 = omega arith in ap (entriesFrom s 0) e ∙ rest-on s 0 h
 
 module _ (sp : Space) (r : Request) (body : Body) (s : List ℕ) where
-  partial-record : eqb (length s % 40) 0 ≡ false → isRouteList sp r body s ≡ false
+  partial-record : eqb (length s % 48) 0 ≡ false → isRouteList sp r body s ≡ false
   unfolding isRouteList
   partial-record e = rw e
 
   empty-list : length s ≡ 0 → isRouteList sp r body s ≡ false
   unfolding isRouteList isRoute
   empty-list e =
-      ap (λ (b : Bool). eqb (length s % 40) 0 && endsGood sp r body && b) (ap (isRoute (graph sp r body)) (no-waypoints s e))
-      ∙ and-false (eqb (length s % 40) 0 && endsGood sp r body)
+      ap (λ (b : Bool). eqb (length s % 48) 0 && endsGood sp r body && b) (ap (isRoute (graph sp r body)) (no-waypoints s e))
+      ∙ and-false (eqb (length s % 48) 0 && endsGood sp r body)
 
   first-is : (v : WaypointRecord) (ws : List (Feet × Label)) → isRoute (graph sp r body) (entry v ∷ ws) ≡ (starts (r .start) v && isWay (graph sp r body) (v .feet) ws)
   unfolding isRoute graph
   first-is v ws = sym (and-assoc (samePoint (feetOf (r .start)) (v .feet)) (alike standing (v .label)) _)
 
   -- the first record, and those behind it
-  in-order : eqb (length s % 40) 0 ≡ true → 0 < length s → isRouteList sp r body s ≡ (endsGood sp r body && (starts (r .start) (waypointAt s 0) && isWay (graph sp r body) (waypointAt s 0 .feet) (rest s 1)))
+  in-order : eqb (length s % 48) 0 ≡ true → 0 < length s → isRouteList sp r body s ≡ (endsGood sp r body && (starts (r .start) (waypointAt s 0) && isWay (graph sp r body) (waypointAt s 0 .feet) (rest s 1)))
   unfolding isRouteList
   in-order e l =
-      let whole = eqb-true (length s % 40) 0 e in
-      let h : 0 < length s / 40 = omega (arith, whole) in
+      let whole = eqb-true (length s % 48) 0 e in
+      let h : 0 < length s / 48 = omega (arith, whole) in
       rw e (ap (λ (b : Bool). endsGood sp r body && b) (ap (isRoute (graph sp r body)) (waypoints-are s h) ∙ first-is (waypointAt s 0) (rest s 1)))
 
   -- whole records, and not none; the start first; good ends; and a way
   list-is : (begins r s && endsGood sp r body && isWay (graph sp r body) (waypointAt s 0 .feet) (rest s 1)) ≡ isRouteList sp r body s
-  list-is = go (eqb (length s % 40) 0) refl (ltb 0 (length s)) refl
+  list-is = go (eqb (length s % 48) 0) refl (ltb 0 (length s)) refl
     where
       turn : (a b c : Bool) → (a && b && c) ≡ (b && (a && c))
       turn true b c = refl
       turn false b c = sym (and-false b)
 
-      go : (a : Bool) → eqb (length s % 40) 0 ≡ a → (b : Bool) → ltb 0 (length s) ≡ b →
+      go : (a : Bool) → eqb (length s % 48) 0 ≡ a → (b : Bool) → ltb 0 (length s) ≡ b →
           (a && b && starts (r .start) (waypointAt s 0) && endsGood sp r body && isWay (graph sp r body) (waypointAt s 0 .feet) (rest s 1)) ≡ isRouteList sp r body s
       go true e true f = turn (starts (r .start) (waypointAt s 0)) (endsGood sp r body) _ ∙ sym (in-order e (ltb-true 0 (length s) f))
       go true e false f = sym (empty-list (omega (arith, ltb-false 0 (length s) f)))
@@ -138,22 +138,22 @@ module _ (sp : Space) (r : Request) (body : Body) (s : List ℕ) where
   -- a route has no movement above 3
   not-above : isRouteList sp r body s ≡ true → has above3 (waypoints s) ≡ false
   unfolding isRouteList
-  not-above e = movements-named sp r body (route-test-exact (graph sp r body) (waypoints s) .0 (and-second (eqb (length s % 40) 0 && endsGood sp r body) _ e))
+  not-above e = movements-named sp r body (route-test-exact (graph sp r body) (waypoints s) .0 (and-second (eqb (length s % 48) 0 && endsGood sp r body) _ e))
 
   pub yes-exactly : isYes (walkedList sp r body s) ≡ isRouteList sp r body s
   unfolding walkedList badList
   yes-exactly =
-      chain (not (eqb (length s % 40) 0) || eqb (length s) 0 || has above3 (waypoints s)) (inRange r (r .goal)) (standable sp body (r .start)) (standable sp body (r .goal)) (starts (r .start) (waypointAt s 0)) _
+      chain (not (eqb (length s % 48) 0) || eqb (length s) 0 || has above3 (waypoints s)) (inRange r (r .goal)) (standable sp body (r .start)) (standable sp body (r .goal)) (starts (r .start) (waypointAt s 0)) _
       ∙ rw (by-going (going (graph sp r body) 1 (waypointAt s 0 .feet) (rest s 1)), through-is (graph sp r body) 1 (waypointAt s 0 .feet) (rest s 1)) (go (has above3 (waypoints s)) refl (isRouteList sp r body s) refl)
     where
       go : (m : Bool) → has above3 (waypoints s) ≡ m → (t : Bool) → isRouteList sp r body s ≡ t →
-          (not (not (eqb (length s % 40) 0) || eqb (length s) 0 || m) && inRange r (r .goal) && standable sp body (r .start) && standable sp body (r .goal) && starts (r .start) (waypointAt s 0) && isWay (graph sp r body) (waypointAt s 0 .feet) (rest s 1))
+          (not (not (eqb (length s % 48) 0) || eqb (length s) 0 || m) && inRange r (r .goal) && standable sp body (r .start) && standable sp body (r .goal) && starts (r .start) (waypointAt s 0) && isWay (graph sp r body) (waypointAt s 0 .feet) (rest s 1))
           ≡ isRouteList sp r body s
       go true e true f = absurd (true-false e (not-above f))
-      go true e false f = bad-none (eqb (length s % 40) 0) (eqb (length s) 0) _ _ _ _ _ ∙ sym f
+      go true e false f = bad-none (eqb (length s % 48) 0) (eqb (length s) 0) _ _ _ _ _ ∙ sym f
         where
           bad-none : (w n i a b st way : Bool) → (not (not w || n || true) && i && a && b && st && way) ≡ false
           bad-none true true i a b st way = refl
           bad-none true false i a b st way = refl
           bad-none false n i a b st way = refl
-      go false e t f = shuffle (eqb (length s % 40) 0) (eqb (length s) 0) _ _ _ _ _ ∙ rw empty-is (unfold endsGood in list-is sp r body s)
+      go false e t f = shuffle (eqb (length s % 48) 0) (eqb (length s) 0) _ _ _ _ _ ∙ rw empty-is (unfold endsGood in list-is sp r body s)

@@ -38,7 +38,7 @@ fn leads(
 ) -> Walked
     ensures { λ a. ⌜ a ≡ walkedBy (space w (now (cells .entry)) (now (perms .entry)) (now (shapes .entry)) (now (boxes .entry))) r body (goingOn (space w (now (cells .entry)) (now (perms .entry)) (now (shapes .entry)) (now (boxes .entry))) r body (now (list .entry))) ⌝ }
 {
-    let n = list.len() / 40;
+    let n = list.len() / 48;
     let first = rooms::get_waypoint(list, 0);
     let mut from = first.feet;
     let mut k: usize = 1;

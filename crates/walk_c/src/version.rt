@@ -7,5 +7,5 @@ ghost use Rattle.walk_c.specs.Version.{version};
 pub extern "C" fn walkprint_version() -> u64
     ensures { λ r. ⌜ r ≡ version ⌝ }
 {
-    3000
+    4000
 }

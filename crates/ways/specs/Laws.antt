@@ -13,7 +13,7 @@ use Rattle.moves.specs.declared.answer.Movement.{Movement}
 use Rattle.moves.specs.declared.answer.Reason.the-variants.{TargetOutOfRange, RaisedOutOfRange, TargetNotStandable, LiftBlocked, CrossingBlocked, SettleBlocked, Unsupported}
 use Rattle.moves.specs.declared.answer.EdgeCheck.the-variants.{Passes, Fails}
 use Rattle.moves.specs.Moves.{checkGiven}
-use Rattle.ways.specs.Ways.{raised, liftArea, crossingArea, settleArea, wayCheck}
+use Rattle.ways.specs.Ways.{raised, liftArea, crossingArea, settleArea, waypointBy, wayCheck}
 
 module _ (sp : Space) (r : Request) (body : Body) (from to : Point) (lift : Float) (movement : Movement) where
   pub target-out : inRange r to ≡ false → checkGiven (Fails TargetOutOfRange) ≡ checkGiven (wayCheck sp r body from to lift movement)
@@ -51,6 +51,6 @@ module _ (sp : Space) (r : Request) (body : Body) (from to : Point) (lift : Floa
               unsupported g = rw (a, b, c, d, e, f, g)
 
               pub passes : supported sp (body .width) from to ≡ true →
-                  checkGiven (Passes (record { feet = to; lift = lift; movement = movement })) ≡ checkGiven (wayCheck sp r body from to lift movement)
+                  checkGiven (Passes (waypointBy sp body from to lift movement)) ≡ checkGiven (wayCheck sp r body from to lift movement)
               unfolding wayCheck
               passes g = rw (a, b, c, d, e, f, g)

@@ -1,4 +1,6 @@
--- The way of an edge (01, The graph, "Edge") and its checks, the first that fails told (02, No. 3), over a space, a request and a body. Definitions only.
+-- The way of an edge (01, The graph, "Edge"), its checks, the first that fails told (02, No. 3), and its door (02, No. 5), over a space, a request and a body.
+-- Definitions only.
+use Prim.Native.Nat.{ℕ}
 use mathlib.Core.Bool.{cond}
 use lib.Ieee.{Float, binary64, add}
 use Rattle.floats.specs.Floats.{nought}
@@ -9,9 +11,11 @@ use Rattle.world.specs.declared.Request.{Request}
 use Rattle.world.specs.Boxes.{fromFeet, expandTowards, minus}
 use Rattle.world.specs.Space.{Space}
 use Rattle.clear.specs.Clear.{clear}
+use Rattle.clear.specs.Doors.{orElse, doorIn}
 use Rattle.support.specs.Support.{supported}
 use Rattle.places.specs.Places.{inRange, standable}
 use Rattle.moves.specs.declared.answer.Movement.{Movement}
+use Rattle.moves.specs.declared.answer.Waypoint.{Waypoint}
 use Rattle.moves.specs.declared.answer.Reason.the-variants.{TargetOutOfRange, RaisedOutOfRange, TargetNotStandable, LiftBlocked, CrossingBlocked, SettleBlocked, Unsupported}
 use Rattle.moves.specs.declared.answer.EdgeCheck.{EdgeCheck}
 use Rattle.moves.specs.declared.answer.EdgeCheck.the-variants.{Passes, Fails}
@@ -40,6 +44,15 @@ crossingArea body from to lift = swept body (raised from lift) (minus (across fr
 abbrev pub settleArea : Body → Point → Point → Float → Aabb
 settleArea body from to lift = swept body (across from lift to) (minus to (across from lift to))
 
+-- 02, No. 5: "the first crossed cell that .. intersects a corridor area, taken in lift, crossing, settle order"
+unfoldable pub wayDoor : Space → Body → Point → Point → Float → ℕ
+wayDoor sp body from to lift =
+    orElse (doorIn sp (liftArea body from lift)) (orElse (doorIn sp (crossingArea body from to lift)) (doorIn sp (settleArea body from to lift)))
+
+-- the waypoint at the end of a way
+abbrev pub waypointBy : Space → Body → Point → Point → Float → Movement → Waypoint
+waypointBy sp body from to lift movement = record { feet = to; lift = lift; movement = movement; door = wayDoor sp body from to lift }
+
 -- "Then target and raised point in range, target standable, the lift, crossing and settle areas clear, the segment supported.": 02, No. 3, tells the first of
 -- these that is not so, "target out of range, raised point out of range, target not standable, lift blocked, crossing blocked, settle blocked, segment
 -- unsupported, in 01's order"; and where all are so, the way leads to its waypoint.
@@ -52,7 +65,7 @@ wayCheck sp r body from to lift movement =
     (cond (clear sp (crossingArea body from to lift))
     (cond (clear sp (settleArea body from to lift))
     (cond (supported sp (body .width) from to)
-    (Passes (record { feet = to; lift = lift; movement = movement }))
+    (Passes (waypointBy sp body from to lift movement))
     (Fails Unsupported))
     (Fails SettleBlocked))
     (Fails CrossingBlocked))

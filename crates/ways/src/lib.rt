@@ -1,11 +1,12 @@
-// Ways: whether a body may go the way of an edge, up by the lift, across to the target's column, and down or up to the target (01, The graph, "Edge"), and if
-// not, why (02, No. 3).
+// Ways: whether a body may go the way of an edge, up by the lift, across to the target's column, and down or up to the target (01, The graph, "Edge"), if not, why
+// (02, No. 3), and if so, which door it meets (02, No. 5).
 ghost use mathlib.Core.Path.{_≡_};
 ghost use Rattle.world.specs.Space.{space};
-ghost use Rattle.clear.specs.Clear.{clear};
+ghost use Rattle.clear.specs.Doors.{passage};
 ghost use Rattle.moves.specs.Moves.{checkGiven};
 ghost use Rattle.ways.specs.Ways.{swept, wayCheck};
-use clear::clear_area;
+use clear::Passage;
+use clear::or_else;
 use moves::EdgeCheck;
 use moves::Movement;
 use moves::Reason;
@@ -16,15 +17,15 @@ use world::Point;
 use world::Request;
 use world::Window;
 
-// Whether the area that a body sweeps from a point on is clear.
-fn sweep_clear(
+// Whether the area that a body sweeps from a point on is clear, and its door.
+fn sweep(
     w: Window, cells: &[u8], perms: &[u8], shapes: &[u8], boxes: &[u8],
     body: Body, feet: Point, by: Point,
-) -> bool
-    ensures { λ a. ⌜ a ≡ clear (space w (now (cells .entry)) (now (perms .entry)) (now (shapes .entry)) (now (boxes .entry))) (swept body feet by) ⌝ }
+) -> Passage
+    ensures { λ a. ⌜ a ≡ passage (space w (now (cells .entry)) (now (perms .entry)) (now (shapes .entry)) (now (boxes .entry))) (swept body feet by) ⌝ }
 {
     let area = boxes::expand_towards(boxes::from_feet(feet, body.width, body.height), by);
-    clear_area(w, cells, perms, shapes, boxes, area)
+    clear::passage_of(w, cells, perms, shapes, boxes, area)
 }
 
 // What a way comes to: the checks of an edge in order, up to the first that fails. Where none does, the waypoint is made.
@@ -47,17 +48,21 @@ pub fn way_check(
     if !places::standable(w, cells, perms, shapes, boxes, body, to) {
         return EdgeCheck::Fails(Reason::TargetNotStandable);
     }
-    if !sweep_clear(w, cells, perms, shapes, boxes, body, from, up) {
+    let lifting = sweep(w, cells, perms, shapes, boxes, body, from, up);
+    if !lifting.clear {
         return EdgeCheck::Fails(Reason::LiftBlocked);
     }
-    if !sweep_clear(w, cells, perms, shapes, boxes, body, raised, difference(across, raised)) {
+    let crossing = sweep(w, cells, perms, shapes, boxes, body, raised, difference(across, raised));
+    if !crossing.clear {
         return EdgeCheck::Fails(Reason::CrossingBlocked);
     }
-    if !sweep_clear(w, cells, perms, shapes, boxes, body, across, difference(to, across)) {
+    let settling = sweep(w, cells, perms, shapes, boxes, body, across, difference(to, across));
+    if !settling.clear {
         return EdgeCheck::Fails(Reason::SettleBlocked);
     }
     if !segments::supported_segment(w, cells, perms, shapes, boxes, body.width, from, to) {
         return EdgeCheck::Fails(Reason::Unsupported);
     }
-    EdgeCheck::Passes(Waypoint { feet: to, lift, movement })
+    let door = or_else(lifting.door, or_else(crossing.door, settling.door)) as u64;
+    EdgeCheck::Passes(Waypoint { feet: to, lift, movement, door })
 }

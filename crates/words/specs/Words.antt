@@ -1,4 +1,5 @@
--- Points and edges as words of records (01, Tables, "Waypoint record"): a point is three 64-bit patterns, a label a movement's number and a lift's pattern. Definitions only.
+-- Points and edges as words of records (01, Tables, "Waypoint record"): a point is three 64-bit patterns, a label a movement's number, a lift's pattern
+-- and a door (02, No. 5). Definitions only.
 use Prim.Native.Nat.{ℕ}
 use mathlib.Core.Option.{Option, none, some}
 use lib.Ieee.{Float, binary64, ofBits, toBits}
@@ -22,7 +23,7 @@ unfoldable pub feetOf : Point → Feet
 feetOf p = record { x = toBits binary64 (p .x); y = toBits binary64 (p .y); z = toBits binary64 (p .z) }
 
 unfoldable pub labelOf : Waypoint → Label
-labelOf w = record { movement = movementNumber (w .movement); lift = toBits binary64 (w .lift) }
+labelOf w = record { movement = movementNumber (w .movement); lift = toBits binary64 (w .lift); door = w .door }
 
 unfoldable pub stepOf : Waypoint → Feet × Label
 stepOf w = (feetOf (w .feet), labelOf w)

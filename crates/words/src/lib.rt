@@ -46,5 +46,6 @@ pub fn label_of(w: Waypoint) -> Label
     Label {
         lift: floats::bits_of(w.lift),
         movement: moves::movement_number(m),
+        door: w.door,
     }
 }

@@ -21,7 +21,7 @@ use Rattle.world.specs.declared.Cell.the-variants.{Unknown, Known}
 use Rattle.world.specs.declared.Found.the-variants.{Here, End}
 use Rattle.world.specs.declared.Entry.the-variants.{Of, Missing}
 use Rattle.world.specs.Boxes.{moved, cube, corner}
-use Rattle.world.specs.Space.{At, Out, recordOf, entryAt, mayOccupy, maySupport, collides, ofParts, known, cellIn, cellAt, pointAt, boxAt, boxHere, run, blockOf, space}
+use Rattle.world.specs.Space.{At, Out, recordOf, entryAt, mayOccupy, maySupport, collides, ofParts, known, cellIn, cellAt, pointAt, boxAt, boxHere, run, noDoor, blockOf, space}
 
 -- ---- a point past the table's end reads as one at its end
 
@@ -68,21 +68,21 @@ box-room s at b e = box-is s at b e .0
 
 module _ (boxes : List ℕ) (p : Point) where
   -- "one full unit cube, neither occupiable nor a support"
-  pub unknown-block : blockOf boxes Unknown p ≡ record { occupied = false; support = false; boxes = moved cube p ∷ [] }
+  pub unknown-block : blockOf boxes Unknown p ≡ record { occupied = false; support = false; boxes = moved cube p ∷ []; door = noDoor }
   unfolding blockOf
   unknown-block = refl
 
   -- "its run of box records inside the box table, shifted by the cell's position"
-  pub known-block : (o s : Bool) (first count : ℕ) →
-      blockOf boxes (Known o s first count) p ≡ record { occupied = o; support = s; boxes = map (λ (b : Aabb). moved b p) (run count (drop (48 * first) boxes) 0) }
+  pub known-block : (o s : Bool) (first count d : ℕ) →
+      blockOf boxes (Known o s first count d) p ≡ record { occupied = o; support = s; boxes = map (λ (b : Aabb). moved b p) (run count (drop (48 * first) boxes) 0); door = d }
   unfolding blockOf
-  known-block o s first count = refl
+  known-block o s first count d = refl
 
-  -- "A known state without bit 4 has no boxes"
-  pub no-collision : (perm first count : ℕ) → collides perm ≡ false →
-      blockOf boxes (ofParts perm first count) p ≡ record { occupied = mayOccupy perm; support = maySupport perm; boxes = [] }
+  -- "A known state without bit 4 has no boxes", and is a door
+  pub no-collision : (perm first count state : ℕ) → collides perm ≡ false →
+      blockOf boxes (ofParts perm first count state) p ≡ record { occupied = mayOccupy perm; support = maySupport perm; boxes = []; door = state }
   unfolding blockOf ofParts run
-  no-collision perm first count e = rw e
+  no-collision perm first count state e = rw e
 
 module _ (w : Window) (cells perms shapes boxes : List ℕ) (x y z : ℤ) where
   -- the space at a cell is what the tables say of it

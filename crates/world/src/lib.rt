@@ -58,8 +58,8 @@ pub enum Entry {
     Missing,
 }
 
-// What the tables say of a cell: whether a body may be in it, whether a body may stand on it, and its run of box records, which has none where the
-// cell does not collide.
+// What the tables say of a cell: whether a body may be in it, whether a body may stand on it, its run of box records, which has none where the cell does
+// not collide, and its door (02, No. 5), which it has only there: the number of its state.
 pub enum Cell {
     Unknown,
     Known {
@@ -67,8 +67,12 @@ pub enum Cell {
         support: bool,
         first: u32,
         count: u32,
+        door: u32,
     },
 }
+
+// No door (02, No. 5).
+pub const NO_DOOR: u32 = 4294967295;
 
 // A box record, where there is one.
 pub enum Found {

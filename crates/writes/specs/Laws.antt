@@ -12,9 +12,9 @@ use Rattle.rooms.specs.declared.Entry.{Entry}
 use Rattle.rooms.specs.Records.{nodeLayout, nodeWords, nodeFrom, nodeAt, withNode, entryLayout, entryWords, entryFrom, entryAt, withEntry}
 use Rattle.rooms.specs.Laws.Writes.{WroteNode, PutNode, WroteEntry, PutEntry}
 
--- a node in seven words: the last one is its two last fields
+-- a node in eight words: the last one is its two last fields
 abbrev pub asWords : NodeRecord → List ℕ
-asWords r = r .feet .x ∷ r .feet .y ∷ r .feet .z ∷ r .label .lift ∷ r .label .movement ∷ r .cost ∷ (r .parent + 4294967296 * r .closed) ∷ []
+asWords r = r .feet .x ∷ r .feet .y ∷ r .feet .z ∷ r .label .lift ∷ r .label .movement ∷ r .label .door ∷ r .cost ∷ (r .parent + 4294967296 * r .closed) ∷ []
 
 apart : (k j : ℕ) → j ≢ k → (j < k) ⊎ (k < j)
 apart zero zero h = absurd (h refl)
@@ -23,24 +23,24 @@ apart (suc k) zero h = inl (omega arith)
 apart (suc k) (suc j) h = ⊎-elim (λ l. inl (omega arith)) (λ l. inr (omega arith)) (apart k j (λ e. h (ap suc e)))
 
 module _ (a : List ℕ) (k : ℕ) (r : NodeRecord) where
-  wrote-node : Fill nodeLayout (nodeWords r) → 56 * k + 56 ≤ length a → WroteNode a k r (withFields nodeLayout a (56 * k) 0 (nodeWords r))
+  wrote-node : Fill nodeLayout (nodeWords r) → 64 * k + 64 ≤ length a → WroteNode a k r (withFields nodeLayout a (64 * k) 0 (nodeWords r))
   unfolding nodeAt
   wrote-node fill room = record {
-    here = ap nodeFrom (record-back nodeLayout a (56 * k) 0 (nodeWords r) fill (omega arith));
-    there = λ j h. ap nodeFrom (record-apart nodeLayout a (56 * k) 0 (nodeWords r) nodeLayout (56 * j) 0 (⊎-elim (λ l. inl (omega arith)) (λ l. inr (omega arith)) (apart k j h)));
-    past = λ m h. drop-record nodeLayout a (56 * k) 0 (nodeWords r) (56 * m) (omega arith);
+    here = ap nodeFrom (record-back nodeLayout a (64 * k) 0 (nodeWords r) fill (omega arith));
+    there = λ j h. ap nodeFrom (record-apart nodeLayout a (64 * k) 0 (nodeWords r) nodeLayout (64 * j) 0 (⊎-elim (λ l. inl (omega arith)) (λ l. inr (omega arith)) (apart k j h)));
+    past = λ m h. drop-record nodeLayout a (64 * k) 0 (nodeWords r) (64 * m) (omega arith);
   }
 
   words-are : r .parent < 4294967296 → withWords a k (asWords r) ≡ withNode a k r
   unfolding withNode
-  words-are h = record-same (replicate 7 8) nodeLayout a (56 * k) (asWords r) (nodeWords r) refl
-      (λ room. halves [] (withFields (replicate 6 8) a (56 * k) 0 (asWords r)) (56 * k) 48 (r .parent) (r .closed) [] (rw length-record (omega (arith, room))) h)
+  words-are h = record-same (replicate 8 8) nodeLayout a (64 * k) (asWords r) (nodeWords r) refl
+      (λ room. halves [] (withFields (replicate 7 8) a (64 * k) 0 (asWords r)) (64 * k) 56 (r .parent) (r .closed) [] (rw length-record (omega (arith, room))) h)
 
   pub put-node : {b : List ℕ} → Fill nodeLayout (nodeWords r) → b ≡ withWords a k (asWords r) → PutNode a k r b
   unfolding withNode
   put-node fill e =
-      let is = e ∙ words-are (fill .1 .1 .1 .1 .1 .1 .0) in
-      record { is = is; wrote = λ room. subst (WroteNode a k r) (sym (is ∙ record-in nodeLayout a (56 * k) (nodeWords r) room)) (wrote-node fill room) }
+      let is = e ∙ words-are (fill .1 .1 .1 .1 .1 .1 .1 .0) in
+      record { is = is; wrote = λ room. subst (WroteNode a k r) (sym (is ∙ record-in nodeLayout a (64 * k) (nodeWords r) room)) (wrote-node fill room) }
 
 module _ (a : List ℕ) (k : ℕ) (e : Entry) where
   wrote-entry : Fill entryLayout (entryWords e) → 24 * k + 24 ≤ length a → WroteEntry a k e (withFields entryLayout a (24 * k) 0 (entryWords e))

@@ -1,5 +1,5 @@
-// One record of a room written (01: "Node record 56 bytes", "Frontier record 24 bytes", "Waypoint record 40 bytes"), or a whole room set to zero. A record
-// that the room has no place for is not written.
+// One record of a room written (01, "Tables", with the sizes of 02, No. 5): a waypoint of 48 bytes, a node of 64, a frontier record of 24; or a whole room set to
+// zero. A record that the room has no place for is not written.
 use rooms::Entry;
 use rooms::Feet;
 use rooms::Label;
@@ -13,7 +13,7 @@ ghost use Rattle.rooms.specs.Laws.Writes.{PutNode, PutEntry};
 pub fn put_waypoint(out: &mut [u8], k: usize, feet: Feet, label: Label)
     ensures { λ _. ⌜ now (out .exit) ≡ withWaypoint (now (out .entry)) k feet label ⌝ }
 {
-    let words = [feet.x, feet.y, feet.z, label.lift, label.movement];
+    let words = [feet.x, feet.y, feet.z, label.lift, label.movement, label.door];
     records::put_record(out, k, &words);
 }
 
@@ -27,6 +27,7 @@ pub fn put_node(nodes: &mut [u8], k: usize, r: NodeRecord)
         r.feet.z,
         r.label.lift,
         r.label.movement,
+        r.label.door,
         r.cost,
         (r.parent as u64) + 4294967296 * (r.closed as u64),
     ];

@@ -1,4 +1,4 @@
--- Every word of a route is below 2^64: it is the same, by 01's rules, as the word of an f64 or of a movement.
+-- Every word of a route is below 2^64: it is the same, by 01's rules, as the word of an f64, of a movement or of a door.
 use Prim.Native.Nat.{ℕ, _^_, _<_}
 use native.Mathlib.Omega.{arith}
 use mathlib.Core.Path.{_≡_, refl, sym}
@@ -20,6 +20,7 @@ use Rattle.moves.specs.declared.answer.Movement.{Movement}
 use Rattle.moves.specs.declared.answer.Movement.the-variants.{Walk, Step, Jump, Drop}
 use Rattle.moves.specs.declared.answer.Waypoint.{Waypoint}
 use Rattle.moves.specs.declared.answer.EdgeAnswer.{EdgeAnswer}
+use Rattle.moves.specs.declared.answer.EdgeAnswer.the-variants.{To}
 use Rattle.moves.specs.Moves.{movementNumber}
 use Rattle.steps.specs.Columns.{stepsFrom}
 use Rattle.words.specs.Words.{pointOf, feetOf, labelOf, stepOf, labelIf}
@@ -29,12 +30,10 @@ use Rattle.rooms.specs.declared.Feet.{Feet}
 use Rattle.rooms.specs.declared.Label.{Label}
 use Rattle.rooms.specs.Records.{waypointLayout, waypointWords}
 use Rattle.claims.specs.Words.{InF64}
-use Rattle.claims.specs.Laws.Fits.{Each, end, more, F64, Made, MadeIf, nowhere, made, connector-made}
+use Rattle.claims.specs.Laws.Doors.{Word, DooredSpace, connector-door}
+use Rattle.claims.specs.Laws.Fits.{Each, end, more, F64, Made, MadeWhole, MadeIf, nowhere, made, connector-made}
 
 -- ---- words
-
-abbrev pub Word : ℕ → Type 0
-Word n = n < 256 ^ 8
 
 canon-below : (a b : ℕ) → canonicalWord a ≡ canonicalWord b → Word a → Word b
 unfolding canonicalWord
@@ -63,13 +62,14 @@ pub record Point64 (p : Feet) : Type 0 where
 pub record Label64 (l : Label) : Type 0 where
   pub lift : Word (l .lift)
   pub movement : Word (l .movement)
+  pub door : Word (l .door)
 
 pub record Words64 (w : Feet × Label) : Type 0 where
   pub point : Point64 (w .0)
   pub label : Label64 (w .1)
 
 pub fills : (w : Feet × Label) → Words64 w → Fill waypointLayout (waypointWords (w .0) (w .1))
-fills w h = (h .point .x, (h .point .y, (h .point .z, (h .label .lift, (h .label .movement, tt)))))
+fills w h = (h .point .x, (h .point .y, (h .point .z, (h .label .lift, (h .label .movement, (h .label .door, tt))))))
 
 pub feet-below : (p : Point) → F64 (p .x) → F64 (p .y) → F64 (p .z) → Point64 (feetOf p)
 unfolding feetOf
@@ -81,9 +81,9 @@ movement-below Step = omega arith
 movement-below Jump = omega arith
 movement-below Drop = omega arith
 
-label-below : (w : Waypoint) → Made w → Label64 (labelOf w)
+label-below : (w : Waypoint) → Made w → Word (w .door) → Label64 (labelOf w)
 unfolding labelOf
-label-below w h = record { lift = bits-below (w .lift) (h .lift); movement = movement-below (w .movement) }
+label-below w h d = record { lift = bits-below (w .lift) (h .lift); movement = movement-below (w .movement); door = d }
 
 module _ (p q : Feet) (e : samePoint p q ≡ true) where
   apart : (sameWord (p .x) (q .x) ≡ true) × ((sameWord (p .y) (q .y) ≡ true) × (sameWord (p .z) (q .z) ≡ true))
@@ -108,40 +108,43 @@ module _ (p q : Feet) (e : samePoint p q ≡ true) where
 
 alike-below : (a b : Label) → alike a b ≡ true → Label64 a → Label64 b
 unfolding alike
-alike-below a b e h = record {
-  lift = same-below (a .lift) (b .lift) (and-second (eqb (a .movement) (b .movement)) _ e) (h .lift);
-  movement = let z = eqb-true (a .movement) (b .movement) (and-first (eqb (a .movement) (b .movement)) _ e) in omega (arith, h .movement);
-}
+alike-below a b e h =
+    let rest = and-second (eqb (a .movement) (b .movement)) _ e in
+    record {
+      lift = same-below (a .lift) (b .lift) (and-first (sameWord (a .lift) (b .lift)) _ rest) (h .lift);
+      movement = let z = eqb-true (a .movement) (b .movement) (and-first (eqb (a .movement) (b .movement)) _ e) in omega (arith, h .movement);
+      door = let z = eqb-true (a .door) (b .door) (and-second (sameWord (a .lift) (b .lift)) _ rest) in omega (arith, h .door);
+    }
 
 -- ---- a route
 
-module _ (sp : Space) (r : Request) (body : Body) (f : InF64 r) (topped : (p : Feet) → Each Made (stepsFrom sp r body (pointOf p))) where
-  among : (w : Feet × Label) {ws : List Waypoint} → Each Made ws → has (λ v. samePoint (v .0) (w .0) && alike (v .1) (w .1)) (map stepOf ws) ≡ true → Words64 w
+module _ (sp : Space) (r : Request) (body : Body) (f : InF64 r) (doored : DooredSpace sp) (made-steps : (p : Feet) → Each MadeWhole (stepsFrom sp r body (pointOf p))) where
+  among : (w : Feet × Label) {ws : List Waypoint} → Each MadeWhole ws → has (λ v. samePoint (v .0) (w .0) && alike (v .1) (w .1)) (map stepOf ws) ≡ true → Words64 w
   unfolding stepOf
   among w end e = absurd (let z : _≡_ {A = ℕ} 0 1 = cc in omega arith)
   among w (more {x = v} {xs = ws} p ps) e = ⊎-elim
       (λ h. record {
-        point = point-below (feetOf (v .feet)) (w .0) (and-first (samePoint (feetOf (v .feet)) (w .0)) _ h) (feet-below (v .feet) (p .x) (p .y) (p .z));
-        label = alike-below (labelOf v) (w .1) (and-second (samePoint (feetOf (v .feet)) (w .0)) _ h) (label-below v p);
+        point = point-below (feetOf (v .feet)) (w .0) (and-first (samePoint (feetOf (v .feet)) (w .0)) _ h) (feet-below (v .feet) (p .made .x) (p .made .y) (p .made .z));
+        label = alike-below (labelOf v) (w .1) (and-second (samePoint (feetOf (v .feet)) (w .0)) _ h) (label-below v (p .made) (p .door));
       })
       (λ h. among w ps h)
       (or-cases (samePoint (feetOf (v .feet)) (w .0) && alike (labelOf v) (w .1)) _ e)
 
   step-below : (p : Feet) (w : Feet × Label) → hasStep (graph sp r body) p w ≡ true → Words64 w
   unfolding graph
-  step-below p w e = among w (topped p) e
+  step-below p w e = among w (made-steps p) e
 
-  labelled-below : {a : EdgeAnswer} → MadeIf a → (l : Label) → labelled (graph sp r body) (labelIf a) l ≡ true → Label64 l
+  labelled-below : {a : EdgeAnswer} → MadeIf a → ((w : Waypoint) → a ≡ To w → Word (w .door)) → (l : Label) → labelled (graph sp r body) (labelIf a) l ≡ true → Label64 l
   unfolding graph
-  labelled-below nowhere l e = absurd (let z : _≡_ {A = ℕ} 0 1 = cc in omega arith)
-  labelled-below (made {w = v} p) l e = alike-below (labelOf v) l e (label-below v p)
+  labelled-below nowhere d l e = absurd (let z : _≡_ {A = ℕ} 0 1 = cc in omega arith)
+  labelled-below (made {w = v} p) d l e = alike-below (labelOf v) l e (label-below v p (d v refl))
 
   connected-below : (p : Feet) (w : Feet × Label) → connects (graph sp r body) p w ≡ true →
       (graph sp r body) .same (w .0) ((graph sp r body) .goal) ≡ true → Words64 w
   unfolding graph
   connected-below p w e g = record {
     point = point-above (w .0) (feetOf (r .goal)) g (feet-below (r .goal) (f .goal-x) (f .goal-y) (f .goal-z));
-    label = labelled-below (connector-made sp r body f (pointOf p)) (w .1) e;
+    label = labelled-below (connector-made sp r body f (pointOf p)) (connector-door sp doored r body (pointOf p)) (w .1) e;
   }
 
   way-below : {p : Feet} {t : List (Feet × Label)} → Way (graph sp r body) p t → Each Words64 t
@@ -154,7 +157,7 @@ module _ (sp : Space) (r : Request) (body : Body) (f : InF64 r) (topped : (p : F
   unfolding graph
   first-below w s a = record {
     point = point-below (feetOf (r .start)) (w .0) s (feet-below (r .start) (f .start-x) (f .start-y) (f .start-z));
-    label = alike-below standing (w .1) a (record { lift = omega arith; movement = omega arith });
+    label = alike-below standing (w .1) a (record { lift = omega arith; movement = omega arith; door = omega arith });
   }
 
   pub route-below : {t : List (Feet × Label)} → Route (graph sp r body) t → Each Words64 t

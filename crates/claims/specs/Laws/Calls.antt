@@ -112,7 +112,7 @@ module _ (w : Window) (cells perms shapes boxes : List ℕ) where
     unfolding found
     count-of e = let n = by-tests ∙ begun e .0 .begun in rw n
 
-    pub out-of : answer .outcome ≡ Found → outAfter w cells perms shapes boxes r body nodes front index out ≡ listBytes list ++ drop (40 * length list) out
+    pub out-of : answer .outcome ≡ Found → outAfter w cells perms shapes boxes r body nodes front index out ≡ listBytes list ++ drop (48 * length list) out
     unfolding outAfter
     out-of e = let n = by-tests ∙ begun e .0 .begun in rw n
 

@@ -17,13 +17,13 @@ use Rattle.moves.specs.declared.answer.EdgeAnswer.{EdgeAnswer}
 use Rattle.moves.specs.declared.answer.EdgeAnswer.the-variants.{To, Nowhere}
 use Rattle.moves.specs.Moves.{stepHeight, rising, falling, moving}
 use Rattle.places.specs.Places.{inRange}
-use Rattle.edges.specs.Edges.{passable, edgeBy, edge}
+use Rattle.edges.specs.Edges.{passable, waypointBy, edgeBy, edge}
 use Rattle.edges.specs.Answers.{nowhere-to}
 
 module _ (sp : Space) (r : Request) (body : Body) (from to : Point) where
   -- by this movement and lift, where the way is passable
   abbrev pub by : Movement → Float → EdgeAnswer
-  by movement lift = cond (passable sp r body from to lift) (To (record { feet = to; lift = lift; movement = movement })) Nowhere
+  by movement lift = cond (passable sp r body from to lift) (To (waypointBy sp body from to lift movement)) Nowhere
 
   abbrev pub rise : Float
   rise = sub binary64 (to .y) (from .y)
@@ -57,7 +57,7 @@ module _ (sp : Space) (r : Request) (body : Body) (from to : Point) where
   unfolding edge
   target-in-range w e = made (moving r body rise) e
     where
-      pick : (m : Movement) (l : Float) (b : Bool) → passable sp r body from to l ≡ b → cond b (To (record { feet = to; lift = l; movement = m })) Nowhere ≡ To w → inRange r to ≡ true
+      pick : (m : Movement) (l : Float) (b : Bool) → passable sp r body from to l ≡ b → cond b (To (waypointBy sp body from to l m)) Nowhere ≡ To w → inRange r to ≡ true
       pick m l true p e = unfold passable in and-first _ _ (and-first _ _ (and-first _ _ (and-first _ _ p)))
       pick m l false p e = nowhere-to e
 

@@ -39,6 +39,7 @@ use Rattle.words.specs.Words.{feetOf, stepOf}
 use Rattle.steps.specs.Columns.{centre, centreOf, bandOf, target, ahead, edgesAt, columnSteps, sides, columnIf, stepsFrom}
 use Rattle.claims.specs.Words.{InF64}
 use Rattle.claims.specs.Laws.Edges.{by, rise, edge-is}
+use Rattle.claims.specs.Laws.Doors.{Word, DooredSpace, edge-door}
 
 -- ---- a property of every element
 
@@ -82,7 +83,7 @@ moved-tops p (b ∷ bs) = more (moved-top b p) (moved-tops p bs)
 block-tops : (boxes : List ℕ) (c : Cell) (p : Point) → Each Topped (blockOf boxes c p .boxes)
 unfolding blockOf
 block-tops boxes Unknown p = more (moved-top cube p) end
-block-tops boxes (Known o s first count) p = moved-tops p (run count (drop (48 * first) boxes) 0)
+block-tops boxes (Known o s first count d) p = moved-tops p (run count (drop (48 * first) boxes) 0)
 
 pub space-tops : (w : Window) (cells perms shapes boxes : List ℕ) → ToppedSpace (space w cells perms shapes boxes)
 unfolding space
@@ -202,8 +203,14 @@ made-of : {a : EdgeAnswer} → MadeIf a → (w : Waypoint) → a ≡ To w → Ma
 made-of nowhere w e = nowhere-to e
 made-of (made {w = v} p) w e = let s : v ≡ w = cc in rw (← s) p
 
-pub steps-made : (sp : Space) (r : Request) (body : Body) → F64 (r .«jump_height») → ToppedSpace sp → (from : Point) → Each Made (stepsFrom sp r body from)
-steps-made sp r body jump topped from = steps-each sp r body topped from Made (λ to x y z. made-of (edge-made sp r body jump from to x y z))
+-- and what they say of the way: their numbers are f64s, and the door a word
+pub record MadeWhole (w : Waypoint) : Type 0 where
+  pub made : Made w
+  pub door : Word (w .door)
+
+pub steps-whole : (sp : Space) (r : Request) (body : Body) → F64 (r .«jump_height») → ToppedSpace sp → DooredSpace sp → (from : Point) → Each MadeWhole (stepsFrom sp r body from)
+steps-whole sp r body jump topped doored from =
+    steps-each sp r body topped from MadeWhole (λ to x y z w e. record { made = made-of (edge-made sp r body jump from to x y z) w e; door = edge-door sp doored r body from to w e })
 
 -- ---- the connector
 

@@ -63,21 +63,21 @@ record-between (n ∷ ns) (v ∷ vs) p rest at by l e =
 
 -- ---- a list of waypoints
 
-long : (w : Feet × Label) → length (waypointBytes w) ≡ 40
+long : (w : Feet × Label) → length (waypointBytes w) ≡ 48
 long w = length-record-bytes waypointLayout (waypointWords (w .0) (w .1)) refl
 
-pub length-list : (t : List (Feet × Label)) → length (listBytes t) ≡ 40 * length t
+pub length-list : (t : List (Feet × Label)) → length (listBytes t) ≡ 48 * length t
 length-list [] = refl
 length-list (w ∷ t) = omega (arith, length-append (waypointBytes w) (listBytes t), long w, length-list t)
 
 -- the waypoint at a place
-waypoint-between : (w : Feet × Label) (p rest : List ℕ) (k : ℕ) → Words64 w → length p ≡ 40 * k → entry (waypointAt (p ++ (waypointBytes w ++ rest)) k) ≡ w
+waypoint-between : (w : Feet × Label) (p rest : List ℕ) (k : ℕ) → Words64 w → length p ≡ 48 * k → entry (waypointAt (p ++ (waypointBytes w ++ rest)) k) ≡ w
 unfolding waypointAt
 waypoint-between w p rest k h e =
     ap (λ (vs : List ℕ). entry (waypointFrom vs))
-    (record-between waypointLayout (waypointWords (w .0) (w .1)) p rest (40 * k) 0 refl (omega arith) ∙ lows-fill waypointLayout (waypointWords (w .0) (w .1)) (fills w h))
+    (record-between waypointLayout (waypointWords (w .0) (w .1)) p rest (48 * k) 0 refl (omega arith) ∙ lows-fill waypointLayout (waypointWords (w .0) (w .1)) (fills w h))
 
-entries-between : {t : List (Feet × Label)} → Each Words64 t → (p : List ℕ) (k : ℕ) → length p ≡ 40 * k → entriesFrom (p ++ listBytes t) k (length t) ≡ t
+entries-between : {t : List (Feet × Label)} → Each Words64 t → (p : List ℕ) (k : ℕ) → length p ≡ 48 * k → entriesFrom (p ++ listBytes t) k (length t) ≡ t
 unfolding entriesFrom
 entries-between end p k e = refl
 entries-between (more {x = w} {xs = t} h hs) p k e =
@@ -91,15 +91,15 @@ entries-between (more {x = w} {xs = t} h hs) p k e =
 pub list-back : {t : List (Feet × Label)} → Each Words64 t → waypoints (listBytes t) ≡ t
 unfolding waypoints
 list-back {t} h =
-    let n : length (listBytes t) / 40 ≡ length t = omega (arith, length-list t) in
+    let n : length (listBytes t) / 48 ≡ length t = omega (arith, length-list t) in
     ap (entriesFrom (listBytes t) 0) n ∙ entries-between h [] 0 refl
 
-pub list-whole : (t : List (Feet × Label)) → length (listBytes t) % 40 ≡ 0
+pub list-whole : (t : List (Feet × Label)) → length (listBytes t) % 48 ≡ 0
 list-whole t = omega (arith, length-list t)
 
 -- the list at the front of a room
-pub list-front : (t : List (Feet × Label)) (rest : List ℕ) → take (40 * length t) (listBytes t ++ rest) ≡ listBytes t
-list-front t rest = take-at (listBytes t) rest (40 * length t) (length-list t)
+pub list-front : (t : List (Feet × Label)) (rest : List ℕ) → take (48 * length t) (listBytes t ++ rest) ≡ listBytes t
+list-front t rest = take-at (listBytes t) rest (48 * length t) (length-list t)
 
 -- ---- the nodes of a node room
 
@@ -107,15 +107,15 @@ list-front t rest = take-at (listBytes t) rest (40 * length t) (length-list t)
 abbrev pub held : Node Feet Label Note → NodeRecord
 held n = nodeFrom (lows nodeLayout (nodeWords (recordOf n)))
 
-node-long : (n : Node Feet Label Note) → length (nodeBytes n) ≡ 56
+node-long : (n : Node Feet Label Note) → length (nodeBytes n) ≡ 64
 node-long n = length-record-bytes nodeLayout (nodeWords (recordOf n)) refl
 
-node-between : (n : Node Feet Label Note) (p rest : List ℕ) (k : ℕ) → length p ≡ 56 * k → nodeAt (p ++ (nodeBytes n ++ rest)) k ≡ held n
+node-between : (n : Node Feet Label Note) (p rest : List ℕ) (k : ℕ) → length p ≡ 64 * k → nodeAt (p ++ (nodeBytes n ++ rest)) k ≡ held n
 unfolding nodeAt
-node-between n p rest k e = ap nodeFrom (record-between nodeLayout (nodeWords (recordOf n)) p rest (56 * k) 0 refl (omega arith))
+node-between n p rest k e = ap nodeFrom (record-between nodeLayout (nodeWords (recordOf n)) p rest (64 * k) 0 refl (omega arith))
 
 -- node j of those that stand behind k others
-nodes-between : (ns : List (Node Feet Label Note)) (p rest : List ℕ) (k j : ℕ) (n : Node Feet Label Note) → length p ≡ 56 * k → nth ns j ≡ some n →
+nodes-between : (ns : List (Node Feet Label Note)) (p rest : List ℕ) (k j : ℕ) (n : Node Feet Label Note) → length p ≡ 64 * k → nth ns j ≡ some n →
     nodeAt (p ++ (recordsBytes nodeBytes ns ++ rest)) (k + j) ≡ held n
 nodes-between [] p rest k j n e i = absurd (none-some i)
 nodes-between (m ∷ ns) p rest k zero n e i =

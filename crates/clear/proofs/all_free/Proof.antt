@@ -1,6 +1,6 @@
 -- `clear::all_free` meets its contract. Assumes nothing.
 use mathlib.Core.Bool.{true, _&&_}
-use mathlib.Core.Path.{_≡_, sym, ap, _∙_}
+use mathlib.Core.Path.{_≡_, refl, sym, ap, _∙_}
 use denote.Ref.{now}
 use lib.ListN.{length}
 use mir.Syntax.{w64}
@@ -9,62 +9,74 @@ use mir.Facts.{toZ-ofZ}
 use borrow.Author.Needs.{needs}
 use Rattle.regions.specs.Regions.{cellsOf}
 use Rattle.regions.specs.RegionLaws.{toCome, Proper, begun, taken, still-proper, fewer}
-use Rattle.world.specs.Space.{Space, space}
-use Rattle.clear.specs.Clear.{allFree}
-use Rattle.clear.specs.Laws.{freeAt, turn, goes-on, ends}
+use Rattle.world.specs.Boxes.{corner}
+use Rattle.world.specs.Space.{Space, noDoor, space}
+use Rattle.clear.specs.declared.Passage.{Passage}
+use Rattle.clear.specs.Doors.{orElse}
+use Rattle.clear.specs.Laws.{cellPassage, freeAlong, doorAlong, turn, goes-on, doors-on, ends}
 use Rattle.clear.proofs.all_free.Statement.{statement}
 use Rattle.clear.proofs.all_free.Tie as tie
 
 abbrev Inv-loop : tie.InvT-loop
-Inv-loop w cells perms shapes boxes area region free₀ cursor₀ free cursor =
+Inv-loop w cells perms shapes boxes area region free₀ door₀ cursor₀ free door cursor =
+    let sp = space w cells perms shapes boxes in
     Proper region cursor
-    × (allFree (space w cells perms shapes boxes) area (cellsOf region) ≡ free && allFree (space w cells perms shapes boxes) area (toCome region cursor))
+    × (freeAlong sp area (cellsOf region) ≡ free && freeAlong sp area (toCome region cursor))
+    × (doorAlong sp area (cellsOf region) ≡ orElse door (doorAlong sp area (toCome region cursor)))
 
 abbrev μ-loop : tie.MeasureT-loop
-μ-loop w cells perms shapes boxes area region free₀ cursor₀ free cursor = length (toCome region cursor)
+μ-loop w cells perms shapes boxes area region free₀ door₀ cursor₀ free door cursor = length (toCome region cursor)
 
 -- the space of a start
 abbrev within : (s : tie.Start Inv-loop μ-loop) → Space
 within s = space (s .args .w) (now (s .args .cells)) (now (s .args .perms)) (now (s .args .shapes)) (now (s .args .boxes))
 
--- a turn: there is a cell, all are free so far, and whether that cell is
-module _ (c : tie.After-cell-free Inv-loop μ-loop) where
+-- a turn: there is a cell, all are free so far, and what that cell is
+module _ (c : tie.After-cell-passage Inv-loop μ-loop) where
   tested : (c .before .before .before .before .before .before .before .loop .cursor .more ≡ true) × (c .before .before .before .before .before .before .before .loop .free ≡ true)
   tested = turn (within (c .before .before .before .before .before .before .before .before .before .before .before .before .before)) (c .before .before .before .before .before .before .before .before .before .before .before .before .before .args .area) (c .before .before .before .before .before .before .before .loop .cursor .more) (c .before .before .before .before .before .before .before .loop .free) (c .before .before .before .before .before .if1 .taken)
 
-  one : freeAt (within (c .before .before .before .before .before .before .before .before .before .before .before .before .before)) (c .before .before .before .before .before .before .before .before .before .before .before .before .before .args .area) (c .before .before .before .before .before .before .before .loop .cursor .at) ≡ c .cell-free .result
+  one : cellPassage (c .before .before .before .before .before .before .before .before .before .before .before .before .before .args .area) (corner (c .before .before .before .before .before .before .before .loop .cursor .at .z) (c .before .before .before .before .before .before .before .loop .cursor .at .y) (c .before .before .before .before .before .before .before .loop .cursor .at .x)) (within (c .before .before .before .before .before .before .before .before .before .before .before .before .before) (c .before .before .before .before .before .before .before .loop .cursor .at .z) (c .before .before .before .before .before .before .before .loop .cursor .at .y) (c .before .before .before .before .before .before .before .loop .cursor .at .x)) ≡ c .cell-passage .result
   one =
       let f : SFits w64 (c .before .before .before .before .before .before .before .loop .cursor .at .x) = search needs in
       let g : SFits w64 (c .before .before .before .before .before .before .before .loop .cursor .at .y) = search needs in
       let h : SFits w64 (c .before .before .before .before .before .before .before .loop .cursor .at .z) = search needs in
-      sym (simp (toZ-ofZ, f, g, h) at (c .cell-free .ensures))
+      sym (simp (toZ-ofZ, f, g, h) at (c .cell-passage .ensures))
 
 first-in-requires : tie.Need-first-in-requires Inv-loop μ-loop
 first-in-requires c κs = tt
 
 loop-holds : tie.Need-loop-holds Inv-loop μ-loop
+unfolding orElse
 loop-holds c =
     let b = begun (c .before .before .before .before .before .args .region) (c .first-in .result) (c .first-in .ensures) in
-    (b .1, ap (allFree (within (c .before .before .before .before .before)) (c .before .before .before .before .before .args .area)) (sym (b .0)))
+    (b .1, ap (freeAlong (within (c .before .before .before .before .before)) (c .before .before .before .before .before .args .area)) (sym (b .0)), ap (doorAlong (within (c .before .before .before .before .before)) (c .before .before .before .before .before .args .area)) (sym (b .0)))
 
-cell-free-requires : tie.Need-cell-free-requires Inv-loop μ-loop
-cell-free-requires c κs = tt
+cell-passage-requires : tie.Need-cell-passage-requires Inv-loop μ-loop
+cell-passage-requires c κs = tt
+
+or-else-requires : tie.Need-or-else-requires Inv-loop μ-loop
+or-else-requires c κs = tt
 
 next-in-requires : tie.Need-next-in-requires Inv-loop μ-loop
 next-in-requires c κs = tt
 
 loop-less : tie.Need-loop-less Inv-loop μ-loop
-loop-less c = fewer (c .before .before .before .before .before .before .before .before .before .before .before .before .before .before .args .region) (c .before .before .before .before .before .before .before .before .loop .cursor) (c .next-in .result) (c .before .before .before .before .before .before .before .before .loop .inv .0) (c .next-in .ensures) (tested (c .before) .0)
+loop-less c = fewer (c .before .before .before .before .before .before .before .before .before .before .before .before .before .before .before .args .region) (c .before .before .before .before .before .before .before .before .before .loop .cursor) (c .next-in .result) (c .before .before .before .before .before .before .before .before .before .loop .inv .0) (c .next-in .ensures) (tested (c .before .before) .0)
 
 loop-again : tie.Need-loop-again Inv-loop μ-loop
 loop-again c =
-    let next = taken (c .before .before .before .before .before .before .before .before .before .before .before .before .before .before .args .region) (c .before .before .before .before .before .before .before .before .loop .cursor) (c .next-in .result) (c .before .before .before .before .before .before .before .before .loop .inv .0) (c .next-in .ensures) (tested (c .before) .0) in (
-      still-proper (c .before .before .before .before .before .before .before .before .before .before .before .before .before .before .args .region) (c .before .before .before .before .before .before .before .before .loop .cursor) (c .next-in .result) (c .before .before .before .before .before .before .before .before .loop .inv .0) (c .next-in .ensures) (tested (c .before) .0),
-      c .before .before .before .before .before .before .before .before .loop .inv .1 ∙ goes-on (within (c .before .before .before .before .before .before .before .before .before .before .before .before .before .before)) (c .before .before .before .before .before .before .before .before .before .before .before .before .before .before .args .area) _ _ _ (c .before .before .before .before .before .before .before .before .loop .free) _ (tested (c .before) .1) next (one (c .before)),
+    let next = taken (c .before .before .before .before .before .before .before .before .before .before .before .before .before .before .before .args .region) (c .before .before .before .before .before .before .before .before .before .loop .cursor) (c .next-in .result) (c .before .before .before .before .before .before .before .before .before .loop .inv .0) (c .next-in .ensures) (tested (c .before .before) .0) in (
+      still-proper (c .before .before .before .before .before .before .before .before .before .before .before .before .before .before .before .args .region) (c .before .before .before .before .before .before .before .before .before .loop .cursor) (c .next-in .result) (c .before .before .before .before .before .before .before .before .before .loop .inv .0) (c .next-in .ensures) (tested (c .before .before) .0),
+      c .before .before .before .before .before .before .before .before .before .loop .inv .1 ∙ goes-on (within (c .before .before .before .before .before .before .before .before .before .before .before .before .before .before .before)) (c .before .before .before .before .before .before .before .before .before .before .before .before .before .before .before .args .area) _ _ _ (c .before .before .before .before .before .before .before .before .before .loop .free) _ (tested (c .before .before) .1) next (ap (λ (p : Passage). p .clear) (one (c .before .before))),
+      c .before .before .before .before .before .before .before .before .before .loop .inv .2 ∙ doors-on (within (c .before .before .before .before .before .before .before .before .before .before .before .before .before .before .before)) (c .before .before .before .before .before .before .before .before .before .before .before .before .before .before .before .args .area) _ _ _ (c .before .before .before .before .before .before .before .before .before .loop .door) _ next (ap (λ (p : Passage). p .door) (one (c .before .before))) ∙ rw (c .before .or-else .ensures),
     )
 
+met-door-requires : tie.Need-met-door-requires Inv-loop μ-loop
+met-door-requires c κs = tt
+
 returns : tie.Need-returns Inv-loop μ-loop
-returns c = sym (c .before .before .loop .inv .1 ∙ ends (within (c .before .before .before .before .before .before .before .before)) (c .before .before .before .before .before .before .before .before .args .area) (c .before .before .before .before .before .before .before .before .args .region) (c .before .before .loop .cursor) (c .before .before .loop .free) (c .if1 .left))
+returns c = rw (c .met-door .ensures) (ends (within (c .before .before .before .before .before .before .before .before .before)) (c .before .before .before .before .before .before .before .before .before .args .area) (c .before .before .before .before .before .before .before .before .before .args .region) (c .before .before .before .loop .cursor) (c .before .before .before .loop .free) (c .before .before .before .loop .door) (cellsOf (c .before .before .before .before .before .before .before .before .before .args .region)) (c .before .if1 .left) (c .before .before .before .loop .inv .1) (c .before .before .before .loop .inv .2))
 
 pub all-free-spec : {M : Type 1} → statement M
 all-free-spec =
@@ -74,8 +86,10 @@ all-free-spec =
     μ-loop
     first-in-requires
     loop-holds
-    cell-free-requires
+    cell-passage-requires
+    or-else-requires
     next-in-requires
     loop-less
     loop-again
+    met-door-requires
     returns)

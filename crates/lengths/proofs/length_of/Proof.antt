@@ -11,7 +11,7 @@ use Rattle.lengths.proofs.length_of.Statement.{statement}
 use Rattle.lengths.proofs.length_of.Tie as tie
 
 abbrev Inv-loop : tie.InvT-loop
-Inv-loop list n total₀ from₀ k₀ total from k = (lengthOf list ≡ onward total from (feetFrom list k (n - k))) × (n ≡ length list / 40)
+Inv-loop list n total₀ from₀ k₀ total from k = (lengthOf list ≡ onward total from (feetFrom list k (n - k))) × (n ≡ length list / 48)
 
 abbrev μ-loop : tie.MeasureT-loop
 μ-loop list n total₀ from₀ k₀ total from k = n - k
@@ -42,7 +42,7 @@ loop-again c =
     let at-loop = c .before .before .before in
     let list = now (at-loop .before .before .before .args .list) in (
       rw (c .apart .ensures, c .before .point-at2 .ensures)
-          (at-loop .loop .inv .0 ∙ goes-on list (length list / 40) (at-loop .loop .k) (at-loop .loop .total) (at-loop .loop .from) (c .before .before .loop-test .taken)),
+          (at-loop .loop .inv .0 ∙ goes-on list (length list / 48) (at-loop .loop .k) (at-loop .loop .total) (at-loop .loop .from) (c .before .before .loop-test .taken)),
       refl,
     )
 
@@ -50,7 +50,7 @@ returns : tie.Need-returns Inv-loop μ-loop
 returns c =
     let at-loop = c .before in
     let list = now (at-loop .before .before .before .args .list) in
-    sym (at-loop .loop .inv .0 ∙ ends list (length list / 40) (at-loop .loop .k) (at-loop .loop .total) (at-loop .loop .from) (c .loop-test .left))
+    sym (at-loop .loop .inv .0 ∙ ends list (length list / 48) (at-loop .loop .k) (at-loop .loop .total) (at-loop .loop .from) (c .loop-test .left))
 
 pub length-of-spec : {M : Type 1} → statement M
 length-of-spec =

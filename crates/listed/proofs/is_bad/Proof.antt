@@ -14,7 +14,7 @@ abbrev Inv-loop : tie.InvT-loop
 Inv-loop list n bad₀ k₀ bad k = badList list ≡ (bad || aboveFrom list k)
 
 abbrev μ-loop : tie.MeasureT-loop
-μ-loop list n bad₀ k₀ bad k = length list / 40 - k
+μ-loop list n bad₀ k₀ bad k = length list / 48 - k
 
 loop-holds : tie.Need-loop-holds Inv-loop μ-loop
 loop-holds c = bad-begins (now (c .before .args .list))

@@ -20,9 +20,10 @@ same-word-requires c κs = tt
 returns : tie.Need-returns
 unfolding alike labelOf
 returns c =
-    let v = c .before .before .before .before .args .v in
-    let lifts = c .same-word .ensures ∙ ap (λ (b : ℕ). sameWord b (v .label .lift)) (c .before .before .bits-of .ensures) in
-    λ i. eqb (c .before .before .before .movement-number .ensures i) (v .label .movement) && lifts i
+    let step = c .before .before .before .before .before .before .args .step in
+    let v = c .before .before .before .before .before .before .args .v in
+    let lifts = c .before .before .same-word .ensures ∙ ap (λ (b : ℕ). sameWord b (v .label .lift)) (c .before .before .before .before .bits-of .ensures) in
+    λ i. eqb (c .before .before .before .before .before .movement-number .ensures i) (v .label .movement) && (lifts i && eqb (step .door) (v .label .door))
 
 pub same-label-spec : {M : Type 1} → statement M
 same-label-spec = tie.close (tie.spec movement-number-requires bits-of-requires same-word-requires returns)

@@ -60,12 +60,12 @@ module _ (a : List ℕ) (at : ℕ) where
       _≡_ {A = Feet} (record { x = x; y = y; z = z }) (feetFrom (recordAt waypointLayout a at))
   feet-read ex ey ez = λ i. record { x = first a at ex i; y = ey i; z = ez i }
 
-  pub waypoint-read : {p : Feet} {l m : ℕ} → p ≡ feetFrom (recordAt waypointLayout a at) → l ≡ field 8 a (at + 24) → m ≡ field 8 a (at + 32) →
-      _≡_ {A = WaypointRecord} (record { feet = p; label = record { lift = l; movement = m } }) (waypointFrom (recordAt waypointLayout a at))
-  waypoint-read ep el em = λ i. record { feet = ep i; label = record { lift = el i; movement = em i } }
+  pub waypoint-read : {p : Feet} {l m o : ℕ} → p ≡ feetFrom (recordAt waypointLayout a at) → l ≡ field 8 a (at + 24) → m ≡ field 8 a (at + 32) → o ≡ field 8 a (at + 40) →
+      _≡_ {A = WaypointRecord} (record { feet = p; label = record { lift = l; movement = m; door = o } }) (waypointFrom (recordAt waypointLayout a at))
+  waypoint-read ep el em eo = λ i. record { feet = ep i; label = record { lift = el i; movement = em i; door = eo i } }
 
   pub node-read : {w : WaypointRecord} {c q d : ℕ} → w ≡ waypointFrom (recordAt waypointLayout a at) →
-      c ≡ field 8 a (at + 40) → q ≡ field 4 a (at + 48) → d ≡ field 4 a (at + 52) →
+      c ≡ field 8 a (at + 48) → q ≡ field 4 a (at + 56) → d ≡ field 4 a (at + 60) →
       _≡_ {A = NodeRecord} (record { feet = w .feet; label = w .label; cost = c; parent = q; closed = d }) (nodeFrom (recordAt nodeLayout a at))
   node-read ew ec eq ed = λ i. record { feet = ew i .feet; label = ew i .label; cost = ec i; parent = eq i; closed = ed i }
 

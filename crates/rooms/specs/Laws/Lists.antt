@@ -67,8 +67,8 @@ module _ (a fr : List ℕ) (n : ℕ) (small : n ≤ nobody) where
       (in-or-out k n)
 
 -- the list that the theory's search finds at node k is the list of the room
-pub arrive-list : (a fr : List ℕ) (c : Counts) (k : ℕ) (t : List (Feet × Label)) → c .retained ≤ nobody → 56 * c .retained ≤ length a → arrive (stateOf a fr c) k t .found ≡ some (listOf a (c .retained) k t)
+pub arrive-list : (a fr : List ℕ) (c : Counts) (k : ℕ) (t : List (Feet × Label)) → c .retained ≤ nobody → 64 * c .retained ≤ length a → arrive (stateOf a fr c) k t .found ≡ some (listOf a (c .retained) k t)
 unfolding stateOf listOf
 arrive-list a fr c k t small room =
-    let e = le-leb (c .retained) (length a / 56) (omega arith) in
+    let e = le-leb (c .retained) (length a / 64) (omega arith) in
     ap (λ (x : List (Feet × Label)). some (reverseAux x t)) (ap (λ (n : ℕ). trace n (nodesOf (c .retained) a fr) (some k)) (length-firsts (c .retained) _) ∙ walk-some a fr (c .retained) small (c .retained) k) ∙ rw e

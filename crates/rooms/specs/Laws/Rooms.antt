@@ -178,14 +178,14 @@ parent-word p = go (eqb p nobody) refl
     go true e = rw e (sym (eqb-true p nobody e))
     go false e = rw e
 
-node-bytes : (a f : List ℕ) (k : ℕ) → Bytes a → 56 * k + 56 ≤ length a → nodeBytes (nodeIn a f k) ≡ take 56 (drop (56 * k) a)
+node-bytes : (a f : List ℕ) (k : ℕ) → Bytes a → 64 * k + 64 ≤ length a → nodeBytes (nodeIn a f k) ≡ take 64 (drop (64 * k) a)
 unfolding nodeOf nodeAt
-node-bytes a f k h l = let e = parent-word (nodeAt a k .parent) in let z : 56 * k + 0 ≡ 56 * k = omega arith in rw e (record-bytes nodeLayout a (56 * k) 0 h (omega arith) ∙ rw z)
+node-bytes a f k h l = let e = parent-word (nodeAt a k .parent) in let z : 64 * k + 0 ≡ 64 * k = omega arith in rw e (record-bytes nodeLayout a (64 * k) 0 h (omega arith) ∙ rw z)
 
 -- rooms whose bytes past n records are as they were are those records in bytes, and their old bytes
 module _ (old a f : List ℕ) (n : ℕ) where
   long : length (nodesOf n a f) ≡ n
   long = length-firsts n (nodeIn a f)
 
-  pub node-room : Bytes a → 56 * n ≤ length a → drop (56 * n) a ≡ drop (56 * n) old → a ≡ nodeRoom old (nodesOf n a f)
-  node-room h l d = room-is nodeBytes 56 (nodeIn a f) a old n (λ k i. node-bytes a f k h (omega arith)) d ∙ ap (λ (k : ℕ). recordsBytes nodeBytes (nodesOf n a f) ++ drop (56 * k) old) (sym long)
+  pub node-room : Bytes a → 64 * n ≤ length a → drop (64 * n) a ≡ drop (64 * n) old → a ≡ nodeRoom old (nodesOf n a f)
+  node-room h l d = room-is nodeBytes 64 (nodeIn a f) a old n (λ k i. node-bytes a f k h (omega arith)) d ∙ ap (λ (k : ℕ). recordsBytes nodeBytes (nodesOf n a f) ++ drop (64 * k) old) (sym long)

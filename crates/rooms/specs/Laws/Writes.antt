@@ -11,7 +11,7 @@ use Rattle.rooms.specs.Records.{nodeAt, withNode, entryAt, withEntry}
 pub record WroteNode (a : List ℕ) (k : ℕ) (r : NodeRecord) (b : List ℕ) : Type 0 where
   pub here : nodeAt b k ≡ r
   pub there : (j : ℕ) → j ≢ k → nodeAt b j ≡ nodeAt a j
-  pub past : (m : ℕ) → k < m → drop (56 * m) b ≡ drop (56 * m) a
+  pub past : (m : ℕ) → k < m → drop (64 * m) b ≡ drop (64 * m) a
 
 pub record WroteEntry (a : List ℕ) (k : ℕ) (e : Entry) (b : List ℕ) : Type 0 where
   pub here : entryAt b k ≡ e
@@ -21,7 +21,7 @@ pub record WroteEntry (a : List ℕ) (k : ℕ) (e : Entry) (b : List ℕ) : Type
 -- the room after a write, and what that means where the record is inside the room
 pub record PutNode (a : List ℕ) (k : ℕ) (r : NodeRecord) (b : List ℕ) : Type 0 where
   pub is : b ≡ withNode a k r
-  pub wrote : 56 * k + 56 ≤ length a → WroteNode a k r b
+  pub wrote : 64 * k + 64 ≤ length a → WroteNode a k r b
 
 pub record PutEntry (a : List ℕ) (k : ℕ) (e : Entry) (b : List ℕ) : Type 0 where
   pub is : b ≡ withEntry a k e

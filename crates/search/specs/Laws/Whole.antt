@@ -75,12 +75,12 @@ module _ (sp : Space) (r : Request) (body : Body) where
       go (at-found t h) = absurd (none-some h)
       go (at-end h p) = p
 
-  found-end : (c : Counts) (k : ℕ) (t : List (Feet × Label)) (b g : List ℕ) → c .retained ≤ nobody → 56 * c .retained ≤ length b
+  found-end : (c : Counts) (k : ℕ) (t : List (Feet × Label)) (b g : List ℕ) → c .retained ≤ nobody → 64 * c .retained ≤ length b
       → arrive (stateOf b g c) k t ≡ ended sp r body → endOf sp r body ≡ explore.Found (listOf b (c .retained) k t)
   unfolding endOf
   found-end c k t b g small room e = ap (outcome 𝓖 𝓟) (sym e) ∙ found-outcome 𝓖 𝓟 (arrive (stateOf b g c) k t) _ (arrive-list b g c k t small room)
 
-  end-is : (t : Turn) (b g : List ℕ) → countsOf t .retained ≤ nobody → 56 * countsOf t .retained ≤ length b → Quiet aim b g t
+  end-is : (t : Turn) (b g : List ℕ) → countsOf t .retained ≤ nobody → 64 * countsOf t .retained ≤ length b → Quiet aim b g t
       → after aim t b g ≡ ended sp r body → endAt b (feetOf (r .goal)) t ≡ endOf sp r body
   end-is (Rest c) b g small room q e = sym (rest-end c b g q e)
   end-is (Going c) b g small room q e = sym (rest-end c b g (going-quiet c b g e) e)
@@ -127,7 +127,7 @@ module _ (sp : Space) (r : Request) (body : Body) where
     closed-last : countsOf t .closed ≡ ended sp r body .closings
     closed-last = sym (closed-after (feetOf (r .goal)) t b g) ∙ ap (λ (s : State Feet Label Note ℕ). s .closings) state-last
 
-    module _ (small : r .«node_budget» ≤ 4096) (room : 56 * r .«node_budget» ≤ length b) where
+    module _ (small : r .«node_budget» ≤ 4096) (room : 64 * r .«node_budget» ≤ length b) where
       end-last : endAt b (feetOf (r .goal)) t ≡ endOf sp r body
       end-last = end-is t b g (omega (arith, spun .near .few)) (omega (arith, spun .near .few)) (spun .quiet) state-last
 
@@ -145,8 +145,8 @@ module _ (sp : Space) (r : Request) (body : Body) where
       nodes-room-last h = node-room a b g (countsOf t .retained) h (omega (arith, spun .near .few))
           (kept-trans (spun .near .more) (begun .kept) (spun .kept) .nodes (countsOf t .retained) (omega arith)) ∙ ap (nodeRoom a) nodes-last
 
-      pub out-last : (old : List ℕ) → 40 * (r .«node_budget» + 1) ≤ length old → written (listIn (endAt b (feetOf (r .goal)) t)) old
-          ≡ listBytes (listIn (endOf sp r body)) ++ drop (40 * length (listIn (endOf sp r body))) old
+      pub out-last : (old : List ℕ) → 48 * (r .«node_budget» + 1) ≤ length old → written (listIn (endAt b (feetOf (r .goal)) t)) old
+          ≡ listBytes (listIn (endOf sp r body)) ++ drop (48 * length (listIn (endOf sp r body))) old
       out-last old h = ap (λ (e : explore.Outcome (Feet × Label)). written (listIn e) old) end-last
           ∙ written-is (listIn (endOf sp r body)) old (omega (arith, list-room))
 
@@ -154,9 +154,9 @@ module _ (sp : Space) (r : Request) (body : Body) where
 
 pub record Roomy (r : Request) (a f o : List ℕ) : Type 0 where
   pub few : r .«node_budget» ≤ 4096
-  pub node-room : 56 * r .«node_budget» ≤ length a
+  pub node-room : 64 * r .«node_budget» ≤ length a
   pub front-room : 24 * r .«node_budget» ≤ length f
-  pub out-room : 40 * (r .«node_budget» + 1) ≤ length o
+  pub out-room : 48 * (r .«node_budget» + 1) ≤ length o
 
 module _ (r : Request) {start : Feet} {c : Counts} {a f o a1 f1 : List ℕ} (roomy : Roomy r a f o)
     (start-is : start ≡ feetOf (r .start)) (started : Started (r .«node_budget») start c a f a1 f1) where
@@ -191,7 +191,7 @@ module _ (r : Request) {start : Feet} {c : Counts} {a f o a1 f1 : List ℕ} (roo
     pub searched : (x ≡ answerBy w cells perms shapes boxes r body none) × (b ≡ nodesBy w cells perms shapes boxes r body none a)
         × (p ≡ outBy w cells perms shapes boxes r body none o)
     searched =
-        let room : 56 * r .«node_budget» ≤ length b = omega (arith, roomy .node-room) in
+        let room : 64 * r .«node_budget» ≤ length b = omega (arith, roomy .node-room) in
         (ends .0 ∙ answer-last sp r body t begins spins (roomy .few) room,
         nodes-room-last sp r body t begins spins (roomy .few) room bytes,
         ends .1 ∙ out-last sp r body t begins spins (roomy .few) room o (roomy .out-room))

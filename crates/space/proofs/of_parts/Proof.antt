@@ -7,15 +7,18 @@ use Rattle.space.specs.Laws.{bit-least, bit-times}
 use Rattle.space.proofs.of_parts.Statement.{statement}
 use Rattle.space.proofs.of_parts.Tie as tie
 
-cast-t11 : tie.Need-cast-t11
-cast-t11 c = search needs
+cast-t12 : tie.Need-cast-t12
+cast-t12 c = search needs
 
-mul-t12 : tie.Need-mul-t12
-mul-t12 c = record { fits = omega (arith, bit-least (c .args .p / 4 % 2) (c .args .count) (omega arith)) }
+mul-t13 : tie.Need-mul-t13
+mul-t13 c = record { fits = omega (arith, bit-least (c .args .p / 4 % 2) (c .args .count) (omega arith)) }
+
+door-of-requires : tie.Need-door-of-requires
+door-of-requires c κs = tt
 
 returns : tie.Need-returns
 unfolding ofParts
-returns c = rw (bit-times (c .args .p / 4 % 2) (c .args .count) (omega arith))
+returns c = rw (c .door-of .ensures, bit-times (c .before .args .p / 4 % 2) (c .before .args .count) (omega arith))
 
 pub of-parts-spec : {M : Type 1} → statement M
-of-parts-spec = tie.close (tie.spec cast-t11 mul-t12 returns)
+of-parts-spec = tie.close (tie.spec cast-t12 mul-t13 door-of-requires returns)

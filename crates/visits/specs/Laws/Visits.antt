@@ -101,7 +101,7 @@ module _ (a f : List ℕ) (budget k : ℕ) (c : Counts) where
   pub is-ready : Ready a f budget 1 c → k < c .retained → ready (length a) (length f) budget k c ≡ true
   unfolding ready
   is-ready r h =
-      let p = le-leb budget (length a / 56) (omega (arith, r .node-room)) in
+      let p = le-leb budget (length a / 64) (omega (arith, r .node-room)) in
       let q = le-leb budget (length f / 24) (omega (arith, r .front-room)) in
       let s = le-leb budget nobody (r .numbered) in
       let t = le-leb (c .retained) budget (r .few) in
@@ -114,15 +114,15 @@ module _ (a f : List ℕ) (budget k : ℕ) (c : Counts) where
   pub ready-is : ready (length a) (length f) budget k c ≡ true → Ready a f budget 1 c × (k < c .retained)
   unfolding ready
   ready-is e =
-      let front = and-first (((leb budget (length a / 56) && leb budget (length f / 24)) && leb budget nobody) && (leb (c .retained) budget && ltb k (c .retained))) ((ltb (c .pushed) (2 ^ 63) && ltb (c .dropped) (2 ^ 63)) && ltb (c .closed) (2 ^ 63)) e in
-      let roomy = and-first ((leb budget (length a / 56) && leb budget (length f / 24)) && leb budget nobody) (leb (c .retained) budget && ltb k (c .retained)) front in
-      let there = and-second ((leb budget (length a / 56) && leb budget (length f / 24)) && leb budget nobody) (leb (c .retained) budget && ltb k (c .retained)) front in
-      let grows = and-second (((leb budget (length a / 56) && leb budget (length f / 24)) && leb budget nobody) && (leb (c .retained) budget && ltb k (c .retained))) ((ltb (c .pushed) (2 ^ 63) && ltb (c .dropped) (2 ^ 63)) && ltb (c .closed) (2 ^ 63)) e in
-      let rooms = and-first (leb budget (length a / 56) && leb budget (length f / 24)) (leb budget nobody) roomy in
+      let front = and-first (((leb budget (length a / 64) && leb budget (length f / 24)) && leb budget nobody) && (leb (c .retained) budget && ltb k (c .retained))) ((ltb (c .pushed) (2 ^ 63) && ltb (c .dropped) (2 ^ 63)) && ltb (c .closed) (2 ^ 63)) e in
+      let roomy = and-first ((leb budget (length a / 64) && leb budget (length f / 24)) && leb budget nobody) (leb (c .retained) budget && ltb k (c .retained)) front in
+      let there = and-second ((leb budget (length a / 64) && leb budget (length f / 24)) && leb budget nobody) (leb (c .retained) budget && ltb k (c .retained)) front in
+      let grows = and-second (((leb budget (length a / 64) && leb budget (length f / 24)) && leb budget nobody) && (leb (c .retained) budget && ltb k (c .retained))) ((ltb (c .pushed) (2 ^ 63) && ltb (c .dropped) (2 ^ 63)) && ltb (c .closed) (2 ^ 63)) e in
+      let rooms = and-first (leb budget (length a / 64) && leb budget (length f / 24)) (leb budget nobody) roomy in
       let two = and-first (ltb (c .pushed) (2 ^ 63) && ltb (c .dropped) (2 ^ 63)) (ltb (c .closed) (2 ^ 63)) grows in
-      let p = leb-true budget (length a / 56) (and-first (leb budget (length a / 56)) (leb budget (length f / 24)) rooms) in
-      let q = leb-true budget (length f / 24) (and-second (leb budget (length a / 56)) (leb budget (length f / 24)) rooms) in
-      let s = leb-true budget nobody (and-second (leb budget (length a / 56) && leb budget (length f / 24)) (leb budget nobody) roomy) in
+      let p = leb-true budget (length a / 64) (and-first (leb budget (length a / 64)) (leb budget (length f / 24)) rooms) in
+      let q = leb-true budget (length f / 24) (and-second (leb budget (length a / 64)) (leb budget (length f / 24)) rooms) in
+      let s = leb-true budget nobody (and-second (leb budget (length a / 64) && leb budget (length f / 24)) (leb budget nobody) roomy) in
       let t = leb-true (c .retained) budget (and-first (leb (c .retained) budget) (ltb k (c .retained)) there) in
       let u = ltb-true k (c .retained) (and-second (leb (c .retained) budget) (ltb k (c .retained)) there) in
       let v = ltb-true (c .pushed) (2 ^ 63) (and-first (ltb (c .pushed) (2 ^ 63)) (ltb (c .dropped) (2 ^ 63)) two) in
@@ -133,7 +133,7 @@ module _ (a f : List ℕ) (budget k : ℕ) (c : Counts) where
 -- ---- what readiness gives: a node's records are inside the rooms, its number is not none's, and the counts can grow
 
 module _ {a f : List ℕ} {budget d : ℕ} {c : Counts} (r : Ready a f budget d c) where
-  pub node-inside : (j : ℕ) → j < budget → 56 * j + 56 ≤ length a
+  pub node-inside : (j : ℕ) → j < budget → 64 * j + 64 ≤ length a
   node-inside j l = omega (arith, r .node-room)
 
   pub entry-inside : (j : ℕ) → j < budget → 24 * j + 24 ≤ length f
@@ -309,7 +309,7 @@ closes aim k c a f h few p w = record {
 
 -- ---- the start
 
-pub begun : (budget : ℕ) (start : Feet) {r : Counts} (a f : List ℕ) {b g : List ℕ} → 56 * budget ≤ length a → 24 * budget ≤ length f → Started budget start r a f b g → Begun budget start r a f b g
+pub begun : (budget : ℕ) (start : Feet) {r : Counts} (a f : List ℕ) {b g : List ℕ} → 64 * budget ≤ length a → 24 * budget ≤ length f → Started budget start r a f b g → Begun budget start r a f b g
 unfolding begin stateOf best nodeOf parentOf
 begun zero start {r} a f {b} {g} x y s = go (s .none refl)
   where

@@ -9,13 +9,13 @@ use Rattle.print.proofs.telling.list_of.Statement.{statement}
 use Rattle.print.proofs.telling.list_of.Tie as tie
 
 returns : tie.Need-returns
-returns c = sym (take-all (40 * c .before .args .n) (now (c .before .args .out)) (omega arith))
+returns c = sym (take-all (48 * c .before .args .n) (now (c .before .args .out)) (omega arith))
 
 mul-bytes : tie.Need-mul-bytes
 mul-bytes c = search needs
 
 slice-aggregate-result : tie.Need-slice-aggregate-result
-slice-aggregate-result c = sym (length-take-le (40 * c .before .before .args .n) (now (c .before .before .args .out)) (omega arith))
+slice-aggregate-result c = sym (length-take-le (48 * c .before .before .args .n) (now (c .before .before .args .out)) (omega arith))
 
 returns-2 : tie.Need-returns-2
 returns-2 c = search needs

@@ -8,7 +8,7 @@ use Rattle.replay_check.proofs.trial.searched.Statement.{statement}
 use Rattle.replay_check.proofs.trial.searched.Tie as tie
 
 -- a number of the sheet, as a part of a room
-fits : (n : ℕ) → n % 28801 ≤ 28800
+fits : (n : ℕ) → n % 32897 ≤ 32896
 fits n = omega arith
 
 byte-at-requires : tie.Need-byte-at-requires

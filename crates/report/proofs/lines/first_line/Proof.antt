@@ -44,7 +44,7 @@ returns-2 c =
     let closed = decimal-field (a .closed) 32 21 (start .fits .closed .fits) (c .before .before .before .before .before .before .before .put-decimal .ensures) (headed .room) in
     let total = hex-field (bits .result) 10 0 (c .before .before .put-hex .ensures) (closed .1) in
     shown (c .before .before .before .before .before .before .before .before .before .before .before .before .before .before .before .if1 .left)
-    (whole (then (head w (decimal (a .waypoints)) (decimal (a .retained))) 32 (headed .wrote) (then (decimal (a .closed)) 32 (closed .0 .wrote) (total .0 .wrote))) (total .1))
+    (whole (then (head w (decimal (a .waypoints)) (decimal (a .retained))) 32 (headed .wrote) (then (decimal (a .closed)) 32 (closed .0 .wrote) (total .0 .wrote))) (omega (arith, total .1)))
     (outcome-first (a .number) (a .bad) (a .waypoints) (a .retained) (a .closed) (a .total) _ (c .before .before .before .before .before .before .before .before .before .before .before .before .before .before .if2 .taken) (bits .ensures)
     ∙ sym (head-then w (decimal (a .waypoints)) (decimal (a .retained)) (32 ∷ (decimal (a .closed) ++ (32 ∷ (hex (bits .result) ++ (10 ∷ [])))))))
 

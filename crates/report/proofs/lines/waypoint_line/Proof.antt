@@ -45,6 +45,12 @@ add-u64-at-4 c = record { fits = omega arith }
 u64-at-requires-5 : tie.Need-u64-at-requires-5
 u64-at-requires-5 c κs = tt
 
+add-u64-at-5 : tie.Need-add-u64-at-5
+add-u64-at-5 c = record { fits = omega arith }
+
+u64-at-requires-6 : tie.Need-u64-at-requires-6
+u64-at-requires-6 c κs = tt
+
 waypoint-fields-requires : tie.Need-waypoint-fields-requires
 waypoint-fields-requires c κs = (omega arith, omega arith)
 
@@ -54,12 +60,12 @@ same-length c = search needs
 returns-4 : tie.Need-returns-4
 returns-4 c =
     let read = c .before .before .before .before in
-    let judged = read .before .before .before .before in
+    let judged = read .before .before .before .before .before in
     let found = judged .before .before in
     let a = found .before .before .before .before .args in
     shown (found .before .if1 .left) (c .before .before .waypoint-fields .ensures)
-    (a-record (now (a .list)) (a .place) _ _ _ _ _ (found .if2 .left) (judged .if3 .left) (judged .before .u64-at .ensures)
-    (read .before .before .before .u64-at2 .ensures) (read .before .before .u64-at3 .ensures) (read .before .u64-at4 .ensures) (read .u64-at5 .ensures))
+    (a-record (now (a .list)) (a .place) _ _ _ _ _ _ (found .if2 .left) (judged .if3 .left) (judged .before .u64-at .ensures)
+    (read .before .before .before .before .u64-at2 .ensures) (read .before .before .before .u64-at3 .ensures) (read .before .before .u64-at4 .ensures) (read .before .u64-at5 .ensures) (read .u64-at6 .ensures))
 
 pub waypoint-line-spec : {M : Type 1} → statement M
 waypoint-line-spec =
@@ -78,6 +84,8 @@ waypoint-line-spec =
     u64-at-requires-4
     add-u64-at-4
     u64-at-requires-5
+    add-u64-at-5
+    u64-at-requires-6
     waypoint-fields-requires
     same-length
     returns-4)

@@ -12,7 +12,7 @@ use Rattle.rooms.proofs.records.get_node.Statement.{statement}
 use Rattle.rooms.proofs.records.get_node.Tie as tie
 
 -- from the facts at the offset alone
-fits : (s : tie.After-offset-of) (j : ℕ) → j ≤ 52 → Fits w64 (s .offset-of .result + j)
+fits : (s : tie.After-offset-of) (j : ℕ) → j ≤ 60 → Fits w64 (s .offset-of .result + j)
 fits s j l = omega arith
 
 offset-of-requires : tie.Need-offset-of-requires
@@ -22,19 +22,19 @@ waypoint-at-requires : tie.Need-waypoint-at-requires
 waypoint-at-requires c κs = c .offset-of .ensures .within
 
 add-u64-at : tie.Need-add-u64-at
-add-u64-at c = fits (c .before .before .before) 40 (lit≤ tt)
+add-u64-at c = fits (c .before .before .before) 48 (lit≤ tt)
 
 u64-at-requires : tie.Need-u64-at-requires
 u64-at-requires c κs = tt
 
 add-u32-at : tie.Need-add-u32-at
-add-u32-at c = fits (c .before .before .before .before) 48 (lit≤ tt)
+add-u32-at c = fits (c .before .before .before .before) 56 (lit≤ tt)
 
 u32-at-requires : tie.Need-u32-at-requires
 u32-at-requires c κs = tt
 
 add-u32-at-2 : tie.Need-add-u32-at-2
-add-u32-at-2 c = fits (c .before .before .before .before .before) 52 (lit≤ tt)
+add-u32-at-2 c = fits (c .before .before .before .before .before) 60 (lit≤ tt)
 
 u32-at-requires-2 : tie.Need-u32-at-requires-2
 u32-at-requires-2 c κs = tt

@@ -1,6 +1,5 @@
--- `clear::cell_free` meets its contract. Assumes nothing.
-use mathlib.Core.Bool.{not}
-use mathlib.Core.Path.{_≡_, sym, ap, _∙_}
+-- `clear::cell_passage` meets its contract. Assumes nothing.
+use mathlib.Core.Path.{_≡_, sym, _∙_}
 use denote.Ref.{now}
 use mir.Syntax.{w64}
 use mir.Val.{SFits}
@@ -9,8 +8,8 @@ use Rattle.world.specs.Boxes.{corner, meets, voxel}
 use Rattle.world.specs.Space.{cellAt, space}
 use Rattle.clear.specs.Laws.{air, unknown, may-not, may-be}
 use borrow.Author.Needs.{needs}
-use Rattle.clear.proofs.cell_free.Statement.{statement}
-use Rattle.clear.proofs.cell_free.Tie as tie
+use Rattle.clear.proofs.cell_passage.Statement.{statement}
+use Rattle.clear.proofs.cell_passage.Tie as tie
 
 -- signed numbers are what the machine reads back from their bits
 cell : (c : tie.After-cell-at) →
@@ -71,7 +70,7 @@ enum-known-occupied c = search needs
 
 returns : tie.Need-returns
 unfolding space
-returns c = rw (cell (c .before .before .before .before) ∙ c .before .before .occupied .given .1) (sym (air _ _ _ _ _ _ _ (c .if1 .taken)))
+returns c = rw (cell (c .before .before .before .before) ∙ c .before .before .occupied .given .1) (air _ _ _ _ _ _ _ _ (c .if1 .taken))
 
 corner-of-requires-2 : tie.Need-corner-of-requires-2
 corner-of-requires-2 c κs = tt
@@ -82,9 +81,12 @@ voxel-at-requires-2 c κs = tt
 intersects-requires-3 : tie.Need-intersects-requires-3
 intersects-requires-3 c κs = tt
 
+met-door-requires : tie.Need-met-door-requires
+met-door-requires c κs = tt
+
 returns-2 : tie.Need-returns-2
 unfolding space
-returns-2 c = rw (cell (c .before .before .before .before .before .before .before .before) ∙ c .before .before .before .before .before .before .occupied .given .1) (sym (may-not _ _ _ (met-2 (c .before)) _ _ _ _ (c .if2 .taken)))
+returns-2 c = rw (c .before .met-door .ensures, cell (c .before .before .before .before .before .before .before .before .before) ∙ c .before .before .before .before .before .before .before .occupied .given .1) (may-not _ _ _ (met-2 (c .before .before)) _ _ _ _ _ (c .if2 .taken))
 
 boxes-from-requires : tie.Need-boxes-from-requires
 boxes-from-requires c κs = tt
@@ -99,11 +101,13 @@ returns-3 c = rw (cell (c .before .before .before .before .before .before .befor
 
 returns-4 : tie.Need-returns-4
 unfolding space
-returns-4 c = rw (cell (c .before .before .before .before .before .before .before .before .before .before) ∙ c .before .before .before .before .before .before .before .before .occupied .given .1)
-    (ap not (rw (c .before .boxes-from .ensures, point-2 (c .before .before .before .before .before)) at (c .run-hits .ensures)) ∙ sym (may-be _ _ _ (met-2 (c .before .before .before)) _ _ _ _ (c .before .before .if2 .left)))
+returns-4 c =
+    rw
+    (c .before .before .before .met-door .ensures, cell (c .before .before .before .before .before .before .before .before .before .before .before) ∙ c .before .before .before .before .before .before .before .before .before .occupied .given .1)
+    (may-be _ _ _ (met-2 (c .before .before .before .before)) _ _ _ _ _ (c .before .before .if2 .left) (rw (c .before .boxes-from .ensures, point-2 (c .before .before .before .before .before .before)) at (c .run-hits .ensures)))
 
-pub cell-free-spec : {M : Type 1} → statement M
-cell-free-spec =
+pub cell-passage-spec : {M : Type 1} → statement M
+cell-passage-spec =
     tie.close
     (tie.spec
     cell-at-requires
@@ -119,6 +123,7 @@ cell-free-spec =
     corner-of-requires-2
     voxel-at-requires-2
     intersects-requires-3
+    met-door-requires
     returns-2
     boxes-from-requires
     run-hits-requires
