@@ -121,7 +121,10 @@ enum {
 /* The parent of the start's node record. */
 #define WALKPRINT_NO_PARENT UINT32_C(4294967295)
 
-/* The door of the start, and of a waypoint with none on the way to it. (A state of this number, for which a permission table of 4 GiB has a byte, is no door.) */
+/*
+ * The door of the start, and of a waypoint with none on the way to it. (A state
+ * of this number is no door; only a permission table of 4 GiB has a byte for it.)
+ */
 #define WALKPRINT_NO_DOOR UINT64_C(4294967295)
 
 /* ---- Records -------------------------------------------------------------- */
@@ -304,7 +307,11 @@ uint64_t walkprint_find_walk_path(
     uint8_t *out, size_t out_length,
     uint8_t *answer, size_t answer_length);
 
-/* What is known of a block state, a bit a fact: the flag table has a byte a state, whose two highest bits are not read. (WALKPRINT_DOOR is such a bit, and no waypoint's door.) */
+/*
+ * What is known of a block state, a bit a fact: the flag table has a byte a
+ * state, whose two highest bits are not read. (WALKPRINT_DOOR is such a bit; a
+ * waypoint's door is a state's number.)
+ */
 enum {
   WALKPRINT_WATER = 1,
   WALKPRINT_DAMAGING = 2,

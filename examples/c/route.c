@@ -12,7 +12,10 @@
 
 enum { BUDGET = 64, SX = 7, SY = 4, SZ = 5 };
 
-/* The states, and the shapes of the same number. A door has a box, and lacks WALKPRINT_COLLIDES: who opens it goes through. Air has that bit, and no box. */
+/*
+ * The states, and the shapes of the same number. A door has a box, and lacks
+ * WALKPRINT_COLLIDES: who opens it goes through. Air has that bit, and no box.
+ */
 enum { AIR, STONE, DOOR };
 static const uint8_t permissions[] = {7, 7, WALKPRINT_OCCUPIED + WALKPRINT_SUPPORT};
 static const walkprint_shape shapes[] = {{0, 0}, {0, 1}, {1, 1}};
