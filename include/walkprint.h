@@ -140,7 +140,7 @@ typedef struct walkprint_cell {
   uint32_t state, shape;
 } walkprint_cell;
 
-/* A permission is a byte a state: 1 occupied, 2 support, 4 collides; higher bits are not read. */
+/* A permission is a byte a state: 1 occupied, 2 support, 4 collides; higher bits are not read. Without 4 a cell has no boxes, and is a door (below). */
 enum {
   WALKPRINT_OCCUPIED = 1,
   WALKPRINT_SUPPORT = 2,
@@ -188,8 +188,8 @@ typedef struct walkprint_body {
  * - The cells that the body is in before it moves are met too, also where it does
  *   not rise. So the move that leaves a doorway names its door, and not one ahead.
  * - 0 is a state like any other. Compare with WALKPRINT_NO_DOOR, never with 0.
- * - It is a state and not a place, and one where a move crosses several. Look for
- *   that state along the way to see which block it is.
+ * - It is a state and not a place, and of several doors on one way only the first.
+ *   Look for that state along the way to see which block it is.
  * - Air counts where its byte lacks WALKPRINT_COLLIDES. So give air that bit, and
  *   a shape without boxes; walkprint_find_path gives it to a state without flags.
  * - The start, which is a list's first record and node 0, has none.
@@ -200,9 +200,9 @@ typedef struct walkprint_waypoint {
 } walkprint_waypoint;
 
 /*
- * A retained point of a search, in discovery order: movement, lift and door of
- * the edge from its parent, its parent's number, and whether it was closed (1).
- * 64 bytes.
+ * A retained point of a search, in discovery order: its waypoint, with movement,
+ * lift and door of the edge from its parent; its cost, its parent's number, and
+ * whether it was closed (1). 64 bytes.
  */
 typedef struct walkprint_node {
   walkprint_waypoint waypoint;
