@@ -99,10 +99,12 @@ fn the_settle_comes_last() {
     assert_eq!(list[1].door, Some(4));
 }
 
+/// It comes before a door ahead, also where that has the lesser x.
 #[test]
 fn a_doorway_that_is_left_is_named() {
-    let two = flat().with([0, 1, 0], 4, 1).with([1, 1, 0], 2, 1);
+    let two = flat().with([0, 1, 0], 4, 1).with([1, 1, 0], 2, 1).with([-1, 1, 0], 2, 1);
     assert_eq!(named(&two, &REQUEST), [None, Some(4), Some(2)]);
+    assert_eq!(named(&two, &to([-0.5, 1.0, 0.5])), [None, Some(4)]);
 }
 
 #[test]
@@ -121,13 +123,20 @@ fn air_without_bit_4_is_a_door() {
 }
 
 /// A body as wide as its cell touches the cells beside it, and does not meet
-/// them.
+/// them; and so it is of one as high as two.
 #[test]
 fn a_cell_that_is_touched_is_not_crossed() {
-    let beside = flat().with([1, 1, 0], 2, 1).with([1, 1, 1], 2, 1).with([-1, 1, 0], 2, 1);
+    let met = |cells: &[[i32; 3]], goal, body| {
+        let world = cells.iter().fold(flat(), |world, &cell| world.with(cell, 2, 1));
+        found_by(&world, &to(goal), &body).0[1].door
+    };
     for (width, door) in [(1.0, None), (1.0 + f64::EPSILON, Some(2)), (1.25, Some(2))] {
-        let (list, _) = found_by(&beside, &to([0.5, 1.0, 1.5]), &Body { width, ..BODY });
-        assert_eq!(doors(&list), [None, door]);
+        let body = Body { width, ..BODY };
+        assert_eq!(met(&[[-1, 1, 0], [1, 1, 0], [1, 1, 1]], [0.5, 1.0, 1.5], body), door);
+        assert_eq!(met(&[[0, 1, -1], [0, 1, 1], [1, 1, 1]], A, body), door);
+    }
+    for (height, door) in [(2.0, None), (2.0 + 2.0 * f64::EPSILON, Some(2)), (2.5, Some(2))] {
+        assert_eq!(met(&[[0, 3, 0], [1, 3, 0]], A, Body { height, ..BODY }), door);
     }
 }
 
