@@ -19,17 +19,22 @@ fn doorway() -> World {
     flat().with([1, 1, 0], 2, 1).with([1, 2, 0], 2, 1)
 }
 
-/// The list that a search finds, which walks back as a route, and the waypoints
-/// of the nodes.
-fn found_by(world: &World, request: &Request, body: &Body) -> (Vec<Waypoint>, Vec<Waypoint>) {
+/// The list that a search finds, which walks back as a route, and the records of
+/// the nodes.
+fn found_by(world: &World, request: &Request, body: &Body) -> (Vec<Waypoint>, Vec<u8>) {
     let [mut nodes, mut front, mut index, mut out] = ROOMS.map(pattern);
     let mut rooms = Rooms { nodes: &mut nodes, front: &mut front, index: &mut index, out: &mut out };
     let answer = walkprint::find_walk_path(&world.tables(), request, body, &mut rooms).expect("no refusal");
     assert_eq!(answer.outcome, Outcome::Found);
     let list = &out[..WAYPOINT * answer.count];
     assert_eq!(walkprint::walk_back(&world.tables(), request, body, list), Ok(WalkBack::Yes));
-    let kept = nodes.chunks_exact(NODE).take(answer.retained).flat_map(|node| Waypoint::list(&node[..WAYPOINT], 1));
-    (Waypoint::list(list, answer.count), kept.collect())
+    nodes.truncate(NODE * answer.retained);
+    (Waypoint::list(list, answer.count), nodes)
+}
+
+/// The waypoints of node records.
+fn kept(nodes: &[u8]) -> Vec<Waypoint> {
+    nodes.chunks_exact(NODE).flat_map(|node| Waypoint::list(&node[..WAYPOINT], 1)).collect()
 }
 
 fn doors(list: &[Waypoint]) -> Vec<Option<u64>> {
@@ -52,7 +57,24 @@ fn a_door_is_named_in_the_list_and_in_the_nodes() {
     let (list, nodes) = found_by(&doorway(), &REQUEST, &BODY);
     assert_eq!(doors(&list), [None, Some(2), Some(2)]);
     // The start, its sides, its diagonals; a diagonal crosses the cells of both sides.
-    assert_eq!(doors(&nodes), [None, Some(2), None, None, None, Some(2), None, None, Some(2)]);
+    assert_eq!(doors(&kept(&nodes)), [None, Some(2), None, None, None, Some(2), None, None, Some(2)]);
+}
+
+/// Each node has the door of the edge from its parent, so that the two are a
+/// route. One of these is found through the door first, and then by a shorter way
+/// beside it.
+#[test]
+fn a_node_with_a_new_parent_has_its_door() {
+    let posts = [[2, 1, 2], [2, 2, 2], [3, 1, 1], [3, 2, 1]];
+    let world = posts.into_iter().fold(flat().with([1, 1, 1], 2, 1), World::stone);
+    let (_, nodes) = found_by(&world, &to([4.5, 1.0, 2.5]), &BODY);
+    let points = kept(&nodes);
+    for (node, point) in nodes.chunks_exact(NODE).zip(&points).skip(1) {
+        let parent = u32::from_le_bytes(node[56..60].try_into().expect("four bytes"));
+        let start = points[parent as usize].feet;
+        let list = [record(start, 0.0, 0), node[..WAYPOINT].to_vec()].concat();
+        assert_eq!(back(&world, &Request { start, ..to(point.feet) }, &list), WalkBack::Yes);
+    }
 }
 
 #[test]
@@ -119,7 +141,7 @@ fn a_connector_has_a_door_and_the_start_has_none() {
 fn air_without_bit_4_is_a_door() {
     let (list, nodes) = found_by(&World::flat().permitting(&[3, 7]), &REQUEST, &BODY);
     assert_eq!(doors(&list), [None, Some(0), Some(0)]);
-    assert_eq!(doors(&nodes)[1..], [Some(0); 8]);
+    assert_eq!(doors(&kept(&nodes))[1..], [Some(0); 8]);
 }
 
 /// A body as wide as its cell touches the cells beside it, and does not meet
