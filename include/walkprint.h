@@ -379,8 +379,8 @@ uint64_t walkprint_find_path(
  * for a wrong start. Then pair by pair, a record and the next one: 101 to 109
  * where there is no edge from the one to the other; 117 where there is one, but
  * it is no graph step nor, at the last pair, a connector; 118 where the later
- * record has another movement, lift or door than its edge. And 119 for a wrong
- * end.
+ * record has another movement, lift or door than its edge (a door that was opened
+ * after the list was found has another state). And 119 for a wrong end.
  *
  * Returns the number. Afterwards:
  *   place   with a pair's reason (101 to 109, 117, 118) the place of the pair's
