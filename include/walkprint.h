@@ -2,7 +2,8 @@
  * walkprint for C: a walking search for block worlds whose answers can be
  * believed. Every function below is proved to meet its contract, which
  * docs/contracts/c.md states; this header says the same in words. (Only
- * walkprint_index_bytes is plain C, which is tested and not proved.)
+ * walkprint_index_bytes and the macros are plain C, which is tested and not
+ * proved.)
  *
  * Link libwalk_c.a from the folder that `tools/library` prints (README.md,
  * "From C and Rust").
@@ -35,7 +36,7 @@ extern "C" {
 /* ---- The version ---------------------------------------------------------- */
 
 #define WALKPRINT_VERSION_MAJOR 0
-#define WALKPRINT_VERSION_MINOR 3
+#define WALKPRINT_VERSION_MINOR 4
 #define WALKPRINT_VERSION_PATCH 0
 #define WALKPRINT_VERSION (WALKPRINT_VERSION_MAJOR * 1000000 + WALKPRINT_VERSION_MINOR * 1000 + WALKPRINT_VERSION_PATCH)
 
@@ -81,9 +82,9 @@ enum {
   WALKPRINT_GOAL_OUT_OF_RANGE = 113,
   WALKPRINT_START_NOT_STANDABLE = 114,
   WALKPRINT_GOAL_NOT_STANDABLE = 115,
-  WALKPRINT_WRONG_START = 116,          /* the first record is not the start's: its point, Walk, lift 0 */
+  WALKPRINT_WRONG_START = 116,          /* the first record is not the start's: its point, Walk, lift 0, no door */
   WALKPRINT_NOT_A_STEP = 117,           /* of a pair: there is an edge, but it is no graph step nor, at the last pair, a connector */
-  WALKPRINT_WRONG_LABEL = 118,          /* of a pair: the movement or the lift is not its edge's */
+  WALKPRINT_WRONG_LABEL = 118,          /* of a pair: the movement, the lift or the door is not its edge's */
   WALKPRINT_WRONG_END = 119,            /* the last point is not the goal */
 
   /* An edge, by its movement. */
@@ -120,6 +121,12 @@ enum {
 /* The parent of the start's node record. */
 #define WALKPRINT_NO_PARENT UINT32_C(4294967295)
 
+/*
+ * The door of the start, and of a waypoint with none on the way to it. (A state
+ * of this number is no door; only a permission table of 4 GiB has a byte for it.)
+ */
+#define WALKPRINT_NO_DOOR UINT64_C(4294967295)
+
 /* ---- Records -------------------------------------------------------------- */
 
 /* Where the cell table lies: its least cell, and how many cells it has each way, 0 to 256. 24 bytes. */
@@ -133,7 +140,7 @@ typedef struct walkprint_cell {
   uint32_t state, shape;
 } walkprint_cell;
 
-/* A permission is a byte a state: 1 occupied, 2 support, 4 collides; higher bits are not read. */
+/* A permission is a byte a state: 1 occupied, 2 support, 4 collides; higher bits are not read. Without 4 a cell has no boxes, and is a door (below). */
 enum {
   WALKPRINT_OCCUPIED = 1,
   WALKPRINT_SUPPORT = 2,
@@ -163,13 +170,40 @@ typedef struct walkprint_body {
   double width, height, step_height;
 } walkprint_body;
 
-/* A point of a list: its feet, how far the move to it lifts, and the kind of movement. 40 bytes. */
+/*
+ * A point of a list: its feet, how far the move to it lifts, the kind of
+ * movement, and the door on the way to it. 48 bytes.
+ *
+ * `door` tells a guide that opens doors what to open before it goes on to this
+ * point. It is the number of a block state, as the cell table has it: that of the
+ * first cell on the way whose state's permission byte lacks WALKPRINT_COLLIDES,
+ * so that the body goes through whatever stands there. WALKPRINT_NO_DOOR says
+ * that there is no such cell.
+ *
+ * - First are the cells that the body meets on its way up (the lift), then those
+ *   on its way across, then those on its way to the target; on each of the three
+ *   the lowest layer (y), in it the least x, and there the least z. A cell is met
+ *   if its cube and the box that the body sweeps overlap: to touch is not enough.
+ *   It must be known; the other two bits of its byte are not read.
+ * - The cells that the body is in before it moves are met too, also where it does
+ *   not rise. So the move that leaves a doorway names its door, and not one ahead.
+ * - 0 is a state like any other. Compare with WALKPRINT_NO_DOOR, never with 0.
+ * - It is a state and not a place, and of several doors on one way only the first.
+ *   Look for that state along the way to see which block it is.
+ * - Air counts where its byte lacks WALKPRINT_COLLIDES. So give air that bit, and
+ *   a shape without boxes; walkprint_find_path gives it to a state without flags.
+ * - The start, which is a list's first record and node 0, has none.
+ */
 typedef struct walkprint_waypoint {
   double x, y, z, lift;
-  uint64_t movement;
+  uint64_t movement, door;
 } walkprint_waypoint;
 
-/* A retained point of a search, in discovery order: its parent's number, and whether it was closed (1). 56 bytes. */
+/*
+ * A retained point of a search, in discovery order: its waypoint, with movement,
+ * lift and door of the edge from its parent; its cost, its parent's number, and
+ * whether it was closed (1). 64 bytes.
+ */
 typedef struct walkprint_node {
   walkprint_waypoint waypoint;
   double cost;
@@ -212,6 +246,17 @@ enum {
 
 /* ---- The search ----------------------------------------------------------- */
 
+/*
+ * The bytes of the shortest rooms for a budget: a record a node in `nodes` and
+ * in `front`, and one more than that in `out`. Longer ones are right too. Each
+ * is a size_t, and a constant where node_budget is one, so that an array can
+ * have this size. They are right for every budget that a search takes, that is,
+ * up to 4,096; a product with a far larger one may wrap.
+ */
+#define WALKPRINT_NODES_BYTES(node_budget) ((size_t)(node_budget) * sizeof(walkprint_node))
+#define WALKPRINT_FRONT_BYTES(node_budget) ((size_t)(node_budget) * sizeof(walkprint_front))
+#define WALKPRINT_OUT_BYTES(node_budget) (((size_t)(node_budget) + 1) * sizeof(walkprint_waypoint))
+
 /* An index room of so many bytes is of a right size for every budget up to 4,096, the most that a search takes. Larger powers of two are right too. */
 enum { WALKPRINT_MOST_INDEX_BYTES = 32768 };
 
@@ -231,8 +276,8 @@ static inline size_t walkprint_index_bytes(uint64_t node_budget) {
 /*
  * A way from the request's start to its goal. Judged in this order: 3;
  * an invalid request (1); 4; 5, where `nodes` has fewer than node_budget
- * records of 56 bytes, `front` fewer than node_budget of 24, `out` fewer than
- * node_budget + 1 of 40, or `index` is of a wrong size: its slots of 4 bytes are
+ * records of 64 bytes, `front` fewer than node_budget of 24, `out` fewer than
+ * node_budget + 1 of 48, or `index` is of a wrong size: its slots of 4 bytes are
  * not whole, are no power of two, or are fewer than 2 * node_budget; goal in
  * range, start standable, goal standable (else 1); budget 0 (2); then the
  * search, which answers 0, 1 or 2. The old bytes of the rooms decide nothing.
@@ -262,7 +307,11 @@ uint64_t walkprint_find_walk_path(
     uint8_t *out, size_t out_length,
     uint8_t *answer, size_t answer_length);
 
-/* What is known of a block state, a bit a fact: the flag table has a byte a state, whose two highest bits are not read. */
+/*
+ * What is known of a block state, a bit a fact: the flag table has a byte a
+ * state, whose two highest bits are not read. (WALKPRINT_DOOR is such a bit; a
+ * waypoint's door is a state's number.)
+ */
 enum {
   WALKPRINT_WATER = 1,
   WALKPRINT_DAMAGING = 2,
@@ -284,17 +333,24 @@ enum {
   WALKPRINT_IN_WATER = 128
 };
 
-/* The budget that a mob's search asks for, by which its rooms are sized, and the bytes of its smallest index room. */
+/* The budget that a mob's search asks for, and the bytes of its shortest rooms. */
 enum {
   WALKPRINT_PATH_NODE_BUDGET = 2048,
-  WALKPRINT_PATH_INDEX_BYTES = 16384
+  WALKPRINT_PATH_NODES_BYTES = 131072,
+  WALKPRINT_PATH_FRONT_BYTES = 49152,
+  WALKPRINT_PATH_INDEX_BYTES = 16384,
+  WALKPRINT_PATH_OUT_BYTES = 98352
 };
 
 /*
  * A mob's search. It judges 8, fills the permission table by the flags of the
  * states and the policy, then searches as walkprint_find_walk_path does, with
  * range 16, budget 2,048, drop 3, the body's step, and jump_height, or 0 if the
- * mob can't jump. Returns 8 or the outcome's number. Afterwards:
+ * mob can't jump. The doors of its waypoints are those that the mob opens or
+ * breaks by its policy. (One with WALKPRINT_CAN_OPEN_DOORS and without
+ * WALKPRINT_DOOR_BREAKER goes through every door so, an open one too: its state
+ * says whether there is something to do.) Returns 8 or the outcome's number.
+ * Afterwards:
  *   permissions
  *           on 8 untouched; else filled, whatever the search answers.
  *   answer, out, nodes, front, index
@@ -323,7 +379,8 @@ uint64_t walkprint_find_path(
  * for a wrong start. Then pair by pair, a record and the next one: 101 to 109
  * where there is no edge from the one to the other; 117 where there is one, but
  * it is no graph step nor, at the last pair, a connector; 118 where the later
- * record has another movement or lift than its edge. And 119 for a wrong end.
+ * record has another movement, lift or door than its edge (a door that was opened
+ * after the list was found has another state). And 119 for a wrong end.
  *
  * Returns the number. Afterwards:
  *   place   with a pair's reason (101 to 109, 117, 118) the place of the pair's
@@ -346,7 +403,7 @@ uint64_t walkprint_walk_back(
 /*
  * The edge from one point to another: 3; an invalid request (1); 4, the budget
  * not read; then 130 to 133 by its movement, or where there is none the first
- * reason, 101 to 109. Writes nothing.
+ * reason, 101 to 109. Its lift and its door are not told. Writes nothing.
  *
  * The points are not judged: NaN and infinities too are answered. An edge's
  * target, and `from` raised by the edge's lift, are in range of the request's
@@ -415,24 +472,27 @@ double walkprint_square_root(double x);
 
 #ifdef __cplusplus
 }
-#define WALKPRINT_SIZE(type, bytes) static_assert(sizeof(type) == (bytes), #type)
+#define WALKPRINT_SIZE(bytes, number) static_assert((bytes) == (number), #bytes)
 #else
-#define WALKPRINT_SIZE(type, bytes) _Static_assert(sizeof(type) == (bytes), #type)
+#define WALKPRINT_SIZE(bytes, number) _Static_assert((bytes) == (number), #bytes)
 #endif
 
-/* The structs have no gaps. */
-WALKPRINT_SIZE(walkprint_window, 24);
-WALKPRINT_SIZE(walkprint_cell, 8);
-WALKPRINT_SIZE(walkprint_shape, 8);
-WALKPRINT_SIZE(walkprint_box, 48);
-WALKPRINT_SIZE(walkprint_request, 88);
-WALKPRINT_SIZE(walkprint_body, 24);
-WALKPRINT_SIZE(walkprint_waypoint, 40);
-WALKPRINT_SIZE(walkprint_node, 56);
-WALKPRINT_SIZE(walkprint_front, 24);
-WALKPRINT_SIZE(walkprint_ends, 48);
-WALKPRINT_SIZE(walkprint_answer, 32);
-WALKPRINT_SIZE(walkprint_scene, 168);
+/* The structs have no gaps, and a mob's rooms are those of its budget. */
+WALKPRINT_SIZE(sizeof(walkprint_window), 24);
+WALKPRINT_SIZE(sizeof(walkprint_cell), 8);
+WALKPRINT_SIZE(sizeof(walkprint_shape), 8);
+WALKPRINT_SIZE(sizeof(walkprint_box), 48);
+WALKPRINT_SIZE(sizeof(walkprint_request), 88);
+WALKPRINT_SIZE(sizeof(walkprint_body), 24);
+WALKPRINT_SIZE(sizeof(walkprint_waypoint), 48);
+WALKPRINT_SIZE(sizeof(walkprint_node), 64);
+WALKPRINT_SIZE(sizeof(walkprint_front), 24);
+WALKPRINT_SIZE(sizeof(walkprint_ends), 48);
+WALKPRINT_SIZE(sizeof(walkprint_answer), 32);
+WALKPRINT_SIZE(sizeof(walkprint_scene), 168);
+WALKPRINT_SIZE(WALKPRINT_NODES_BYTES(WALKPRINT_PATH_NODE_BUDGET), WALKPRINT_PATH_NODES_BYTES);
+WALKPRINT_SIZE(WALKPRINT_FRONT_BYTES(WALKPRINT_PATH_NODE_BUDGET), WALKPRINT_PATH_FRONT_BYTES);
+WALKPRINT_SIZE(WALKPRINT_OUT_BYTES(WALKPRINT_PATH_NODE_BUDGET), WALKPRINT_PATH_OUT_BYTES);
 #undef WALKPRINT_SIZE
 
 #endif

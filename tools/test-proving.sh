@@ -152,10 +152,14 @@ try_proving() {
         : >"$work/wait"
         : >"$work/out"
         called='a run that ^C ends at a terminal'
-        { soon grep -qF '[1/3] low proved' "$work/out" && printf '\003' && sleep 1; } | script -qfec "$walkprint scenes/flat.txt" /dev/null >"$work/out" 2>&1
+        # What runs in the background ignores ^C, and so does all that it starts: env undoes that, where it can. The file `wait` goes in any case, so that
+        # a run that ^C does not end goes on.
+        heed=
+        ! env --default-signal=INT true 2>/dev/null || heed='env --default-signal=INT '
+        { soon grep -qF '[1/3] low proved' "$work/out" && printf '\003' && sleep 1; rm -f "$work/wait"; } |
+            script -qfec "$heed$walkprint scenes/flat.txt" /dev/null >"$work/out" 2>&1
         tried_that 'it does not end as it should' test $? -eq 130
         tried_that 'it leaves a stamp' test ! -e "$small/target/bin/walkprint.proved"
-        rm -f "$work/wait"
     fi
 
     # what is not proved is not run

@@ -5,23 +5,18 @@
 pub mod raw;
 mod reasons;
 mod records;
+mod rooms;
 
 pub use reasons::{Reason, WORD, WalkBack, word};
-pub use records::{Body, Movement, Point, Policy, Request, Waypoint, Window};
+pub use records::{Body, Movement, NO_DOOR, Point, Policy, Request, Waypoint, Window};
+pub use rooms::{
+    MOST_INDEX_BYTES, PATH_FRONT_BYTES, PATH_INDEX_BYTES, PATH_NODE_BUDGET, PATH_NODES_BYTES, PATH_OUT_BYTES, Rooms, front_bytes,
+    index_bytes, nodes_bytes, out_bytes,
+};
 
 /// The largest sizes in bytes that a scene's tables can have: cells,
 /// permissions, shapes and boxes.
 pub const SCENE_TABLES: [usize; 4] = [32768, 256, 2048, 12288];
-
-/// The budget that a mob's search asks for: its rooms are sized by it.
-pub const PATH_NODE_BUDGET: usize = 2048;
-
-/// The bytes of the smallest index room for a mob's search.
-pub const PATH_INDEX_BYTES: usize = index_bytes(PATH_NODE_BUDGET);
-
-/// An index room of so many bytes is of a right size for every budget up to
-/// 4,096, the most that a search takes. Larger powers of two are right too.
-pub const MOST_INDEX_BYTES: usize = 32768;
 
 /// The number of an edge is this and its movement's.
 const EDGE: u64 = 130;
@@ -88,29 +83,6 @@ pub struct Tables<'a> {
     pub permissions: &'a [u8],
     pub shapes: &'a [u8],
     pub boxes: &'a [u8],
-}
-
-/// The rooms that a search is lent: 56 bytes a node, 24 a frontier record,
-/// `index_bytes` for the index, and 40 a waypoint, one more of those than the
-/// budget.
-#[derive(Debug)]
-pub struct Rooms<'a> {
-    pub nodes: &'a mut [u8],
-    pub front: &'a mut [u8],
-    pub index: &'a mut [u8],
-    pub out: &'a mut [u8],
-}
-
-/// The bytes of the smallest index room for a budget. It has slots of 4 bytes,
-/// their number is a power of two, and there are at least twice the budget; so
-/// one that is twice as long is right too, and so on, but none between them. For
-/// a budget above 4,096, which no search takes, the bytes for 4,096.
-pub const fn index_bytes(budget: usize) -> usize {
-    let mut bytes = 4;
-    while bytes / 8 < budget && bytes < MOST_INDEX_BYTES {
-        bytes *= 2;
-    }
-    bytes
 }
 
 /// What a search answers. `count` waypoints stand at the start of the output.

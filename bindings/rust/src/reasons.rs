@@ -35,12 +35,12 @@ pub enum Reason {
     GoalOutOfRange = 113,
     StartNotStandable = 114,
     GoalNotStandable = 115,
-    /// Its first record is not the start, Walk, with lift 0.
+    /// Its first record is not the start, Walk, with lift 0 and no door.
     WrongStart = 116,
     /// Of a pair: there is an edge, but it is no graph step nor, at the last
     /// pair, a connector.
     NotAStep = 117,
-    /// Of a pair: the movement or the lift is not its edge's.
+    /// Of a pair: the movement, the lift or the door is not its edge's.
     WrongLabel = 118,
     /// Its last point is not the goal.
     WrongEnd = 119,

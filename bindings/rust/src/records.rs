@@ -59,7 +59,16 @@ pub struct Waypoint {
     pub feet: Point,
     pub lift: f64,
     pub movement: Movement,
+    /// What a guide opens before it goes on to this point: the number of the
+    /// state of the first door on the way, as the cell table has it. A door is a
+    /// cell that is known and whose state's permission byte lacks bit 4; the
+    /// header's `walkprint_waypoint` says which is the first. The cells that the
+    /// body leaves count, 0 is a state like any other, and the start has none.
+    pub door: Option<u64>,
 }
+
+/// The door in a record, where there is none.
+pub const NO_DOOR: u64 = 4294967295;
 
 impl Movement {
     pub(crate) fn numbered(number: u64) -> Option<Self> {
@@ -133,16 +142,20 @@ impl Body {
 }
 
 impl Waypoint {
+    /// The bytes of a record.
+    pub const BYTES: usize = 48;
+
     /// The first `count` waypoint records of an output room.
     pub fn list(out: &[u8], count: usize) -> Vec<Self> {
-        out.chunks_exact(40).take(count).filter_map(Self::read).collect()
+        out.chunks_exact(Self::BYTES).take(count).filter_map(Self::read).collect()
     }
 
     /// None where the movement is no movement.
     fn read(bytes: &[u8]) -> Option<Self> {
         let x = |k| f64::from_bits(word(bytes, k));
         let movement = Movement::numbered(word(bytes, 4))?;
-        Some(Self { feet: [x(0), x(1), x(2)], lift: x(3), movement })
+        let door = Some(word(bytes, 5)).filter(|&door| door != NO_DOOR);
+        Some(Self { feet: [x(0), x(1), x(2)], lift: x(3), movement, door })
     }
 }
 

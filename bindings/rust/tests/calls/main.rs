@@ -1,14 +1,21 @@
 //! The calls on the flat scene, with rooms and tables that are filled with a
 //! pattern: exactly long, too long and one byte short, the index room of every
 //! right and wrong size, every byte compared. Why a step is refused is in
-//! `reasons`.
+//! `reasons`, which door is named in `doors`.
 
+mod doors;
 mod reasons;
+mod world;
 
 use walkprint::{
-    Answer, Body, Error, MOST_INDEX_BYTES, Movement, Outcome, PATH_INDEX_BYTES, PATH_NODE_BUDGET, Policy, Reason, Request,
-    Rooms, SCENE_TABLES, Tables, WalkBack, Waypoint, Window, index_bytes, raw,
+    Answer, Body, Error, MOST_INDEX_BYTES, Movement, NO_DOOR, Outcome, PATH_FRONT_BYTES, PATH_INDEX_BYTES, PATH_NODE_BUDGET,
+    PATH_NODES_BYTES, PATH_OUT_BYTES, Policy, Reason, Request, Rooms, SCENE_TABLES, Tables, WalkBack, Waypoint, Window,
+    front_bytes, index_bytes, nodes_bytes, out_bytes, raw,
 };
+
+/// The bytes of a node and of a waypoint.
+const NODE: usize = 64;
+const WAYPOINT: usize = 48;
 
 const WINDOW: Window = Window { origin: [-2, 0, -2], sizes: [7, 4, 5] };
 
@@ -26,10 +33,18 @@ const REQUEST: Request = Request {
 
 /// Of nodes, frontier, index and output: the index has two slots of 4 bytes for
 /// each point of the budget, 128, a power of two.
-const ROOMS: [usize; 4] = [56 * 64, 24 * 64, 4 * 128, 40 * 65];
+const ROOMS: [usize; 4] = [NODE * 64, 24 * 64, 4 * 128, WAYPOINT * 65];
 
 fn pattern(n: usize) -> Vec<u8> {
     (0..n).map(|i| (i * 37 + 11) as u8).collect()
+}
+
+fn floats(numbers: &[f64]) -> Vec<u8> {
+    numbers.iter().flat_map(|n| n.to_le_bytes()).collect()
+}
+
+fn words(numbers: &[i32]) -> Vec<u8> {
+    numbers.iter().flat_map(|n| n.to_le_bytes()).collect()
 }
 
 /// Cells, permissions, shapes and boxes: a floor of cubes, and air above it.
@@ -84,14 +99,14 @@ fn found_writes_its_records_and_no_more() {
         let sizes = [a + longer, b + longer, c * times, d + longer];
         let (answer, [nodes, front, index, out]) = search(&flat(), &REQUEST, sizes);
         assert_eq!(answer, Ok(Answer { outcome: Outcome::Found, count: 3, retained: 9, closed: 2 }));
-        assert_eq!(nodes[..9 * 56], exact[0][..9 * 56]);
-        assert_eq!(nodes[9 * 56..], pattern(nodes.len())[9 * 56..]);
+        assert_eq!(nodes[..9 * NODE], exact[0][..9 * NODE]);
+        assert_eq!(nodes[9 * NODE..], pattern(nodes.len())[9 * NODE..]);
         assert!(is_zero(&front));
         assert!(is_zero(&index));
-        assert_eq!(out[..3 * 40], exact[3][..3 * 40]);
-        assert_eq!(out[3 * 40..], pattern(out.len())[3 * 40..]);
+        assert_eq!(out[..3 * WAYPOINT], exact[3][..3 * WAYPOINT]);
+        assert_eq!(out[3 * WAYPOINT..], pattern(out.len())[3 * WAYPOINT..]);
         let list = Waypoint::list(&out, 3);
-        let at = |x| Waypoint { feet: [x, 1.0, 0.5], lift: 0.0, movement: Movement::Walk };
+        let at = |x| Waypoint { feet: [x, 1.0, 0.5], lift: 0.0, movement: Movement::Walk, door: None };
         assert_eq!(list, [at(0.5), at(1.5), at(2.5)]);
     }
 }
@@ -131,8 +146,9 @@ fn an_index_room_of_a_wrong_size_is_no_room() {
     }
     // One slot is enough at budget 0, and no bytes are not.
     let none = Request { node_budget: 0, ..REQUEST };
-    assert_eq!(search(&flat(), &none, [0, 0, 4, 40]).0.unwrap().outcome, Outcome::BudgetExceeded);
-    assert_eq!(search(&flat(), &none, [0, 0, 0, 40]).0, Err(Error::NoRoom));
+    assert_eq!(search(&flat(), &none, [0, 0, 4, WAYPOINT]).0.unwrap().outcome, Outcome::BudgetExceeded);
+    assert_eq!(search(&flat(), &none, [0, 0, 0, WAYPOINT]).0, Err(Error::NoRoom));
+    assert_eq!(search(&flat(), &none, [0, 0, 4, WAYPOINT - 1]).0, Err(Error::NoRoom));
     // Half as many slots, three times a power of two, and up to three bytes more.
     for slots in [64, 96, 192, 384, 768, 3 << 12] {
         assert_eq!(search(&flat(), &REQUEST, with_index(4 * slots)).0, Err(Error::NoRoom));
@@ -158,10 +174,29 @@ fn the_smallest_index_room() {
     }
     for budget in [0, 1, 2, 3, 63, 64, 65, 1000, 2047, 2048, 2049, 4095, 4096] {
         let request = Request { node_budget: budget as u64, ..REQUEST };
-        let answer = |bytes| search(&flat(), &request, [56 * budget, 24 * budget, bytes, 40 * (budget + 1)]).0;
+        let answer = |bytes| search(&flat(), &request, [NODE * budget, 24 * budget, bytes, WAYPOINT * (budget + 1)]).0;
         assert!(answer(index_bytes(budget)).is_ok());
         assert!(answer(MOST_INDEX_BYTES).is_ok());
         assert_eq!(answer(index_bytes(budget) / 2), Err(Error::NoRoom));
+    }
+}
+
+#[test]
+fn the_shortest_rooms() {
+    let sizes = |budget| [nodes_bytes(budget), front_bytes(budget), index_bytes(budget), out_bytes(budget)];
+    assert_eq!(sizes(64), ROOMS);
+    for budget in [0, 1, 2, 63, 4095, 4096] {
+        assert_eq!(sizes(budget), [64 * budget, 24 * budget, index_bytes(budget), 48 * (budget + 1)]);
+        let request = Request { node_budget: budget as u64, ..REQUEST };
+        assert!(search(&flat(), &request, sizes(budget)).0.is_ok());
+        for room in (0..4).filter(|&room| sizes(budget)[room] > 0) {
+            let mut short = sizes(budget);
+            short[room] -= 1;
+            assert_eq!(search(&flat(), &request, short).0, Err(Error::NoRoom));
+        }
+    }
+    for budget in [4097, 1 << 31, usize::MAX / 48, usize::MAX] {
+        assert_eq!(sizes(budget), sizes(4096));
     }
 }
 
@@ -228,7 +263,7 @@ fn no_way() {
     let answer = answer.unwrap();
     assert_eq!((answer.outcome, answer.count, answer.retained), (Outcome::Unreachable, 0, answer.closed));
     assert!(answer.retained > 9);
-    assert_eq!(nodes[56 * answer.retained..], pattern(nodes.len())[56 * answer.retained..]);
+    assert_eq!(nodes[NODE * answer.retained..], pattern(nodes.len())[NODE * answer.retained..]);
     assert!(is_zero(&front));
     assert!(is_zero(&index));
     assert_eq!(out, pattern(ROOMS[3]));
@@ -282,16 +317,17 @@ fn walk_back_takes_the_list_and_no_other() {
     let t = flat();
     let (_, [_, _, _, out]) = search(&t, &REQUEST, ROOMS);
     let back = |list: &[u8]| walkprint::walk_back(&tables(&t), &REQUEST, &BODY, list);
-    assert_eq!(back(&out[..120]), Ok(WalkBack::Yes));
+    assert_eq!(back(&out[..3 * WAYPOINT]), Ok(WalkBack::Yes));
     // Behind the list stands the pattern, whose movement is above 3.
-    for n in [0, 119, 121, 160] {
+    for n in [0, 3 * WAYPOINT - 1, 3 * WAYPOINT + 1, 4 * WAYPOINT] {
         assert_eq!(back(&out[..n]), Ok(WalkBack::No(Reason::BadList, None)));
     }
-    for n in [40, 80] {
+    for n in [WAYPOINT, 2 * WAYPOINT] {
         assert_eq!(back(&out[..n]), Ok(WalkBack::No(Reason::WrongEnd, None)));
     }
-    let mut lifted = out[..120].to_vec();
-    lifted[104..112].copy_from_slice(&0.25f64.to_le_bytes());
+    // A lift is a record's fourth word.
+    let mut lifted = out[..3 * WAYPOINT].to_vec();
+    lifted[2 * WAYPOINT + 24..][..8].copy_from_slice(&0.25f64.to_le_bytes());
     assert_eq!(back(&lifted), Ok(WalkBack::No(Reason::WrongLabel, Some(2))));
 }
 
@@ -306,23 +342,35 @@ const POLICY: Policy = Policy {
     door_breaker: true,
 };
 
-/// Rooms for a mob's search: a record more than asked for, and an index of so
-/// many bytes.
-fn mob_rooms(index: usize) -> [Vec<u8>; 4] {
-    let n = PATH_NODE_BUDGET + 1;
-    [56 * n, 24 * n, index, 40 * n].map(pattern)
+/// Of a mob's nodes, frontier, index and output.
+const MOB_ROOMS: [usize; 4] = [131072, 49152, 16384, 98352];
+
+/// Rooms for a mob's search, with an index of so many bytes.
+fn mob_rooms(index: usize) -> [usize; 4] {
+    let [nodes, front, _, out] = MOB_ROOMS;
+    [nodes, front, index, out]
 }
 
-/// The answer of a mob's search with a permission table of so many bytes, that
-/// table after it, and the four rooms.
-fn mob(flags: &[u8], states: usize, index: usize) -> (Result<Answer, Error>, Vec<u8>, [Vec<u8>; 4]) {
-    let t = flat();
-    let (mut permissions, mut lent) = (pattern(states), mob_rooms(index));
+/// The answer of a mob's search in tables, with a permission table of so many
+/// bytes, that table after it, and the four rooms.
+fn mob_in(
+    t: &Tables,
+    policy: &Policy,
+    flags: &[u8],
+    states: usize,
+    sizes: [usize; 4],
+) -> (Result<Answer, Error>, Vec<u8>, [Vec<u8>; 4]) {
+    let (mut permissions, mut lent) = (pattern(states), sizes.map(pattern));
     let [nodes, front, index, out] = &mut lent;
     let mut rooms = Rooms { nodes, front, index, out };
     let ends = [REQUEST.start, REQUEST.goal];
-    let answer = walkprint::find_path(&POLICY, false, flags, &tables(&t), &mut permissions, ends, &BODY, &mut rooms);
+    let answer = walkprint::find_path(policy, false, flags, t, &mut permissions, ends, &BODY, &mut rooms);
     (answer, permissions, lent)
+}
+
+/// The same in the flat tables, with an index of so many bytes.
+fn mob(flags: &[u8], states: usize, index: usize) -> (Result<Answer, Error>, Vec<u8>, [Vec<u8>; 4]) {
+    mob_in(&tables(&flat()), &POLICY, flags, states, mob_rooms(index))
 }
 
 #[test]
@@ -339,6 +387,27 @@ fn a_mob_fills_its_permissions() {
         let (answer, permissions, rooms) = mob(&[0, 0], states, PATH_INDEX_BYTES);
         assert_eq!(answer, Err(Error::BadTable));
         assert_eq!(permissions, pattern(states));
+        assert!(untouched(&rooms));
+    }
+}
+
+/// A mob's rooms may be longer, and not a byte shorter.
+#[test]
+fn a_mob_has_its_rooms() {
+    assert_eq!([PATH_NODES_BYTES, PATH_FRONT_BYTES, PATH_INDEX_BYTES, PATH_OUT_BYTES], MOB_ROOMS);
+    let t = flat();
+    let mob = |sizes| mob_in(&tables(&t), &POLICY, &[0, 0], 2, sizes);
+    for longer in [0, 1, 100] {
+        let [nodes, front, index, out] = MOB_ROOMS;
+        let (answer, _, rooms) = mob([nodes + longer, front + longer, index, out + longer]);
+        assert_eq!(answer.unwrap().outcome, Outcome::Found);
+        assert!(is_zero(&rooms[1]));
+    }
+    for short in 0..4 {
+        let mut sizes = MOB_ROOMS;
+        sizes[short] -= 1;
+        let (answer, permissions, rooms) = mob(sizes);
+        assert_eq!((answer, permissions), (Err(Error::NoRoom), vec![7, 7]));
         assert!(untouched(&rooms));
     }
 }
@@ -443,8 +512,6 @@ fn scene() -> Vec<u8> {
         out.resize(64, 0);
         out
     };
-    let floats = |x: &[f64]| x.iter().flat_map(|n| n.to_le_bytes()).collect::<Vec<u8>>();
-    let words = |x: &[i32]| x.iter().flat_map(|n| n.to_le_bytes()).collect::<Vec<u8>>();
     [
         record(1, 64, &floats(&[0.5, 1.0, 0.5, 2.5, 1.0, 0.5, 16.0])),
         record(2, 0, &floats(&[0.5, 0.0, 3.0, 0.625, 1.75, 0.5])),
@@ -513,26 +580,29 @@ fn numbers() {
     assert_eq!(walkprint::jump_apex(f32::INFINITY, 0.08), Err(Error::EndlessJump));
 }
 
-/// The numbers of a search, a walk-back of one record of zeros, and an edge that
-/// are handed records of so many bytes, over the flat tables a layer lower, so
-/// that a request of zeros would be answered.
+/// One waypoint record, a Walk to the point of zeros with lift 0 and no door.
+fn lone_record() -> Vec<u8> {
+    [vec![0; WAYPOINT - 8], NO_DOOR.to_le_bytes().to_vec()].concat()
+}
+
+/// The numbers of a search, a walk-back of that record, and an edge that are
+/// handed records of so many bytes, over the flat tables a layer lower, so that a
+/// request of zeros would be answered.
 fn cut(window: usize, request: usize, body: usize) -> [u64; 3] {
     let t = flat();
     let [cells, permissions, shapes, boxes] = &t;
-    let words = |x: &[i32]| x.iter().flat_map(|n| n.to_le_bytes()).collect::<Vec<u8>>();
-    let floats = |x: &[f64]| x.iter().flat_map(|n| n.to_le_bytes()).collect::<Vec<u8>>();
     let asked = raw::Asked {
         window: &words(&[-2, -1, -2, 7, 4, 5, 9, 9])[..window],
         tables: [cells, permissions, shapes, boxes],
         request: &[0; 96][..request],
         body: &floats(&[0.625, 1.75, 0.5, 9.0])[..body],
     };
-    let (mut index, mut out, mut answer) = (pattern(4), pattern(40), [0; 32]);
+    let (mut index, mut out, mut answer) = (pattern(4), pattern(WAYPOINT), [0; 32]);
     let lent = raw::Lent { nodes: &mut [], front: &mut [], index: &mut index, out: &mut out, answer: &mut answer };
     let search = raw::find_walk_path(&asked, lent);
-    assert_eq!((index, out), (pattern(4), pattern(40)));
+    assert_eq!((index, out), (pattern(4), pattern(WAYPOINT)));
     assert_eq!(answer, [search.to_le_bytes(), [0; 8], [0; 8], [0; 8]].concat()[..]);
-    [search, raw::walk_back(&asked, &[0; 40], &mut []), raw::edge(&asked, [0.0; 3], [0.0; 3])]
+    [search, raw::walk_back(&asked, &lone_record(), &mut []), raw::edge(&asked, [0.0; 3], [0.0; 3])]
 }
 
 #[test]
@@ -553,9 +623,8 @@ fn a_record_that_is_cut_short_makes_an_invalid_request() {
 
 #[test]
 fn a_window_of_no_bytes_is_empty() {
-    let body: Vec<u8> = [0.625f64, 1.75, 0.5].iter().flat_map(|n| n.to_le_bytes()).collect();
-    let asked = raw::Asked { window: &[], tables: [&[]; 4], request: &[0; 88], body: &body };
-    assert_eq!(raw::walk_back(&asked, &[0; 40], &mut []), 111);
+    let asked = raw::Asked { window: &[], tables: [&[]; 4], request: &[0; 88], body: &floats(&[0.625, 1.75, 0.5]) };
+    assert_eq!(raw::walk_back(&asked, &lone_record(), &mut []), 111);
     assert_eq!(raw::edge(&asked, [0.0; 3], [0.0; 3]), 1);
 }
 
@@ -564,9 +633,9 @@ fn a_window_of_no_bytes_is_empty() {
 #[test]
 fn ends_that_are_cut_short_make_an_invalid_request() {
     let t = flat();
-    let window: Vec<u8> = [-2i32, 0, -2, 7, 4, 5].iter().flat_map(|n| n.to_le_bytes()).collect();
-    let body: Vec<u8> = [0.625f64, 1.75, 0.5].iter().flat_map(|n| n.to_le_bytes()).collect();
-    let ends: Vec<u8> = [REQUEST.start, REQUEST.goal].concat().iter().flat_map(|n| n.to_le_bytes()).collect();
+    let window = words(&[-2, 0, -2, 7, 4, 5]);
+    let body = floats(&[0.625, 1.75, 0.5]);
+    let ends = floats(&[REQUEST.start, REQUEST.goal].concat());
     let mob = |flags: &[u8], [w, e, b]: [usize; 3]| {
         let asked = raw::Asked {
             window: &window[..w],
@@ -574,7 +643,7 @@ fn ends_that_are_cut_short_make_an_invalid_request() {
             request: &ends[..e],
             body: &body[..b],
         };
-        let (mut permissions, mut rooms) = ([9, 9], mob_rooms(PATH_INDEX_BYTES));
+        let (mut permissions, mut rooms) = ([9, 9], MOB_ROOMS.map(pattern));
         let [nodes, front, index, out] = &mut rooms;
         let lent = raw::Lent { nodes, front, index, out, answer: &mut [] };
         let number = raw::find_path(0, 0.0, flags, &asked, &mut permissions, lent);
@@ -604,9 +673,14 @@ fn one_size() {
         HEADER.split(&text).nth(1).is_some_and(|rest| !rest.starts_with(|c: char| c.is_ascii_digit()))
     };
     assert!(has("PATH_NODE_BUDGET", PATH_NODE_BUDGET));
+    assert!(has("PATH_NODES_BYTES", PATH_NODES_BYTES));
+    assert!(has("PATH_FRONT_BYTES", PATH_FRONT_BYTES));
     assert!(has("PATH_INDEX_BYTES", PATH_INDEX_BYTES));
+    assert!(has("PATH_OUT_BYTES", PATH_OUT_BYTES));
     assert!(has("MOST_INDEX_BYTES", MOST_INDEX_BYTES));
     assert!(has("WORD", walkprint::WORD));
+    assert!(HEADER.contains(&format!("#define WALKPRINT_NO_DOOR UINT64_C({NO_DOOR})")));
+    assert_eq!(Waypoint::BYTES, WAYPOINT);
 }
 
 /// The header's number, this crate's own and the library's are one.

@@ -2,161 +2,12 @@
 //! scene, in the order in which they are judged; the place that goes with a
 //! pair's reason, in slices of every length; and the words of every number.
 
-use walkprint::{Body, Error, Movement, Reason, Request, Tables, WORD, WalkBack, Window, raw, word};
+use walkprint::{Body, Error, Movement, Point, Reason, Request, WORD, WalkBack, raw, word};
 
-use super::{BODY, HEADER, REQUEST, WINDOW, flat, pattern};
-
-type Point = [f64; 3];
-
-/// The flat scene's start, the point between, and its goal.
-const S: Point = [0.5, 1.0, 0.5];
-const A: Point = [1.5, 1.0, 0.5];
-const G: Point = [2.5, 1.0, 0.5];
-
-/// One block up from A.
-const UP: Point = [1.5, 2.0, 0.5];
+use super::world::{A, G, S, UP, World, at, back, no, record, then, walked, walks};
+use super::{BODY, HEADER, REQUEST, pattern};
 
 const JUMPER: Request = Request { jump_height: 1.25, ..REQUEST };
-
-// ---- small worlds
-
-/// The flat scene with so many layers.
-struct World {
-    window: Window,
-    tables: [Vec<u8>; 4],
-}
-
-impl World {
-    fn new(layers: u32) -> Self {
-        let mut tables = flat();
-        tables[0].resize(8 * 7 * 5 * layers as usize, 0);
-        Self { window: Window { sizes: [7, layers, 5], ..WINDOW }, tables }
-    }
-
-    fn flat() -> Self {
-        Self::new(4)
-    }
-
-    /// A cell turned to stone (1) or to air (0).
-    fn with(mut self, [x, y, z]: [i32; 3], solid: u32) -> Self {
-        let at = 8 * ((y * 5 + z + 2) * 7 + x + 2) as usize;
-        self.tables[0][at..at + 8].copy_from_slice(&[solid.to_le_bytes(), solid.to_le_bytes()].concat());
-        self
-    }
-
-    fn stone(self, cell: [i32; 3]) -> Self {
-        self.with(cell, 1)
-    }
-
-    fn air(self, cell: [i32; 3]) -> Self {
-        self.with(cell, 0)
-    }
-
-    /// A block between the start and the goal.
-    fn wall() -> Self {
-        Self::flat().stone([1, 1, 0])
-    }
-
-    /// No floor between them.
-    fn gap() -> Self {
-        (-2..=2).fold(Self::flat(), |world, z| world.air([1, 0, z]))
-    }
-
-    /// A block to jump on, and one above the start's head.
-    fn low_roof() -> Self {
-        Self::new(6).stone([1, 1, 0]).stone([0, 3, 0])
-    }
-
-    /// A block to stand on at y 4, and one beside it, over the floor.
-    fn ledge() -> Self {
-        Self::new(6).stone([0, 3, 0]).stone([1, 3, 0])
-    }
-
-    fn bad() -> Self {
-        let mut world = Self::flat();
-        world.tables[0].pop();
-        world
-    }
-
-    fn tables(&self) -> Tables<'_> {
-        let [cells, permissions, shapes, boxes] = &self.tables;
-        Tables { window: self.window, cells, permissions, shapes, boxes }
-    }
-
-    /// The walk-back by its call on bytes.
-    fn back(&self, request: &Request, body: &Body, list: &[u8], place: &mut [u8]) -> u64 {
-        let Window { origin, sizes } = self.window;
-        let window = [origin.map(i32::to_le_bytes), sizes.map(u32::to_le_bytes)].concat().concat();
-        let [cells, permissions, shapes, boxes] = &self.tables;
-        let asked = raw::Asked {
-            window: &window,
-            tables: [cells, permissions, shapes, boxes],
-            request: &request_bytes(request),
-            body: &floats(&[body.width, body.height, body.step_height]),
-        };
-        raw::walk_back(&asked, list, place)
-    }
-}
-
-fn floats(numbers: &[f64]) -> Vec<u8> {
-    numbers.iter().flat_map(|n| n.to_le_bytes()).collect()
-}
-
-fn request_bytes(r: &Request) -> Vec<u8> {
-    let rest = [r.max_range, r.step_height, r.jump_height, r.max_drop];
-    let mut bytes = floats(&[&r.start[..], &r.goal, &rest].concat());
-    bytes.extend(r.node_budget.to_le_bytes());
-    bytes
-}
-
-// ---- lists
-
-fn record(feet: Point, lift: f64, movement: u64) -> Vec<u8> {
-    [floats(&feet), floats(&[lift]), movement.to_le_bytes().to_vec()].concat()
-}
-
-/// A list of walks, each with lift 0.
-fn walks(points: &[Point]) -> Vec<u8> {
-    points.iter().flat_map(|&feet| record(feet, 0.0, 0)).collect()
-}
-
-/// A list of walks, and a last point with such a lift and movement.
-fn then(points: &[Point], last: Point, lift: f64, movement: u64) -> Vec<u8> {
-    [walks(points), record(last, lift, movement)].concat()
-}
-
-/// A list walked back: it is asked for by the call and by its raw call, with
-/// slices for the place that are too short, exact and too long.
-fn walked(world: &World, request: &Request, body: &Body, list: &[u8]) -> Result<WalkBack, Error> {
-    let answer = walkprint::walk_back(&world.tables(), request, body, list);
-    let (number, place) = match answer {
-        Ok(WalkBack::Yes) => (0, None),
-        Ok(WalkBack::No(reason, place)) => (reason.number(), place),
-        Err(error) => (error.number(), None),
-    };
-    for length in [0, 1, 7, 8, 9, 15, 16, 64] {
-        let (mut lent, mut must) = (pattern(length), pattern(length));
-        if let (Some(place), 8..) = (place, length) {
-            must[..8].copy_from_slice(&(place as u64).to_le_bytes());
-        }
-        assert_eq!(world.back(request, body, list, &mut lent), number);
-        assert_eq!(lent, must);
-    }
-    answer
-}
-
-fn back(world: &World, request: &Request, list: &[u8]) -> WalkBack {
-    walked(world, request, &BODY, list).expect("no refusal")
-}
-
-/// No, with a reason that no place goes with.
-fn no(reason: Reason) -> WalkBack {
-    WalkBack::No(reason, None)
-}
-
-fn at(place: usize, reason: Reason) -> WalkBack {
-    WalkBack::No(reason, Some(place))
-}
 
 // ---- edges
 
@@ -244,7 +95,7 @@ fn a_bad_list() {
     let flat = World::flat();
     let bad = |list: &[u8]| assert_eq!(back(&flat, &REQUEST, list), no(Reason::BadList));
     let route = walks(&[S, A, G]);
-    for length in (0..120).filter(|length| length % 40 != 0) {
+    for length in (0..144).filter(|length| length % 48 != 0) {
         bad(&route[..length]);
     }
     bad(&[]);
