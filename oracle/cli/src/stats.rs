@@ -78,7 +78,10 @@ impl Tally {
             (&mut self.reparented, trace.reparented),
             (&mut self.turned, trace.turned),
             (&mut self.list_doors, doors(answer.list.iter())),
-            (&mut self.node_doors, doors(answer.nodes.iter().map(|node| &node.point))),
+            (
+                &mut self.node_doors,
+                doors(answer.nodes.iter().map(|node| &node.point)),
+            ),
             (&mut self.ties, trace.ties),
             (&mut self.dropped, trace.dropped),
         ] {

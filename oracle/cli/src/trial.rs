@@ -100,7 +100,12 @@ fn needed(scene: &Scene) -> [usize; 4] {
     let budget = scene.request.node_budget;
     let records = budget as usize;
     let index = index::least_bytes(budget);
-    [NODE * records, WAITING * records, index, WAYPOINT * (records + 1)]
+    [
+        NODE * records,
+        WAITING * records,
+        index,
+        WAYPOINT * (records + 1),
+    ]
 }
 
 /// The retained points entered into the index room, as far as it is lent: how

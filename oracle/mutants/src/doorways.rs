@@ -27,7 +27,7 @@ struct Doorways {
 impl Doorways {
     fn new(seed: u64) -> Self {
         let mut chance = Chance::new(seed);
-        let sizes = [chance.between(2, 6), 1 + ABOVE, chance.between(1, 5)];
+        let sizes = [chance.between(2, 8), 1 + ABOVE, chance.between(1, 7)];
         let air = chance.pick(&[7, 7, 7, 7, 3, 1]);
         let mut states = vec![air, 7];
         for _ in 0..chance.between(1, 5) {
@@ -59,7 +59,7 @@ impl Doorways {
         let [width, tall, depth] = self.sizes;
         self.fill([0; 3], [width - 1, tall - 1, depth - 1], 0, 0);
         self.fill([0; 3], [width - 1, 0, depth - 1], 1, 1);
-        let rough = self.chance.pick(&[1000, 6, 3]);
+        let rough = self.chance.pick(&[1000, 8, 4]);
         for x in 0..width {
             for z in 0..depth {
                 if !self.chance.once_in(rough) {
@@ -116,9 +116,17 @@ impl Doorways {
         let start = self.standing(any.as_ref());
         let goal = match self.chance.below(20) {
             0 => start,
-            _ => self.standing(any.as_ref()),
+            _ => self.far_from(start, any.as_ref()),
         };
         self.with(request(start, goal), body)
+    }
+
+    /// The farthest of four points where the body stands.
+    fn far_from(&mut self, start: [f64; 3], tables: Option<&Scene>) -> [f64; 3] {
+        let far = |[x, _, z]: [f64; 3]| (x - start[0]).abs() + (z - start[2]).abs();
+        let tries = [(); 4].map(|()| self.standing(tables));
+        let farther = |a, b| if far(a) < far(b) { b } else { a };
+        tries.into_iter().reduce(farther).unwrap_or(start)
     }
 
     /// A point where the body stands, if a few tries find one.

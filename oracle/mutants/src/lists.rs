@@ -4,9 +4,7 @@
 use std::collections::BTreeMap;
 
 use original::Checks;
-use scene::{
-    Answer, NO_DOOR, NO_PARENT, NodeRecord, Outcome, Scene, WAYPOINT, Waypoint, u64_at,
-};
+use scene::{Answer, NO_DOOR, NO_PARENT, NodeRecord, Outcome, Scene, WAYPOINT, Waypoint, u64_at};
 
 use crate::chance::Chance;
 use crate::pairs::put_off;

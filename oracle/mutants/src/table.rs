@@ -41,7 +41,7 @@ impl Judged {
     /// The rooms, a byte shorter than they must be in one place, with which a
     /// variant does not answer as the reading.
     fn short_room(&self, edit: Variant) -> Option<&'static str> {
-        short_rooms(self.scene.request.node_budget)
+        Rooms::short(self.scene.request.node_budget)
             .into_iter()
             .find(|(_, rooms)| {
                 let [read, edited] =
@@ -108,20 +108,6 @@ pub fn survivors(folder: &Path) -> Vec<Variant> {
         .collect()
 }
 
-/// Rooms for a budget, of which one is a byte too short, by its name.
-pub fn short_rooms(budget: u64) -> [(&'static str, Rooms); 3] {
-    let least = Rooms::least(budget);
-    let [mut nodes, mut frontier, mut output] = [least; 3];
-    nodes.nodes = nodes.nodes.saturating_sub(1);
-    frontier.frontier = frontier.frontier.saturating_sub(1);
-    output.output -= 1;
-    [
-        ("node room", nodes),
-        ("frontier room", frontier),
-        ("output", output),
-    ]
-}
-
 /// Prints the table; false if a variant survives the directed scenes, the
 /// reading and the original part on one of them, or a scene's head is wrong.
 pub fn table(folder: &Path, seed: u64, count: u64) -> bool {
@@ -143,7 +129,9 @@ pub fn table(folder: &Path, seed: u64, count: u64) -> bool {
         survivors += u32::from(survives);
         good &= headed;
     }
-    let asked = ASKED.iter().map(|&variant| (variant, asked(variant, &scenes)));
+    let asked = ASKED
+        .iter()
+        .map(|&variant| (variant, asked(variant, &scenes)));
     let roomed = ROOMED
         .iter()
         .map(|&variant| (variant, roomed(variant, &scenes)));
@@ -161,9 +149,8 @@ fn asked(variant: Variant, scenes: &[Judged]) -> Option<String> {
     let name = variant.name();
     let own = scenes.iter().find(|judged| judged.name == name)?;
     let tells = own.supported(variant) != own.supported(Variant::ReadAsWritten);
-    tells.then(|| {
-        format!("scenes/directed/{name}.txt by asking whether start to goal is supported")
-    })
+    tells
+        .then(|| format!("scenes/directed/{name}.txt by asking whether start to goal is supported"))
 }
 
 /// What tells a variant apart that only a room shows.

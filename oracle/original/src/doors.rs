@@ -16,7 +16,11 @@ pub(crate) fn doored(scene: &Scene, mut answer: Answer) -> Answer {
     }
     let checks = Checks::new(scene);
     let feet: Vec<[f64; 3]> = answer.nodes.iter().map(|node| node.point.feet).collect();
-    for node in answer.nodes.iter_mut().filter(|node| node.parent != NO_PARENT) {
+    for node in answer
+        .nodes
+        .iter_mut()
+        .filter(|node| node.parent != NO_PARENT)
+    {
         node.point.door = checks.door(feet[node.parent as usize], &node.point);
     }
     for place in 1..answer.list.len() {
@@ -33,7 +37,10 @@ impl Checks<'_> {
         let mut seen = areas.into_iter().map(|area| self.world.door_in(area));
         let seen = seen.find(|&door| door != NO_DOOR).unwrap_or(NO_DOOR);
         let read = self.reading().door(from, point);
-        assert_eq!(read, seen, "two scans for a door part: {from:?} to {point:?}");
+        assert_eq!(
+            read, seen,
+            "two scans for a door part: {from:?} to {point:?}"
+        );
         read
     }
 

@@ -22,7 +22,9 @@ impl Graph<'_> {
 
     /// The first door of one area.
     pub fn door_in(&self, area: Area) -> u64 {
-        self.doors_in(&area).first().map_or(NO_DOOR, |(_, door)| *door)
+        self.doors_in(&area)
+            .first()
+            .map_or(NO_DOOR, |(_, door)| *door)
     }
 
     /// "Taken in lift, crossing, settle order."
@@ -36,11 +38,12 @@ impl Graph<'_> {
             _ => vec![lift, crossing, settle],
         };
         let body = self.body_at(from);
-        let left = |at: [i64; 3]| self.is(DoorNotOfTheCellLeft) && voxel(at).intersects(&body, None);
+        let left =
+            |at: [i64; 3]| self.is(DoorNotOfTheCellLeft) && voxel(at).intersects(&body, None);
         let all = order.into_iter().flat_map(|area| self.doors_in(area));
         let mut doors = all.filter(|(at, _)| !left(*at)).map(|(_, door)| door);
         let named = match self.edit {
-            DoorLast => doors.last(),
+            DoorLast => doors.next_back(),
             _ => doors.next(),
         };
         named.unwrap_or(NO_DOOR)

@@ -31,6 +31,34 @@ impl Rooms {
         }
     }
 
+    /// Rooms for a budget, of which one is a byte too short, with its name.
+    pub fn short(node_budget: u64) -> [(&'static str, Self); 3] {
+        let least = Self::least(node_budget);
+        [
+            (
+                "node room",
+                Self {
+                    nodes: least.nodes.saturating_sub(1),
+                    ..least
+                },
+            ),
+            (
+                "frontier room",
+                Self {
+                    frontier: least.frontier.saturating_sub(1),
+                    ..least
+                },
+            ),
+            (
+                "output",
+                Self {
+                    output: least.output - 1,
+                    ..least
+                },
+            ),
+        ]
+    }
+
     /// "5", of an index room also where it is longer and of a wrong size. "Rooms
     /// are counted in the new sizes" (02, No. 5).
     fn no_room(&self, node_budget: u64, edit: Variant) -> bool {

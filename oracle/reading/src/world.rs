@@ -34,7 +34,10 @@ impl Cell<'_> {
 /// The cell at `at`: known by the tables, or unknown.
 pub fn cell(tables: &Tables, at: [i64; 3], edit: Variant) -> Cell<'_> {
     let position = at.map(|n| n as f64);
-    let Some(Known { permission, run, .. }) = known(tables, at, edit) else {
+    let Some(Known {
+        permission, run, ..
+    }) = known(tables, at, edit)
+    else {
         // "One full unit cube, neither occupiable nor a support."
         return Cell {
             occupied: edit == Variant::UnknownIsAir,

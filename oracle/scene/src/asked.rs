@@ -1,10 +1,10 @@
 //! Questions in the head of a scene in text form, with their answers: of an edge
 //! or of a list. oracle/README.md describes the form.
 
-use crate::{NO_DOOR, WAYPOINT, Waypoint};
 use crate::print::MOVEMENTS;
 use crate::reasons::{Walked, words};
 use crate::text::float;
+use crate::{NO_DOOR, WAYPOINT, Waypoint};
 
 /// What is asked of a scene.
 #[derive(Debug, Clone, PartialEq)]
