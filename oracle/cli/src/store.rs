@@ -81,7 +81,7 @@ const fn trial(more: usize, short: usize, index: fn(usize) -> usize, fill: u8) -
 /// them and the cell table a byte short; and no index. Rooms and tables are full
 /// of the byte.
 const TRIALS: [Trial; 7] = [
-    trial(61, 0, |least| 2 * least, 171),
+    trial(69, 0, |least| 2 * least, 171),
     trial(0, 0, |least| least, 255),
     trial(0, 1, |least| least, 1),
     trial(0, 2, |least| least, 64),
@@ -127,7 +127,7 @@ fn searches(folder: &Path, tape: &mut Tape) -> Result<(), String> {
                 tape.ask_search(&bytes, &scene, trial);
             }
             for &index in others.by_ref().take(2) {
-                tape.ask_search(&bytes, &scene, &trial(61, 0, index, 93));
+                tape.ask_search(&bytes, &scene, &trial(69, 0, index, 93));
             }
         });
     }
