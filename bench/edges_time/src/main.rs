@@ -53,7 +53,7 @@ fn compare(name: &str) -> bool {
         ours.push(time);
         let (original, time) = timed(&pairs, |(from, to)| {
             checks.forget();
-            checks.edge(from, to).map_or(*NONE.start(), |point| EDGE + point.movement)
+            checks.bare_edge(from, to).map_or(*NONE.start(), |point| EDGE + point.movement)
         });
         theirs.push(time);
         if !proved.iter().zip(&original).all(|(&ours, &theirs)| same(ours, theirs)) {

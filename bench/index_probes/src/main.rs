@@ -9,7 +9,6 @@ mod sums;
 use std::process::ExitCode;
 
 use lookups::{Point, look, perfect};
-use original::Navigator;
 use reading::index::least_bytes;
 use scene::{Random, Scene};
 use sets::{REACHES, STEPS};
@@ -39,7 +38,7 @@ fn around(feet: [f64; 3]) -> Vec<Point> {
 /// A world's lines: the points that the original retains, in the smallest index
 /// for that many and in the one for budget 4,096. False if a lookup is wrong.
 fn world(name: &str, scene: &Scene) -> bool {
-    let answer = Navigator::new(scene).answer();
+    let answer = original::find_walk_path(scene);
     let feet: Vec<[f64; 3]> = answer.nodes.iter().map(|node| node.point.feet).collect();
     let points: Vec<Point> = feet.iter().map(|feet| feet.map(f64::to_bits)).collect();
     let beside: Vec<Point> = feet.iter().flat_map(|&feet| around(feet)).collect();

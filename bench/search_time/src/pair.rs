@@ -29,7 +29,7 @@ pub struct Pair {
     scene: Scene,
     proved: Proved,
     original: Navigator,
-    /// The original's first one, which every other must be like.
+    /// The original's first one, with doors, which every other must be like.
     pub answer: Answer,
 }
 
@@ -38,7 +38,7 @@ impl Pair {
         let mut original = Navigator::new(&scene);
         Self {
             proved: Proved::new(&scene),
-            answer: original.answer(),
+            answer: original.answer(&scene),
             original,
             scene,
         }
@@ -76,7 +76,8 @@ impl Pair {
     fn agree(&mut self) -> bool {
         self.proved.spoil();
         let number = self.proved.run();
-        self.proved.left(number, &self.answer) && self.original.answer().same_bits(&self.answer)
+        let again = self.original.answer(&self.scene);
+        self.proved.left(number, &self.answer) && again.same_bits(&self.answer)
     }
 
     /// So many rounds of all four turns; none if an answer is wrong.

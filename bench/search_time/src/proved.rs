@@ -2,7 +2,7 @@
 //! a scene in the bytes that they read, the search's rooms, and what it left in
 //! them.
 
-use scene::{Answer, RawTables, Scene};
+use scene::{Answer, NODE, RawTables, Scene, WAITING, WAYPOINT};
 use walkprint::index_bytes;
 use walkprint::raw::{self, Asked, Lent};
 
@@ -37,10 +37,10 @@ impl Proved {
     pub fn new(scene: &Scene) -> Self {
         let budget = scene.request.node_budget as usize;
         let sizes = [
-            56 * budget,
-            24 * budget,
+            NODE * budget,
+            WAITING * budget,
             index_bytes(budget),
-            40 * (budget + 1),
+            WAYPOINT * (budget + 1),
         ];
         Self {
             scene: Handed {
@@ -77,7 +77,7 @@ impl Proved {
 
     /// The last search's list walked back, and nothing else; its number.
     pub fn walk_back(&self) -> u64 {
-        let list = &self.rooms[3][..40 * self.points()];
+        let list = &self.rooms[3][..WAYPOINT * self.points()];
         raw::walk_back(&self.scene.asked(), list, &mut [0; 8])
     }
 
@@ -98,8 +98,8 @@ impl Proved {
     }
 
     /// Whether the last search, with this number, left what the original did:
-    /// outcome and counts, list and node records byte for byte, and the
-    /// frontier and the index all zero.
+    /// outcome and counts, list and node records byte for byte, with the doors
+    /// that the oracle names, and the frontier and the index all zero.
     pub fn left(&self, number: u64, answer: &Answer) -> bool {
         let numbers = [
             answer.outcome as u64,

@@ -1,5 +1,6 @@
 //! The worlds that an ordinary run times, by name, and how often each is
-//! searched: the oracle's three large ones, its stairs, and columns of plates.
+//! searched: the oracle's three large ones, its stairs, columns of plates, and the
+//! wide one with doors.
 
 use scene::Scene;
 
@@ -7,7 +8,7 @@ use crate::ground::{Ground, Numbers, endless, mite};
 use crate::worst;
 
 /// The slower a world, the fewer its rounds, so that the run stays short.
-pub const ORDINARY: [(&str, usize); 9] = [
+pub const ORDINARY: [(&str, usize); 11] = [
     ("wide", 100),
     ("maze", 100),
     ("tower", 100),
@@ -17,6 +18,8 @@ pub const ORDINARY: [(&str, usize); 9] = [
     ("plates-128", 20),
     ("plates-512", 10),
     ("plates-2048", 5),
+    ("doors", 100),
+    ("doorways", 100),
 ];
 
 /// A world of an ordinary run, or one of the worst.
@@ -31,8 +34,34 @@ pub fn world(name: &str) -> Option<Scene> {
         }
     };
     numbered()
+        .or_else(|| doors(name))
         .or_else(|| scene::large(name))
         .or_else(|| worst::world(name))
+}
+
+/// The wide world. `doors`: its air passes through, so that every edge names it.
+/// `doorways`: in every seventh column a door of two cells stands on the floor;
+/// the other edges are looked through in vain.
+fn doors(name: &str) -> Option<Scene> {
+    /// A state that a body passes through: bit 4 is not set.
+    const OPEN: u8 = 3;
+    let mut scene = scene::large("wide")?;
+    let tables = &mut scene.tables;
+    match name {
+        "doors" => tables.permissions[0] = OPEN,
+        "doorways" => {
+            let door = (tables.permissions.len() as u32, 0);
+            tables.permissions.push(OPEN);
+            let [width, _, depth] = tables.window.sizes.map(|size| size as usize);
+            let layer = width * depth;
+            for cell in (0..layer).filter(|cell| (cell % width + 3 * (cell / width)) % 7 == 0) {
+                tables.cells[layer + cell] = door;
+                tables.cells[2 * layer + cell] = door;
+            }
+        }
+        _ => return None,
+    }
+    Some(scene)
 }
 
 /// A thin box over the whole cell, with its top at such a height of it.

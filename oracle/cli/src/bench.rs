@@ -10,7 +10,7 @@ use scene::Scene;
 /// reused, the scene read before.
 pub fn line(name: &str, scene: &Scene, runs: u64) -> String {
     let mut navigator = Navigator::new(scene);
-    let answer = navigator.answer();
+    let answer = navigator.answer(scene);
     let [median, least] = times(runs, || {
         black_box(navigator.run());
     });
@@ -34,7 +34,7 @@ pub fn edges_line(name: &str, scene: &Scene, runs: u64) -> String {
         good = 0;
         for &(from, to) in &pairs {
             checks.forget();
-            good += u64::from(black_box(checks.edge(from, to)).is_some());
+            good += u64::from(black_box(checks.bare_edge(from, to)).is_some());
         }
     });
     format!(

@@ -1,4 +1,5 @@
-//! Questions about a scene's geometry, answered by the original's own checks.
+//! Questions about a scene's geometry, answered by the original's own checks, and
+//! the doors by the reading.
 
 use std::fmt::Write;
 
@@ -12,6 +13,8 @@ pub enum Question {
     InRange([f64; 3], bool),
     Standable([f64; 3], bool),
     Clear([f64; 6], bool),
+    /// The first door of an area, if it is clear.
+    Door([f64; 6], u64),
     Supported([f64; 3], [f64; 3], bool),
     /// x, z, the y it is looked from; the kept heights.
     Heights([f64; 3], Vec<f64>),
@@ -76,8 +79,7 @@ fn about_point(checks: &mut Checks, scene: &Scene, point: [f64; 3], out: &mut Ve
         let shifted = [x, y + shift, z];
         out.push(Question::Standable(shifted, checks.standable(shifted)));
     }
-    let area = checks.body_box(point);
-    out.push(Question::Clear(area, checks.clear_area(area)));
+    about_area(checks, checks.body_box(point), out);
     let range = scene.request.max_range;
     for far in [range, range + E, range + 2.0 * E] {
         let there = [x, y, scene.request.start[2] + far];
@@ -98,6 +100,11 @@ fn about_point(checks: &mut Checks, scene: &Scene, point: [f64; 3], out: &mut Ve
     out.push(Question::Steps(point, checks.steps(point)));
 }
 
+fn about_area(checks: &mut Checks, area: [f64; 6], out: &mut Vec<Question>) {
+    out.push(Question::Clear(area, checks.clear_area(area)));
+    out.push(Question::Door(area, checks.door_in(area)));
+}
+
 fn about_pair(checks: &mut Checks, from: [f64; 3], to: [f64; 3], out: &mut Vec<Question>) {
     let check = checks.edge_check(from, to);
     let edge = check.ok();
@@ -109,9 +116,9 @@ fn about_pair(checks: &mut Checks, from: [f64; 3], to: [f64; 3], out: &mut Vec<Q
     ));
     let lift = edge.map_or((to[1] - from[1]).max(0.0), |point| point.lift);
     // The crossing, and the way down to the target.
-    for area in &checks.areas(from, lift, to)[1..] {
-        out.push(Question::Clear(*area, checks.clear_area(*area)));
-    }
+    let [_, crossing, settle] = checks.areas(from, lift, to);
+    about_area(checks, crossing, out);
+    about_area(checks, settle, out);
 }
 
 /// What `walkprint_edge` answers: by the movement, or the first reason.
@@ -123,8 +130,8 @@ pub fn edge_number(check: Result<Waypoint, u64>) -> u64 {
 }
 
 /// The questions of a scene, asked in cases of `replay_check`. Each case asks
-/// every function about two points, so a pair's edge stands for the segment
-/// too, and a point's columns for the heights and the steps.
+/// every function about two points, so a pair's edge stands for the segment too,
+/// a clear box for its door, and a point's columns for the heights and the steps.
 pub fn ask(bytes: &[u8], scene: &Scene, tape: &mut Tape) {
     for question in questions(scene) {
         match question {
@@ -136,7 +143,7 @@ pub fn ask(bytes: &[u8], scene: &Scene, tape: &mut Tape) {
             }
             Question::Edge(from, to, ..) => tape.ask_points(bytes, scene, from, to),
             Question::Steps(from, _) => tape.ask_columns(bytes, scene, from),
-            Question::Supported(..) | Question::Heights(..) => {}
+            Question::Supported(..) | Question::Heights(..) | Question::Door(..) => {}
         }
     }
 }
@@ -161,12 +168,13 @@ impl Question {
                 (7, point(*from), edge.len() as u64, &[], edge)
             }
             Question::Steps(from, steps) => (8, point(*from), steps.len() as u64, &[], steps),
+            Question::Door(area, door) => (9, *area, *door, &[], &[]),
         }
     }
 
     /// A line: name, arguments, `=`, result, and what follows it.
     pub fn line(&self) -> String {
-        const NAMES: [(&str, usize); 8] = [
+        const NAMES: [(&str, usize); 9] = [
             ("in_range", 3),
             ("standable", 3),
             ("clear", 6),
@@ -175,6 +183,7 @@ impl Question {
             ("edge", 6),
             ("connector", 3),
             ("steps", 3),
+            ("door", 6),
         ];
         let (kind, arguments, result, heights, waypoints) = self.parts();
         let (name, used) = NAMES[kind as usize - 1];
@@ -194,6 +203,7 @@ impl Question {
             for number in [point.feet[0], point.feet[1], point.feet[2], point.lift] {
                 hex(&mut out, number);
             }
+            let _ = write!(out, " {}", point.door);
         }
         out
     }

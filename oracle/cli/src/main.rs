@@ -160,7 +160,7 @@ fn any_scene(file: &str) -> Result<scene::Scene, String> {
     scene::read(&bytes).map_err(|bad| format!("record {} is bad", bad.record))
 }
 
-/// What the walk-back says of a list of 40-byte records on a scene in a file.
+/// What the walk-back says of a list of 48-byte records on a scene in a file.
 fn walkback(file: &str) -> Result<bool, String> {
     let Walked { number, place } = original::walk_back(&any_scene(file)?, &input()?);
     let answer = match (number, place) {
@@ -172,7 +172,7 @@ fn walkback(file: &str) -> Result<bool, String> {
     put(answer.as_bytes())
 }
 
-/// The retained nodes in 01's records, in hex, one a line.
+/// The retained nodes in records, in hex, one a line.
 fn nodes() -> Result<bool, String> {
     let mut out = String::new();
     if let Ok(answer) = original::verdict(&input()?) {

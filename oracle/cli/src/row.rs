@@ -39,7 +39,7 @@ impl Row {
         }
     }
 
-    /// An edge check: its number, then feet and lift, if there is an edge.
+    /// An edge check: its number, then feet, lift and door, if there is an edge.
     pub fn take_check(&mut self, check: Result<Waypoint, u64>) {
         self.take(edge_number(check));
         if let Ok(point) = check {
@@ -47,7 +47,7 @@ impl Row {
         }
     }
 
-    /// A connector: its movement, feet and lift; 4 if there is none.
+    /// A connector: its movement, feet, lift and door; 4 if there is none.
     pub fn take_connector(&mut self, edge: Option<Waypoint>) {
         let Some(point) = edge else {
             self.take(4);
@@ -61,6 +61,7 @@ impl Row {
         for number in [point.feet[0], point.feet[1], point.feet[2], point.lift] {
             self.take_float(number);
         }
+        self.take(point.door);
     }
 
     /// A walk-back: its number, then its place, 0 if there is none.

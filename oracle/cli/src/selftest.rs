@@ -55,9 +55,9 @@ fn answered(text: &str) -> Result<Answer, String> {
 fn flat_lines(flat: &str) -> Result<bool, String> {
     let lines = "\
 found 3 9 2 4000000000000000
-0 walk 3fe0000000000000 3ff0000000000000 3fe0000000000000 0000000000000000
-1 walk 3ff8000000000000 3ff0000000000000 3fe0000000000000 0000000000000000
-2 walk 4004000000000000 3ff0000000000000 3fe0000000000000 0000000000000000
+0 walk 3fe0000000000000 3ff0000000000000 3fe0000000000000 0000000000000000 4294967295
+1 walk 3ff8000000000000 3ff0000000000000 3fe0000000000000 0000000000000000 4294967295
+2 walk 4004000000000000 3ff0000000000000 3fe0000000000000 0000000000000000 4294967295
 ";
     Ok(scene::print(&answered(flat)?) == lines)
 }
@@ -121,7 +121,7 @@ fn reused() -> bool {
     scenes.all(|scene| {
         navigator.turn_to(&scene);
         navigator
-            .answer()
+            .answer(&scene)
             .same_bits(&original::find_walk_path(&scene))
     })
 }

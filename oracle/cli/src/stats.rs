@@ -3,7 +3,7 @@
 use std::collections::BTreeMap;
 use std::fmt::Write;
 
-use scene::{Answer, Verdict, Waypoint};
+use scene::{Answer, NO_DOOR, Verdict, Waypoint};
 
 use crate::trace::trace;
 
@@ -23,6 +23,9 @@ struct Tally {
     list_edges: u64,
     /// Events, and the scenes in which they happen.
     reparented: [u64; 2],
+    turned: [u64; 2],
+    list_doors: [u64; 2],
+    node_doors: [u64; 2],
     ties: [u64; 2],
     dropped: [u64; 2],
 }
@@ -73,6 +76,12 @@ impl Tally {
         );
         for (events, count) in [
             (&mut self.reparented, trace.reparented),
+            (&mut self.turned, trace.turned),
+            (&mut self.list_doors, doors(answer.list.iter())),
+            (
+                &mut self.node_doors,
+                doors(answer.nodes.iter().map(|node| &node.point)),
+            ),
             (&mut self.ties, trace.ties),
             (&mut self.dropped, trace.dropped),
         ] {
@@ -109,7 +118,10 @@ impl Tally {
         );
         let _ = write!(out, "\n  edges to nodes: {}", moves(&self.node_moves));
         for (name, [events, scenes]) in [
+            ("doors of lists", self.list_doors),
+            ("doors of nodes", self.node_doors),
             ("re-parented", self.reparented),
+            ("re-parented with another door", self.turned),
             ("equal estimates", self.ties),
             ("dropped points", self.dropped),
         ] {
@@ -122,6 +134,11 @@ impl Tally {
         out.push('\n');
         out
     }
+}
+
+/// How many of the points have a door.
+fn doors<'a>(points: impl Iterator<Item = &'a Waypoint>) -> u64 {
+    points.filter(|point| point.door != NO_DOOR).count() as u64
 }
 
 /// Both columns differ.

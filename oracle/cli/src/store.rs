@@ -5,7 +5,7 @@ use std::fmt::Write;
 use std::path::Path;
 
 use mutants::questions::Directed;
-use scene::{Asked, Question, Verdict};
+use scene::{Asked, NO_DOOR, NODE, Question, Verdict, WAYPOINT};
 
 use crate::files::{directed, scene_file};
 use crate::tape::Tape;
@@ -50,7 +50,7 @@ pub fn lists(folder: &Path) -> Result<Vec<(&'static str, Vec<u8>)>, String> {
 
 /// The most bytes of a stored scene that was made from a seed, with the list
 /// and the nodes that its search leaves.
-const LARGEST: usize = 2580;
+const LARGEST: usize = 2860;
 /// The seeds that are looked through for each kind.
 const SEEDS: u64 = 1000;
 
@@ -63,7 +63,7 @@ fn number(verdict: &Verdict) -> u32 {
 
 /// The bytes of a scene, of its list and of its nodes.
 fn size(bytes: &[u8], verdict: &Verdict) -> usize {
-    let left = |answer: &scene::Answer| 40 * answer.list.len() + 56 * answer.nodes.len();
+    let left = |answer: &scene::Answer| WAYPOINT * answer.list.len() + NODE * answer.nodes.len();
     bytes.len() + verdict.as_ref().map_or(0, left)
 }
 
@@ -81,7 +81,7 @@ const fn trial(more: usize, short: usize, index: fn(usize) -> usize, fill: u8) -
 /// them and the cell table a byte short; and no index. Rooms and tables are full
 /// of the byte.
 const TRIALS: [Trial; 7] = [
-    trial(61, 0, |least| 2 * least, 171),
+    trial(69, 0, |least| 2 * least, 171),
     trial(0, 0, |least| least, 255),
     trial(0, 1, |least| least, 1),
     trial(0, 2, |least| least, 64),
@@ -127,7 +127,7 @@ fn searches(folder: &Path, tape: &mut Tape) -> Result<(), String> {
                 tape.ask_search(&bytes, &scene, trial);
             }
             for &index in others.by_ref().take(2) {
-                tape.ask_search(&bytes, &scene, &trial(61, 0, index, 93));
+                tape.ask_search(&bytes, &scene, &trial(69, 0, index, 93));
             }
         });
     }
@@ -176,11 +176,13 @@ const GROUNDS: [&str; 10] = [
     "bodies",
 ];
 
-/// The first small seed of a kind whose search retains at least five nodes.
+/// The first small seed of a kind whose search retains at least five nodes; that
+/// of doors has one at a node.
 fn ground(kind: &str) -> Option<Source> {
     let fits = |source: &Source| {
-        let nodes = original::verdict(&source.bytes).map_or(0, |answer| answer.nodes.len());
-        nodes >= 5 && source.bytes.len() <= 40 * scene::RECORD
+        let nodes = original::verdict(&source.bytes).map_or(Vec::new(), |answer| answer.nodes);
+        let doored = kind != "doors" || nodes.iter().any(|node| node.point.door != NO_DOOR);
+        nodes.len() >= 5 && doored && source.bytes.len() <= 40 * scene::RECORD
     };
     let made = |seed| Source {
         name: format!("make {seed} {kind}"),
@@ -190,11 +192,12 @@ fn ground(kind: &str) -> Option<Source> {
 }
 
 /// A ground of each of these kinds, then the directed scenes that only a
-/// question tells apart (`asked-*.txt`), with the questions of `geometry`.
+/// question tells apart (`asked-*.txt`), and those on the order of doors
+/// (`door-order-*.txt`), with the questions of `geometry`.
 fn geometries(folder: &Path, tape: &mut Tape) -> Result<(), String> {
     let mut sources: Vec<Source> = GROUNDS.iter().filter_map(|kind| ground(kind)).collect();
     for name in directed(folder)? {
-        if name.starts_with("asked-") {
+        if name.starts_with("asked-") || name.starts_with("door-order-") {
             let bytes = scene_file(&folder.join(&name).to_string_lossy())?;
             sources.push(Source { name, bytes });
         }

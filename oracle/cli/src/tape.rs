@@ -209,6 +209,7 @@ impl Tape {
         row.take(checks.in_range(from).into());
         row.take(checks.standable(from).into());
         row.take(checks.clear_area([a, b, c, d, e, f]).into());
+        row.take(checks.door_in([a, b, c, d, e, f]));
         row.take(checks.supported_segment(from, to).into());
         row.take_check(checks.edge_check(from, to));
         row.take_connector(checks.connector(from));
@@ -221,6 +222,7 @@ impl Tape {
     pub fn ask_lists(&mut self, bytes: &[u8], scene: &Scene, lists: &[Vec<u8>]) {
         self.put(KIND, WALK);
         for list in lists {
+            assert!(list.len() <= KIND, "a list fits the sheet");
             self.sheet[..list.len()].copy_from_slice(list);
             self.put(LIST, list.len());
             let mut row = self.read(bytes);

@@ -11,6 +11,8 @@ const E: f64 = 1.0e-7;
 #[derive(Debug, Default, Clone, Copy)]
 pub struct Trace {
     pub reparented: u64,
+    /// Those of them that take another door for the old one.
+    pub turned: u64,
     /// Pops at which another waiting node had the same estimate.
     pub ties: u64,
     /// New points that the budget left no room for.
@@ -34,11 +36,7 @@ pub fn trace(scene: &Scene) -> (Trace, Vec<NodeRecord>) {
         trace: Trace::default(),
     };
     search.nodes.push(NodeRecord {
-        point: Waypoint {
-            feet: scene.request.start,
-            lift: 0.0,
-            movement: 0,
-        },
+        point: Waypoint::walked(scene.request.start),
         cost: 0.0,
         parent: NO_PARENT,
         closed: 0,
@@ -58,7 +56,7 @@ pub fn trace(scene: &Scene) -> (Trace, Vec<NodeRecord>) {
 }
 
 struct Search<'a> {
-    checks: Checks,
+    checks: Checks<'a>,
     scene: &'a Scene,
     nodes: Vec<NodeRecord>,
     waiting: Vec<Entry>,
@@ -108,6 +106,7 @@ impl Search<'_> {
             Some(k) if self.nodes[k].closed == 1 => return,
             Some(k) if cost + E < self.nodes[k].cost => {
                 self.trace.reparented += 1;
+                self.trace.turned += u64::from(self.nodes[k].point.door != point.door);
                 self.nodes[k] = record;
                 k
             }

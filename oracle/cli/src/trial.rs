@@ -2,7 +2,7 @@
 //! lent, what must stand in them then, and the index of the nodes that it left.
 
 use reading::index;
-use scene::{Refusal, Scene, Verdict};
+use scene::{NODE, Refusal, Scene, Verdict, WAITING, WAYPOINT};
 
 use crate::row::Row;
 
@@ -11,7 +11,7 @@ const NODES: usize = 0;
 const FRONT: usize = 1;
 const INDEX: usize = 2;
 const OUT: usize = 3;
-const ROOMS: [usize; 4] = [28_800, 28_800, 8_208, 28_800];
+const ROOMS: [usize; 4] = [32_896, 32_896, 8_208, 32_896];
 
 pub struct Trial {
     /// How many bytes the rooms of records are longer than the budget asks for.
@@ -52,10 +52,10 @@ impl Trial {
         let mut rooms = ROOMS.map(|bytes| vec![self.fill; bytes]);
         rooms[INDEX][..4].fill(0);
         for (place, node) in nodes.iter().enumerate() {
-            rooms[NODES][56 * place..][..56].copy_from_slice(&node.bytes());
+            rooms[NODES][NODE * place..][..NODE].copy_from_slice(&node.bytes());
         }
         for (place, point) in list.iter().enumerate() {
-            rooms[OUT][40 * place..][..40].copy_from_slice(&point.bytes());
+            rooms[OUT][WAYPOINT * place..][..WAYPOINT].copy_from_slice(&point.bytes());
         }
         let lent = self.lent(scene);
         if !nodes.is_empty() {
@@ -100,7 +100,12 @@ fn needed(scene: &Scene) -> [usize; 4] {
     let budget = scene.request.node_budget;
     let records = budget as usize;
     let index = index::least_bytes(budget);
-    [56 * records, 24 * records, index, 40 * (records + 1)]
+    [
+        NODE * records,
+        WAITING * records,
+        index,
+        WAYPOINT * (records + 1),
+    ]
 }
 
 /// The retained points entered into the index room, as far as it is lent: how

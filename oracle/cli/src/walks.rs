@@ -1,6 +1,6 @@
 //! Lists for a walk-back: found ones, and each of them damaged.
 
-use scene::{Answer, Outcome, Scene, u64_at};
+use scene::{Answer, NO_DOOR, Outcome, Scene, WAYPOINT, Waypoint, u64_at};
 
 use crate::tape::Tape;
 
@@ -22,13 +22,15 @@ pub fn ask(tape: &mut Tape) {
     }
 }
 
-/// The first small scene of a kind with a list of four points.
+/// The first small scene of a kind with a list of four points; that of doors has
+/// one on its list.
 fn found(kind: &str) -> Option<(u64, Vec<u8>, Answer)> {
     (1..=SEEDS).find_map(|seed| {
         let bytes = scene::make(seed, kind)?;
         let answer = original::verdict(&bytes).ok()?;
-        let fits =
-            answer.outcome == Outcome::Found && answer.list.len() == 4 && bytes.len() <= SCENE;
+        let short = answer.list.len() == 4 && bytes.len() <= SCENE;
+        let doored = kind != "doors" || answer.list.iter().any(|point| point.door != NO_DOOR);
+        let fits = answer.outcome == Outcome::Found && short && doored;
         fits.then_some((seed, bytes, answer))
     })
 }
@@ -40,14 +42,14 @@ pub fn lists(scene: &Scene, answer: &Answer) -> Vec<Vec<u8>> {
     let less = list[..list.len() - 1].to_vec();
     let more = [&list[..], &[0; 8]].concat();
     let mut out = vec![list.clone(), Vec::new(), less, more];
-    for begin in (0..list.len()).step_by(40) {
-        let end = begin + 40;
+    for begin in (0..list.len()).step_by(WAYPOINT) {
+        let end = begin + WAYPOINT;
         // Without this record, and with it twice.
         out.push([&list[..begin], &list[end..]].concat());
         out.push([&list[..end], &list[begin..]].concat());
         for at in (begin..end).step_by(8) {
             let word = u64_at(&list, at);
-            for changed in changes(word, at + 8 == end) {
+            for changed in changes(word, at - begin) {
                 let mut copy = list.clone();
                 copy[at..at + 8].copy_from_slice(&changed.to_le_bytes());
                 out.push(copy);
@@ -55,20 +57,18 @@ pub fn lists(scene: &Scene, answer: &Answer) -> Vec<Vec<u8>> {
         }
     }
     // The start and the goal alone.
-    let ends = [scene.request.start, scene.request.goal].map(|feet| scene::Waypoint {
-        feet,
-        lift: 0.0,
-        movement: 0,
-    });
+    let ends = [scene.request.start, scene.request.goal].map(Waypoint::walked);
     out.push(ends.iter().flat_map(|point| point.bytes()).collect());
     out
 }
 
-/// Other words for one: a movement, or a float's neighbours and a zero's
-/// other sign.
-fn changes(word: u64, movement: bool) -> Vec<u64> {
-    if movement {
-        return vec![(word + 1) % 4, word + 4, word + (1 << 32)];
+/// Other words for the one at this place of a record: a movement, a door, or a
+/// float's neighbours and a zero's other sign.
+fn changes(word: u64, place: usize) -> Vec<u64> {
+    match place {
+        32 => return vec![(word + 1) % 4, word + 4, word + (1 << 32)],
+        40 => return doors(word),
+        _ => {}
     }
     let number = f64::from_bits(word);
     let other = if number == 0.0 { -number } else { number + 1.0 };
@@ -77,4 +77,10 @@ fn changes(word: u64, movement: bool) -> Vec<u64> {
         other.to_bits(),
         f64::NAN.to_bits(),
     ]
+}
+
+/// None for a door and a door for none, another state, and another high half.
+fn doors(door: u64) -> Vec<u64> {
+    let none = if door == NO_DOOR { 2 } else { NO_DOOR };
+    vec![none, door ^ 1, door + (1 << 32), 0]
 }

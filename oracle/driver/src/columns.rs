@@ -17,10 +17,12 @@ use crate::expected::judge;
 use crate::runner::{Makers, Mismatch};
 use crate::scenes::answered;
 use crate::sizes::{INDEX, longer, needed};
+use crate::strewn::strewn;
 
 /// The world of a number, by the proved search, the original and the reading.
 pub fn one_world(_: &Makers, number: u64, counts: &mut Counts) -> Result<(), Mismatch> {
-    all_three(&world(number), number, counts, |scene, answer, counts| {
+    let world = strewn(world(number), number);
+    all_three(&world, number, counts, |scene, answer, counts| {
         places(scene, answer, counts);
         Ok(())
     })

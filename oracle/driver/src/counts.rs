@@ -4,7 +4,7 @@ use std::collections::BTreeMap;
 use std::fmt;
 
 use reading::index;
-use scene::words;
+use scene::{NODE, WAYPOINT, words};
 
 use crate::expected::Expected;
 
@@ -49,8 +49,20 @@ impl Counts {
         };
         self.add("searches", 1);
         self.add(name, 1);
-        self.add("node records", answer.nodes.len() as u64 / 56);
-        self.add("waypoints", answer.list.len() as u64 / 40);
+        self.add("node records", (answer.nodes.len() / NODE) as u64);
+        self.add("waypoints", (answer.list.len() / WAYPOINT) as u64);
+        self.doors(answer);
+    }
+
+    /// The doors that a search names, those of number 0 among them, and whether
+    /// its connector does.
+    fn doors(&mut self, answer: &Expected) {
+        let [list, nodes] = answer.doors();
+        let zeros = list.iter().chain(&nodes).filter(|&&door| door == 0);
+        self.add("doors 0", zeros.count() as u64);
+        self.add("doors of waypoints", list.len() as u64);
+        self.add("doors of nodes", nodes.len() as u64);
+        self.add("doors of connectors", answer.connector_door().into());
     }
 
     /// The nodes of a search in an index of so many bytes: those in another slot

@@ -2,7 +2,7 @@
 //! every byte of every lent room and around it.
 
 use mutants::chance::Chance;
-use scene::f64_at;
+use scene::{WAYPOINT, f64_at};
 use walkprint::raw::{self, Lent};
 
 use crate::call::Call;
@@ -119,7 +119,7 @@ fn told(must: &Expected, length: usize) -> Vec<u8> {
 /// The list's length by the proved root and by the processor's.
 fn same_length(list: &[u8]) -> Result<(), String> {
     let feet = |record: &[u8]| [0, 8, 16].map(|at| f64_at(record, at));
-    let points: Vec<[f64; 3]> = list.chunks(40).map(feet).collect();
+    let points: Vec<[f64; 3]> = list.chunks(WAYPOINT).map(feet).collect();
     let sum = |root: fn(f64) -> f64| {
         points.windows(2).fold(0.0, |sum, pair| {
             let [x, y, z] = [0, 1, 2].map(|axis| pair[1][axis] - pair[0][axis]);

@@ -75,7 +75,7 @@ fn pairs_part(call: &Call, pairs: &[(Point, Point)], counts: &mut Counts) -> Opt
 
 /// What the original says of edges, and the reading, which must agree.
 pub struct Judge<'a> {
-    checks: Checks,
+    checks: Checks<'a>,
     graph: Graph<'a>,
 }
 

@@ -1,10 +1,11 @@
 //! What is changed in a call so that no scene could have made it.
 
 use mutants::chance::Chance;
-use scene::{f64_at, u32_at};
+use scene::{NODE, f64_at, u32_at};
 
 use crate::call::Call;
 use crate::room::any_bytes;
+use crate::strewn::strew;
 
 pub struct Edit {
     pub name: &'static str,
@@ -37,9 +38,11 @@ const fn bad(name: &'static str, make: fn(&mut Call, &mut Chance)) -> Edit {
     }
 }
 
-pub const EDITS: [Edit; 24] = [
+pub const EDITS: [Edit; 26] = [
     good("high permission bits", high_bits),
     good("many states", many_states),
+    good("bit 4 taken away", without_bit_4),
+    good("doors in free cells", doors),
     good("numbers past every table", past_tables),
     good("overlapping runs", overlapping_runs),
     good("runs grown into the next", grown_runs),
@@ -67,6 +70,24 @@ pub const EDITS: [Edit; 24] = [
 fn high_bits(call: &mut Call, chance: &mut Chance) {
     for byte in &mut call.tables.permissions {
         *byte |= (chance.below(32) as u8) << 3;
+    }
+}
+
+/// Some states pass through, so that their boxes are gone and they are doors.
+fn without_bit_4(call: &mut Call, chance: &mut Chance) {
+    for byte in &mut call.tables.permissions {
+        if chance.once_in(3) {
+            *byte &= !4;
+        }
+    }
+}
+
+/// Doors of new states in cells that have no boxes; where a table cannot be read
+/// as numbers there are none.
+fn doors(call: &mut Call, chance: &mut Chance) {
+    if let Some(mut scene) = call.whole() {
+        strew(&mut scene.tables, chance);
+        call.tables = scene.tables.raw();
     }
 }
 
@@ -328,7 +349,7 @@ fn budget(call: &mut Call, chance: &mut Chance) {
         7 => (1 << 32) + chance.word() % 64,
         8 => 1 << 63,
         9 => u64::MAX,
-        10 => (u64::MAX / 56) + chance.word() % 100,
+        10 => (u64::MAX / NODE as u64) + chance.word() % 100,
         _ => 513 + chance.word() % 1500,
     };
 }

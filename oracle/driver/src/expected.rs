@@ -1,9 +1,13 @@
-//! What must come of a call: 01's "Search order" over the original.
+//! What must come of a call: 01's "Search order" over the original, with the
+//! doors of 02's No. 5.
 
-use scene::{Answer, Outcome, u64_at};
+use scene::{Answer, NO_DOOR, NODE, Outcome, WAYPOINT, u64_at};
 
 use crate::call::Call;
 use crate::sizes::{Sizes, no_room};
+
+/// The place of the door in a waypoint's record and in a node's.
+const DOOR: usize = 40;
 
 /// How far a call comes, whatever its rooms.
 pub enum Judged {
@@ -69,14 +73,28 @@ impl Expected {
 
     /// Outcome, count, retained, closed.
     pub fn answer(&self) -> [u64; 4] {
-        let [count, retained] = [self.list.len() / 40, self.nodes.len() / 56];
+        let [count, retained] = [self.list.len() / WAYPOINT, self.nodes.len() / NODE];
         [self.number, count as u64, retained as u64, self.closed]
     }
 
     /// The words of the retained points.
     pub fn points(&self) -> Vec<[u64; 3]> {
         let point = |node: &[u8]| [0, 8, 16].map(|at| u64_at(node, at));
-        self.nodes.chunks(56).map(point).collect()
+        self.nodes.chunks(NODE).map(point).collect()
+    }
+
+    /// The doors of the list and of the nodes that are not none.
+    pub fn doors(&self) -> [Vec<u64>; 2] {
+        [(&self.list, WAYPOINT), (&self.nodes, NODE)].map(|(records, size)| {
+            let doors = records.chunks(size).map(|record| u64_at(record, DOOR));
+            doors.filter(|&door| door != NO_DOOR).collect()
+        })
+    }
+
+    /// Whether the last edge of the list, which leads to the goal, has a door.
+    pub fn connector_door(&self) -> bool {
+        let last = self.list.chunks(WAYPOINT).last();
+        last.is_some_and(|point| u64_at(point, DOOR) != NO_DOOR)
     }
 }
 

@@ -1,5 +1,6 @@
 //! Worlds too large for a scene, with budgets to 4,097: the oracle's three, two
-//! floors on which no way leads to the goal, and a window of 256 on every axis.
+//! floors on which no way leads to the goal, and a window of 256 on every axis;
+//! doors are strewn in each.
 
 use scene::Scene;
 
@@ -8,6 +9,7 @@ use crate::counts::Counts;
 use crate::differ::differ;
 use crate::expected::judge;
 use crate::sizes::{INDEX, longer, needed};
+use crate::strewn::strewn;
 
 const BUDGETS: [u64; 10] = [0, 1, 100, 512, 513, 1000, 2048, 4095, 4096, 4097];
 
@@ -19,6 +21,10 @@ pub fn all() -> bool {
     worlds.extend(island(64).map(|scene| ("island in 64 by 64", scene)));
     worlds.extend(island(100).map(|scene| ("island in 100 by 100", scene)));
     worlds.extend(whole_window().map(|scene| ("whole window", scene)));
+    let worlds: Vec<(&str, Scene)> = (0..)
+        .zip(worlds)
+        .map(|(number, (name, scene))| (name, strewn(scene, number)))
+        .collect();
     let mut counts = Counts::default();
     let mut mismatches = 0;
     for (name, scene) in &worlds {

@@ -10,6 +10,7 @@ mod edges;
 mod edits;
 mod expected;
 mod large;
+mod misread;
 mod numbers;
 mod passes;
 mod policy;
@@ -22,6 +23,7 @@ mod scenes;
 mod short;
 mod sizes;
 mod slivers;
+mod strewn;
 mod sweeps;
 mod tables;
 mod used;
@@ -69,7 +71,7 @@ fn command(arguments: &[String]) -> Result<bool, String> {
     let (name, from, count, threads) = match words[..] {
         ["directed", folder] => return scenes::directed(folder),
         ["reasons", folder] => return reasons::all(folder),
-        ["misread", from, count] => return Ok(reasons::misread(number(from)?, number(count)?)),
+        ["misread", from, count] => return Ok(misread::all(number(from)?, number(count)?)),
         ["large"] => return Ok(large::all()),
         [name, from, count] => (name, from, count, "1"),
         [name, from, count, threads] => (name, from, count, threads),

@@ -14,11 +14,12 @@ use crate::expected::{Expected, Judged, expected, judge};
 use crate::room::Room;
 use crate::runner::{Makers, Mismatch, smallest};
 use crate::sizes::{INDEX, Sizes, needed};
+use crate::strewn::strewn;
 
 /// Combinations of the seven flags of a policy and of being in water.
 const COMBINATIONS: u64 = 256;
 
-/// Scene n under combination n / 22 mod 256, so that 5,632 scenes in a row have
+/// Scene n under combination n / 23 mod 256, so that 5,888 scenes in a row have
 /// every kind under every combination.
 pub fn one_scene(makers: &Makers, number: u64, counts: &mut Counts) -> Result<(), Mismatch> {
     let Some((records, scene)) = makers.scene(number, counts) else {
@@ -34,8 +35,15 @@ pub fn one_scene(makers: &Makers, number: u64, counts: &mut Counts) -> Result<()
 
 fn parts(scene: &Scene, number: u64, counts: &mut Counts) -> Option<String> {
     let mut chance = Chance::new(number);
+    let own = scene.tables.permissions.len();
+    // Half of the scenes have more states, all doors of some sort.
+    let scene = match chance.once_in(2) {
+        true => strewn(scene.clone(), number),
+        false => scene.clone(),
+    };
     let states = scene.tables.permissions.len();
-    let mut flags: Vec<u8> = (0..states).map(|_| any_flags(&mut chance)).collect();
+    let mut flags: Vec<u8> = (0..own).map(|_| any_flags(&mut chance)).collect();
+    flags.extend((own..states).map(|_| chance.pick(&[8, 8, 24, 40, 56])));
     if let Some(air) = flags.first_mut().filter(|_| !chance.once_in(8)) {
         *air = 0;
     }
@@ -45,7 +53,7 @@ fn parts(scene: &Scene, number: u64, counts: &mut Counts) -> Option<String> {
         flags.resize(chance.pick(&length), 0);
     }
     let jump = chance.pick(&[1.252203352512, 0.0, 1.0, 2.5, f64::NAN, -1.0]);
-    let combination = number / 22 % COMBINATIONS;
+    let combination = number / Makers::KINDS % COMBINATIONS;
     let call = original::Call {
         tables: &scene.tables,
         flags: &flags,

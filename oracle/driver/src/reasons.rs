@@ -1,12 +1,10 @@
-//! Reasons: the directed questions of a folder, asked of the proved calls; and
-//! how soon the variants of the reading part from what the proved calls tell.
+//! Reasons: the directed questions of a folder, asked of the proved calls.
 
 use std::path::Path;
 
 use mutants::chance::Chance;
-use mutants::notice::notice;
 use mutants::questions::directed;
-use scene::{Asked, Question, Scene, Walked};
+use scene::{Asked, Question};
 use walkprint::raw;
 
 use crate::call::Call;
@@ -52,30 +50,4 @@ fn parts(call: &Call, asked: &Asked, counts: &mut Counts) -> Result<(), String> 
             }
         }
     }
-}
-
-/// What the proved call answers.
-fn proved(call: &Call, question: &Question) -> Walked {
-    match question {
-        Question::Walk(list) => call.walk_back(list),
-        Question::Edge(from, to) => Walked::told(call.ask(|asked| raw::edge(asked, *from, *to))),
-    }
-}
-
-/// Runs each variant of the reading against the proved calls, on the lists and
-/// edges of the scenes of these numbers: a line a variant, how many agree before
-/// one parts. False if none does for one of them.
-pub fn misread(from: u64, count: u64) -> bool {
-    let mut answers = |scene: &Scene, questions: &[Question]| {
-        let call = Call::of(scene);
-        let answer = |question: &Question| proved(&call, question);
-        questions.iter().map(answer).collect()
-    };
-    let table = notice(from..from + count, &mut answers);
-    for row in &table {
-        println!("{}: {}", row.variant.name(), row.line());
-    }
-    let survivors = table.iter().filter(|row| row.survives()).count();
-    println!("misread: {} variants, {survivors} not noticed", table.len());
-    survivors == 0
 }

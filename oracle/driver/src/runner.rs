@@ -22,10 +22,13 @@ pub struct Numbers {
     pub threads: u64,
 }
 
-/// Scene n is of kind n mod 22 and made from seed n.
+/// Scene n is of kind n mod 23 and made from seed n.
 pub struct Makers(Vec<(&'static str, Recipe)>);
 
 impl Makers {
+    /// How many kinds there are.
+    pub const KINDS: u64 = (RECIPES.len() + KINDS.len()) as u64;
+
     fn new() -> Self {
         let names = RECIPES.iter().chain(&KINDS);
         Self(

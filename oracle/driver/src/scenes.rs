@@ -4,7 +4,9 @@ use std::path::Path;
 
 use mutants::chance::Chance;
 use mutants::draft::scene_of;
-use scene::{RECORD, Record};
+use reading::Variant::{ReadAsWritten, ReparentKeepsDoor};
+use reading::search;
+use scene::{NODE, RECORD, Record, Scene, WAITING, WAYPOINT};
 
 use crate::call::Call;
 use crate::counts::Counts;
@@ -29,10 +31,28 @@ pub fn one_scene(makers: &Makers, number: u64, counts: &mut Counts) -> Result<()
         Ok(answer) => {
             counts.search(&answer);
             counts.index(&answer, sizes[INDEX]);
+            counts.add("nodes re-parented with another door", turned(&scene));
         }
         Err(_) => return Err(smallest(records, &|records| parts(records, extra, number))),
     }
     Ok(())
+}
+
+/// How many nodes of a scene's search are re-parented by an edge with another
+/// door than their first one: those that a search which kept the first would give
+/// another door.
+fn turned(scene: &Scene) -> u64 {
+    let permissions = &scene.tables.permissions;
+    if permissions.iter().all(|byte| byte & 4 != 0) {
+        return 0;
+    }
+    let [last, first] = [ReadAsWritten, ReparentKeepsDoor].map(|edit| {
+        let nodes = search(scene, edit).map_or(Vec::new(), |answer| answer.nodes);
+        nodes.into_iter().map(|node| node.point.door)
+    });
+    last.zip(first)
+        .filter(|(last, first)| last != first)
+        .count() as u64
 }
 
 /// How many bytes longer than needed a room is.
@@ -75,6 +95,7 @@ fn rooms_of(records: &[Record], seed: u64, counts: &mut Counts) -> Option<String
     let call = Call::of(&scene);
     let (judged, kept) = (judge(&call), call.clone());
     counts.add("scenes", 1);
+    counts.add("nodes re-parented with another door", turned(&scene));
     let sets = sets(call.request.node_budget.min(4096));
     for (place, (sizes, used)) in sets.into_iter().enumerate() {
         match differ_over(&call, &judged, sizes, used, seed + place as u64) {
@@ -109,7 +130,8 @@ fn sets(budget: u64) -> Vec<(Sizes, Option<Used>)> {
 /// record or more shorter and longer; empty; and long enough for every budget.
 fn record_sizes(exact: Sizes) -> Vec<Sizes> {
     let mut out = vec![exact, [0; 4], needed(4096)];
-    for (room, size) in [(NODES, 56), (FRONT, 24), (OUT, 40)] {
+    for (room, size) in [(NODES, NODE), (FRONT, WAITING), (OUT, WAYPOINT)] {
+        let size = size as i64;
         for change in [
             -1,
             1,

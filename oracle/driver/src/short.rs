@@ -7,7 +7,7 @@
 use mutants::chance::Chance;
 use mutants::draft::scene_of;
 use original::Policy;
-use scene::{Record, Scene, Walked, Window, u32_at};
+use scene::{NODE, Record, Scene, WAITING, WAYPOINT, Walked, Window, u32_at};
 use walkprint::raw::{self, Asked};
 
 use crate::call::Call;
@@ -159,10 +159,10 @@ fn questions(
     let whole = Call::of(scene);
     let mut list: Vec<u8> = match judge(&whole) {
         Judged::Answered(answer) => answer.list.iter().flat_map(|p| p.bytes()).collect(),
-        Judged::Ends(_) => vec![0; 40],
+        Judged::Ends(_) => vec![0; WAYPOINT],
     };
     if chance.once_in(2) {
-        list.extend([0; 40]);
+        list.extend([0; WAYPOINT]);
     }
     let must = match handed.cut(INVALID_REQUEST) {
         Some(number) => Walked::told(number),
@@ -202,7 +202,7 @@ fn mob(scene: &Scene, seed: u64, chance: &mut Chance, counts: &mut Counts) -> Re
     };
     let mut permissions = Room::new(states, chance);
     let after = permissions.after(&filled);
-    let sizes = [56, 24, 4, 40].map(|record| record * chance.below(3));
+    let sizes = [NODE, WAITING, 4, WAYPOINT].map(|record| record * chance.below(3));
     let must = expected(&Judged::Ends(number), 0, sizes);
     let told = |parts| format!("mob, {}: {parts}", handed.lengths());
     compare(&must, sizes, None, seed, |lent| {

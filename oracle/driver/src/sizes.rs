@@ -1,6 +1,7 @@
 //! The sizes of the rooms that a search is lent.
 
 use reading::index;
+use scene::{NODE, WAITING, WAYPOINT};
 
 /// The bytes of each room.
 pub type Sizes = [usize; 4];
@@ -15,7 +16,12 @@ pub const OUT: usize = 3;
 pub fn needed(budget: u64) -> Sizes {
     let records = budget as usize;
     let index = index::least_bytes(budget);
-    [56 * records, 24 * records, index, 40 * (records + 1)]
+    [
+        NODE * records,
+        WAITING * records,
+        index,
+        WAYPOINT * (records + 1),
+    ]
 }
 
 /// These rooms, each so many bytes longer, and the index so often doubled.

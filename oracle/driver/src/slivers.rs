@@ -13,10 +13,12 @@ use crate::columns::all_three;
 use crate::counts::Counts;
 use crate::passes::{Passed, passes};
 use crate::runner::{Makers, Mismatch};
+use crate::strewn::strewn;
 
 /// The world of a number, by the proved search, the original and the reading.
 pub fn one_world(_: &Makers, number: u64, counts: &mut Counts) -> Result<(), Mismatch> {
-    all_three(&world(number), number, counts, ways)
+    let world = strewn(world(number), number);
+    all_three(&world, number, counts, ways)
 }
 
 /// What the ways that the search asks for need: from its closed nodes to the

@@ -2,7 +2,7 @@
 //! what demand 3 claims checked on the proved answers.
 
 use mutants::draft::scene_of;
-use scene::{Scene, Walked, YES};
+use scene::{NODE, Scene, Walked, YES};
 
 use crate::call::Call;
 use crate::counts::Counts;
@@ -142,7 +142,7 @@ fn grows(before: &Expected, answer: &Expected) -> bool {
     let feet = |answer: &Expected| -> Vec<Vec<u8>> {
         answer
             .nodes
-            .chunks(56)
+            .chunks(NODE)
             .map(|node| node[..24].to_vec())
             .collect()
     };

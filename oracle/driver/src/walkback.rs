@@ -7,7 +7,7 @@ use mutants::lists::{List, Source};
 use mutants::questions::{Questions, questions};
 use original::Walks;
 use reading::Variant::ReadAsWritten;
-use scene::{Scene, Walked, YES};
+use scene::{Scene, WAYPOINT, Walked, YES};
 use walkprint::raw::{self, Asked};
 
 use crate::call::Call;
@@ -102,7 +102,7 @@ pub fn differ(
 
 fn hex(list: &[u8]) -> String {
     let digits = |record: &[u8]| record.iter().map(|byte| format!("{byte:02x}")).collect();
-    list.chunks(40)
+    list.chunks(WAYPOINT)
         .map(digits)
         .collect::<Vec<String>>()
         .join(" ")

@@ -55,9 +55,10 @@ fn lines(verdict: &Verdict) -> Vec<String> {
     {
         let [x, y, z] = node.point.feet;
         lines.push(format!(
-            "node {place} at {x} {y} {z}, movement {}, lift {:016x}, cost {:016x}, parent {}, closed {}",
+            "node {place} at {x} {y} {z}, movement {}, lift {:016x}, door {}, cost {:016x}, parent {}, closed {}",
             node.point.movement,
             node.point.lift.to_bits(),
+            node.point.door,
             node.cost.to_bits(),
             node.parent as i32,
             node.closed

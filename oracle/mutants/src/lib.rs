@@ -6,6 +6,7 @@ mod agree;
 pub mod chance;
 mod claims;
 mod compare;
+mod doorways;
 pub mod draft;
 mod hunt;
 pub mod lists;

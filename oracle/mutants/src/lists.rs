@@ -4,7 +4,7 @@
 use std::collections::BTreeMap;
 
 use original::Checks;
-use scene::{Answer, NO_PARENT, NodeRecord, Outcome, Scene, Waypoint, u64_at};
+use scene::{Answer, NO_DOOR, NO_PARENT, NodeRecord, Outcome, Scene, WAYPOINT, Waypoint, u64_at};
 
 use crate::chance::Chance;
 use crate::pairs::put_off;
@@ -83,7 +83,7 @@ pub fn spoilt_lists(
     }
     let nodes = answer.map_or(&[][..], |answer| &answer.nodes[..]);
     if !nodes.is_empty() {
-        let goal = walked(scene.request.goal);
+        let goal = Waypoint::walked(scene.request.goal);
         ways_off(&mut Checks::new(scene), nodes, goal, &mut chance, &mut out);
     }
     out
@@ -92,14 +92,6 @@ pub fn spoilt_lists(
 fn push(out: &mut Vec<List>, source: Source, points: &[Waypoint]) {
     let bytes = points.iter().flat_map(Waypoint::bytes).collect();
     out.push(List { source, bytes });
-}
-
-fn walked(feet: [f64; 3]) -> Waypoint {
-    Waypoint {
-        feet,
-        lift: 0.0,
-        movement: 0,
-    }
 }
 
 /// The found list, its damages, and on from its goal.
@@ -134,19 +126,19 @@ fn beyond(scene: &Scene, list: &[Waypoint], chance: &mut Chance) -> Vec<Waypoint
 /// any byte of its last record, and with each field of each record changed.
 fn damages(list: &[u8], chance: &mut Chance) -> Vec<Vec<u8>> {
     let mut out = vec![Vec::new(), [list, &[0]].concat(), [list, list].concat()];
-    let cut = list.len() - 1 - chance.below(39);
+    let cut = list.len() - 1 - chance.below(WAYPOINT - 1);
     out.push(list[..cut].to_vec());
-    for begin in (0..list.len()).step_by(40) {
-        let end = begin + 40;
+    for begin in (0..list.len()).step_by(WAYPOINT) {
+        let end = begin + WAYPOINT;
         out.push([&list[..begin], &list[end..]].concat());
         out.push([&list[..end], &list[begin..]].concat());
         if end < list.len() {
-            let next = end + 40;
+            let next = end + WAYPOINT;
             let [one, other] = [&list[begin..end], &list[end..next]];
             out.push([&list[..begin], other, one, &list[next..]].concat());
         }
         for at in (begin..end).step_by(8) {
-            for word in other_words(u64_at(list, at), at + 8 == end, chance) {
+            for word in other_words(u64_at(list, at), at - begin, chance) {
                 let mut changed = list.to_vec();
                 changed[at..at + 8].copy_from_slice(&word.to_le_bytes());
                 out.push(changed);
@@ -156,19 +148,24 @@ fn damages(list: &[u8], chance: &mut Chance) -> Vec<Vec<u8>> {
     out
 }
 
-/// Other words for a movement, or for a float.
-fn other_words(word: u64, movement: bool, chance: &mut Chance) -> Vec<u64> {
+/// Other words for the one at this place of a record: for a movement, for a
+/// door, or for a float.
+fn other_words(word: u64, place: usize, chance: &mut Chance) -> Vec<u64> {
     let flipped = word ^ 1 << chance.below(64);
-    if movement {
-        return vec![
-            word ^ 1,
-            word ^ 2,
-            word ^ 3,
-            word + 4,
-            word + (1 << 32),
-            word | 1 << 63,
-            flipped,
-        ];
+    match place {
+        32 => {
+            return vec![
+                word ^ 1,
+                word ^ 2,
+                word ^ 3,
+                word + 4,
+                word + (1 << 32),
+                word | 1 << 63,
+                flipped,
+            ];
+        }
+        40 => return other_doors(word, flipped, chance),
+        _ => {}
     }
     let number = f64::from_bits(word);
     let mut out = vec![number.next_up(), number.next_down(), -number, f64::NAN];
@@ -178,13 +175,31 @@ fn other_words(word: u64, movement: bool, chance: &mut Chance) -> Vec<u64> {
     words
 }
 
+/// None for a door and a door for none, a state's neighbours, and what shares its
+/// low half.
+fn other_doors(door: u64, flipped: u64, chance: &mut Chance) -> Vec<u64> {
+    let mut out = vec![
+        NO_DOOR,
+        0,
+        1 + chance.below(6) as u64,
+        door ^ 1,
+        door.wrapping_add(1 << 32),
+        NO_DOOR - 1,
+        NO_DOOR + 1,
+        u64::MAX,
+        flipped,
+    ];
+    out.retain(|&other| other != door);
+    out
+}
+
 /// Lists that need no search: the ends, and any bytes.
 fn unsearched(scene: &Scene, chance: &mut Chance, out: &mut Vec<List>) {
-    let ends = [scene.request.start, scene.request.goal].map(walked);
+    let ends = [scene.request.start, scene.request.goal].map(Waypoint::walked);
     push(out, Source::Ends, &ends);
     push(out, Source::Ends, &ends[..1]);
     push(out, Source::Ends, &ends[1..]);
-    let length = 40 * chance.below(5) + chance.pick(&[0, 0, 1]);
+    let length = WAYPOINT * chance.below(5) + chance.pick(&[0, 0, 1]);
     let words = (0..length / 8 + 1).flat_map(|_| chance.word().to_le_bytes());
     out.push(List {
         source: Source::Bytes,
@@ -194,7 +209,7 @@ fn unsearched(scene: &Scene, chance: &mut Chance, out: &mut Vec<List>) {
 
 /// Lists over the points that a search retained.
 fn searched(scene: &Scene, nodes: &[NodeRecord], chance: &mut Chance, out: &mut Vec<List>) {
-    let ends = [scene.request.start, scene.request.goal].map(walked);
+    let ends = [scene.request.start, scene.request.goal].map(Waypoint::walked);
     let points: Vec<Waypoint> = nodes.iter().map(|node| node.point).collect();
     for _ in 0..RETAINED {
         let middle: Vec<Waypoint> = (0..chance.below(6)).map(|_| chance.pick(&points)).collect();
@@ -224,7 +239,7 @@ fn ways_off(
         push(out, Source::Off, &list);
     }
     for (node, to) in refused_steps(checks, nodes) {
-        let list = [way(nodes, node), vec![walked(to)]].concat();
+        let list = [way(nodes, node), vec![Waypoint::walked(to)]].concat();
         push(out, Source::Refused, &list);
     }
 }
@@ -285,7 +300,7 @@ fn off(
         count => column.heights[chance.below(count)].0,
     };
     let (_, to) = put_off((from, [column.x, y, column.z]), chance);
-    list.push(checks.edge_check(from, to).unwrap_or(walked(to)));
+    list.push(checks.edge_check(from, to).unwrap_or(Waypoint::walked(to)));
     if chance.once_in(2) {
         list.push(goal);
     }

@@ -68,7 +68,7 @@ fn refusal(scene: &Scene, valid: bool) -> Option<u64> {
 /// The original on a scene.
 pub struct Judge<'a> {
     walks: Walks<'a>,
-    checks: Checks,
+    checks: Checks<'a>,
     /// What refuses every edge check.
     refused: Option<u64>,
 }
@@ -96,7 +96,7 @@ impl<'a> Judge<'a> {
     }
 }
 
-/// Scene n of the driver's commands, if it is one: of kind n mod 22, from seed n.
+/// Scene n of the driver's commands, if it is one: of kind n mod 23, from seed n.
 pub fn numbered(number: u64) -> Option<Scene> {
     let names: Vec<&str> = RECIPES.iter().chain(&KINDS).copied().collect();
     let make = recipe(names[(number % names.len() as u64) as usize])?;

@@ -11,7 +11,9 @@ use crate::chance::Chance;
 pub type Recipe = Box<dyn Fn(u64) -> Vec<Record>>;
 
 /// The names of the recipes here; the kinds of `oracle make` are recipes too.
-pub const RECIPES: [&str; 6] = ["draft", "edges", "plates", "twins", "mirror", "toll"];
+pub const RECIPES: [&str; 7] = [
+    "draft", "edges", "plates", "twins", "mirror", "toll", "doorways",
+];
 
 /// The recipe of a name.
 pub fn recipe(name: &str) -> Option<Recipe> {
@@ -22,6 +24,7 @@ pub fn recipe(name: &str) -> Option<Recipe> {
         "twins" => twins,
         "mirror" => mirror,
         "toll" => toll,
+        "doorways" => crate::doorways::doorways,
         _ => {
             let kind = name.to_string();
             scene::make(0, name)?;

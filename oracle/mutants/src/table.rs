@@ -2,10 +2,11 @@
 
 use std::path::Path;
 
-use reading::{ASKED, Graph, VARIANTS, Variant, search};
+use reading::{ASKED, Graph, ROOMED, Rooms, VARIANTS, Variant, search, search_in};
 use scene::{Scene, Verdict};
 
 use crate::compare::{parting, same, shown_by};
+use crate::doorways::doorways;
 use crate::draft::{draft, scene_of};
 
 /// A scene with its name, its text and the reading's answer.
@@ -35,6 +36,19 @@ impl Judged {
     fn supported(&self, edit: Variant) -> bool {
         let scene = &self.scene;
         Graph { scene, edit }.supported(scene.request.start, scene.request.goal)
+    }
+
+    /// The rooms, a byte shorter than they must be in one place, with which a
+    /// variant does not answer as the reading.
+    fn short_room(&self, edit: Variant) -> Option<&'static str> {
+        Rooms::short(self.scene.request.node_budget)
+            .into_iter()
+            .find(|(_, rooms)| {
+                let [read, edited] =
+                    [Variant::ReadAsWritten, edit].map(|edit| search_in(&self.scene, rooms, edit));
+                !same(&read, &edited)
+            })
+            .map(|(name, _)| name)
     }
 
     /// Whether the original answers as the reading; says so if not.
@@ -100,33 +114,56 @@ pub fn table(folder: &Path, seed: u64, count: u64) -> bool {
     let scenes = directed(folder);
     let (directed, variants) = (scenes.len(), VARIANTS.len());
     println!("{directed} directed scenes, {variants} variants");
-    let random: Vec<Judged> = (seed..seed + count)
-        .filter_map(|seed| scene_of(&draft(seed)))
-        .map(|scene| Judged::new(String::new(), String::new(), scene))
-        .collect();
+    let random = [draft, doorways].map(|recipe| -> Vec<Judged> {
+        (seed..seed + count)
+            .filter_map(|seed| scene_of(&recipe(seed)))
+            .map(|scene| Judged::new(String::new(), String::new(), scene))
+            .collect()
+    });
     let mut good = scenes.iter().filter(|judged| !judged.agrees()).count() == 0;
     let mut survivors = 0;
     for &variant in VARIANTS {
-        let (line, survives, headed) = row(variant, &scenes, &random);
+        let random = &random[usize::from(variant.is_of_doors())];
+        let (line, survives, headed) = row(variant, &scenes, random);
         println!("{line}");
         survivors += u32::from(survives);
         good &= headed;
     }
-    for &variant in ASKED {
-        let name = variant.name();
-        let own = scenes.iter().find(|judged| judged.name == name);
-        let tells = own.is_some_and(|judged| {
-            judged.supported(variant) != judged.supported(Variant::ReadAsWritten)
-        });
-        if tells {
-            println!("{name}: scenes/directed/{name}.txt by asking whether start to goal is supported");
-        } else {
-            println!("{name}: SURVIVES");
-            survivors += 1;
-        }
+    let asked = ASKED
+        .iter()
+        .map(|&variant| (variant, asked(variant, &scenes)));
+    let roomed = ROOMED
+        .iter()
+        .map(|&variant| (variant, roomed(variant, &scenes)));
+    for (variant, shown) in asked.chain(roomed) {
+        survivors += u32::from(shown.is_none());
+        let shown = shown.unwrap_or("SURVIVES".to_string());
+        println!("{}: {shown}", variant.name());
     }
     println!("{survivors} survive the directed scenes");
     good && survivors == 0
+}
+
+/// What tells a variant apart that only a question shows.
+fn asked(variant: Variant, scenes: &[Judged]) -> Option<String> {
+    let name = variant.name();
+    let own = scenes.iter().find(|judged| judged.name == name)?;
+    let tells = own.supported(variant) != own.supported(Variant::ReadAsWritten);
+    tells
+        .then(|| format!("scenes/directed/{name}.txt by asking whether start to goal is supported"))
+}
+
+/// What tells a variant apart that only a room shows.
+fn roomed(variant: Variant, scenes: &[Judged]) -> Option<String> {
+    let mut short = scenes
+        .iter()
+        .filter_map(|judged| Some((judged, judged.short_room(variant)?)));
+    let (judged, room) = short.next()?;
+    Some(format!(
+        "scenes/directed/{}.txt with its {room} a byte short; {} directed",
+        judged.name,
+        1 + short.count()
+    ))
 }
 
 /// A variant's line, whether it survives, and whether its scene's head is

@@ -5,7 +5,7 @@ use std::collections::BTreeMap;
 use std::path::Path;
 
 use reading::Variant::ReadAsWritten;
-use scene::{Asked, Question, Scene, Walked, Waypoint, YES, f64_at, u64_at, words};
+use scene::{Asked, Question, Scene, WAYPOINT, Walked, Waypoint, YES, words};
 
 use crate::questions::{Directed, Judge, directed, kind, numbered, questions, reads};
 
@@ -84,13 +84,9 @@ impl Tally {
 
 /// Whether a list is a route by 01's sentence, which knows of no reason.
 fn is_route(scene: &Scene, list: &[u8]) -> bool {
-    let waypoint = |record: &[u8]| Waypoint {
-        feet: [0, 8, 16].map(|at| f64_at(record, at)),
-        lift: f64_at(record, 24),
-        movement: u64_at(record, 32),
-    };
-    let points: Vec<Waypoint> = list.chunks_exact(40).map(waypoint).collect();
-    list.len().is_multiple_of(40) && reading::is_route(scene, &points)
+    let records = list.chunks_exact(WAYPOINT);
+    let points: Vec<Waypoint> = records.map(Waypoint::from_bytes).collect();
+    list.len().is_multiple_of(WAYPOINT) && reading::is_route(scene, &points)
 }
 
 /// What parts the reading's answer from the original's; or, of a list that is

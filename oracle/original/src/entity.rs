@@ -55,7 +55,8 @@ pub mod searched {
 
     include!(concat!(env!("OUT_DIR"), "/navigation.rs"));
 
-    /// A zero lift's sign is open in the original; document 01 says +0.0.
+    /// A zero lift's sign is open in the original; document 01 says +0.0. The
+    /// original names no doors.
     pub fn waypoint(point: WalkWaypoint) -> scene::Waypoint {
         scene::Waypoint {
             feet: point.feet.to_array(),
@@ -70,6 +71,7 @@ pub mod searched {
                 WalkMovement::Jump => 2,
                 WalkMovement::Drop => 3,
             },
+            door: scene::NO_DOOR,
         }
     }
 

@@ -3,6 +3,7 @@
 //! stand-ins and their rules.
 
 mod absent;
+mod doors;
 mod entity;
 mod glam;
 mod policy;

@@ -1,7 +1,8 @@
 //! The original's policy: passages, permission bytes, jumps, `find_path`.
 
-use scene::{Answer, Body, Request, Tables};
+use scene::{Answer, Body, Request, Scene, Tables};
 
+use crate::doors::doored;
 use crate::entity::mob::ai::path::{self, PathBlockTable, WalkPolicy};
 use crate::entity::navigation::NOTE;
 use crate::entity::searched::{NavigationScratch, WalkNavigation, WalkPathRequest};
@@ -115,11 +116,20 @@ pub fn find_path(call: &Call) -> Found {
     );
     let (_, note) = NOTE.take();
     let note = note.expect("find_path calls the search");
+    let asked = Scene {
+        request: asked(note.request),
+        body: call.body,
+        tables: Tables {
+            permissions: note.permissions,
+            ..call.tables.clone()
+        },
+    };
+    let answer = answer(outcome(note.outcome), &scratch, &output);
     Found {
         found,
-        request: asked(note.request),
-        permissions: note.permissions,
-        answer: answer(outcome(note.outcome), &scratch, &output),
+        answer: doored(&asked, answer),
+        request: asked.request,
+        permissions: asked.tables.permissions,
     }
 }
 

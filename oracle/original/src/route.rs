@@ -1,7 +1,7 @@
-//! 01's Route, over the original's checks, and the walk-back's answer with its
-//! first reason (02, No. 3).
+//! 01's Route, over the original's checks and with doors (02, No. 5), and the
+//! walk-back's answer with its first reason (No. 3).
 
-use scene::{Scene, Walked, Waypoint, YES, f64_at, u64_at};
+use scene::{NO_DOOR, Scene, WAYPOINT, Walked, Waypoint, YES};
 
 use crate::search::{Checks, valid_request};
 
@@ -16,7 +16,7 @@ const NOT_A_STEP: u64 = 117;
 const WRONG_LABEL: u64 = 118;
 const WRONG_END: u64 = 119;
 
-/// What the walk-back answers to a list in 40-byte records.
+/// What the walk-back answers to a list in 48-byte records.
 pub fn walk_back(scene: &Scene, list: &[u8]) -> Walked {
     Walks::new(scene).walk_back(list)
 }
@@ -24,7 +24,7 @@ pub fn walk_back(scene: &Scene, list: &[u8]) -> Walked {
 /// The walk-back on a scene, for any number of lists.
 pub struct Walks<'a> {
     scene: &'a Scene,
-    checks: Checks,
+    checks: Checks<'a>,
     /// What is told whatever the list.
     refused: Option<u64>,
 }
@@ -43,8 +43,9 @@ impl<'a> Walks<'a> {
         if let Some(number) = self.refused {
             return Walked::told(number);
         }
-        let points: Vec<Waypoint> = list.chunks_exact(40).map(waypoint).collect();
-        let whole = list.len().is_multiple_of(40) && points.iter().all(|at| at.movement <= 3);
+        let records = list.chunks_exact(WAYPOINT);
+        let points: Vec<Waypoint> = records.map(Waypoint::from_bytes).collect();
+        let whole = list.len().is_multiple_of(WAYPOINT) && points.iter().all(|at| at.movement <= 3);
         let (Some(first), Some(last), true) = (points.first(), points.last(), whole) else {
             return Walked::told(BAD_LIST);
         };
@@ -73,13 +74,14 @@ impl<'a> Walks<'a> {
         if !self.checks.standable(goal) {
             return Some(GOAL_NOT_STANDABLE);
         }
-        let begins = same_point(first.feet, start) && first.movement == 0 && first.lift == 0.0;
+        let walks = first.movement == 0 && first.lift == 0.0 && first.door == NO_DOOR;
+        let begins = same_point(first.feet, start) && walks;
         (!begins).then_some(WRONG_START)
     }
 
     /// Why a pair is none of the graph's. One that is has no reason; of another
-    /// the edge's comes first, and where it has an edge, that edge's movement
-    /// and lift tell whether they alone are wrong.
+    /// the edge's comes first, and where it has an edge, that edge's movement,
+    /// lift and door tell whether they alone are wrong.
     fn pair(&mut self, from: [f64; 3], next: &Waypoint, at_end: bool) -> Option<u64> {
         if self.joins(from, next, at_end) {
             return None;
@@ -115,14 +117,6 @@ fn refused(scene: &Scene) -> Option<u64> {
     scene::too_large(&unread, &scene.body).then_some(4)
 }
 
-fn waypoint(record: &[u8]) -> Waypoint {
-    Waypoint {
-        feet: [0, 8, 16].map(|at| f64_at(record, at)),
-        lift: f64_at(record, 24),
-        movement: u64_at(record, 32),
-    }
-}
-
 /// "Equal bits, with -0.0 as 0."
 fn same_point(a: [f64; 3], b: [f64; 3]) -> bool {
     let key = |n: f64| if n == 0.0 { 0 } else { n.to_bits() };
@@ -132,5 +126,6 @@ fn same_point(a: [f64; 3], b: [f64; 3]) -> bool {
 /// Whether an edge's answer is the list's next point; lifts compare as
 /// numbers.
 fn same_waypoint(a: &Waypoint, b: &Waypoint) -> bool {
-    same_point(a.feet, b.feet) && a.movement == b.movement && a.lift == b.lift
+    let labels = a.movement == b.movement && a.lift == b.lift && a.door == b.door;
+    same_point(a.feet, b.feet) && labels
 }

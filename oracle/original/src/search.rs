@@ -2,6 +2,7 @@
 
 use scene::{Answer, Outcome, Refusal, Scene, Verdict, Waypoint};
 
+use crate::doors::doored;
 use crate::entity::components::PhysicsBody;
 use crate::entity::searched::{
     self, NavigationScratch, WalkBlockRole, WalkNavigation, WalkPathOutcome, WalkPathRequest,
@@ -35,6 +36,16 @@ impl World {
             .get_by_runtime_id(id)
             .is_some_and(|byte| byte & bit != 0)
     }
+
+    /// The state of a cell that is loaded, registered and does not collide, and
+    /// whose voxel the area shares room with.
+    pub(crate) fn passable(&self, [x, y, z]: [i32; 3], area: [f64; 6]) -> Option<u32> {
+        let state = self.block_at(IVec3::new(x, y, z))?;
+        self.0.get_by_runtime_id(state)?;
+        let min = DVec3::new(x.into(), y.into(), z.into());
+        let inside = Aabb::new(min, min + DVec3::ONE).intersects(&aabb(area));
+        (inside && !self.permitted(state, WalkBlockRole::Collides)).then_some(state)
+    }
 }
 
 impl BlockSource for World {
@@ -50,6 +61,10 @@ impl BlockSource for World {
 
 pub(crate) fn vector([x, y, z]: [f64; 3]) -> DVec3 {
     DVec3::new(x, y, z)
+}
+
+fn aabb([a, b, c, d, e, f]: [f64; 6]) -> Aabb {
+    Aabb::new(DVec3::new(a, b, c), DVec3::new(d, e, f))
 }
 
 fn numbers(area: Aabb) -> [f64; 6] {
@@ -126,13 +141,14 @@ impl Navigator {
         ))
     }
 
-    /// A search and what it left behind.
-    pub fn answer(&mut self) -> Answer {
+    /// A search of its scene and what it left behind, with doors.
+    pub fn answer(&mut self, scene: &Scene) -> Answer {
         let outcome = self.run();
-        answer(outcome, &self.scratch, &self.output)
+        doored(scene, answer(outcome, &self.scratch, &self.output))
     }
 }
 
+/// What a search left behind, without doors.
 pub(crate) fn answer(
     outcome: Outcome,
     scratch: &NavigationScratch,
@@ -152,9 +168,9 @@ pub(crate) fn answer(
     }
 }
 
-/// The original's answer to a scene, without 01's limits.
+/// The original's answer to a scene, without 01's limits, with doors.
 pub fn find_walk_path(scene: &Scene) -> Answer {
-    Navigator::new(scene).answer()
+    Navigator::new(scene).answer(scene)
 }
 
 /// The original's `valid_request`.
@@ -200,8 +216,9 @@ pub struct Column {
 }
 
 /// The original's checks on a scene, one call each.
-pub struct Checks {
-    world: World,
+pub struct Checks<'a> {
+    pub(crate) scene: &'a Scene,
+    pub(crate) world: World,
     body: PhysicsBody,
     request: WalkPathRequest,
     scratch: NavigationScratch,
@@ -223,9 +240,10 @@ macro_rules! ask {
     }};
 }
 
-impl Checks {
-    pub fn new(scene: &Scene) -> Self {
+impl<'a> Checks<'a> {
+    pub fn new(scene: &'a Scene) -> Self {
         Self {
+            scene,
             world: World::new(&scene.tables),
             body: body(&scene.body),
             request: request(&scene.request),
@@ -243,9 +261,8 @@ impl Checks {
     }
 
     /// The area as min x, y, z, max x, y, z.
-    pub fn clear_area(&mut self, [a, b, c, d, e, f]: [f64; 6]) -> bool {
-        let area = Aabb::new(DVec3::new(a, b, c), DVec3::new(d, e, f));
-        ask!(self, checks => checks.clear_area(area))
+    pub fn clear_area(&mut self, area: [f64; 6]) -> bool {
+        ask!(self, checks => checks.clear_area(aabb(area)))
     }
 
     pub fn standable(&mut self, feet: [f64; 3]) -> bool {
@@ -276,7 +293,15 @@ impl Checks {
         out
     }
 
+    /// The original's edge, with its door.
     pub fn edge(&mut self, from: [f64; 3], to: [f64; 3]) -> Option<Waypoint> {
+        let point = self.bare_edge(from, to)?;
+        let door = self.door(from, &point);
+        Some(Waypoint { door, ..point })
+    }
+
+    /// The same without its door, to measure.
+    pub fn bare_edge(&mut self, from: [f64; 3], to: [f64; 3]) -> Option<Waypoint> {
         ask!(self, checks => checks.edge(vector(from), vector(to)))
     }
 

@@ -4,6 +4,7 @@ use scene::Waypoint;
 
 use crate::Variant::*;
 use crate::boxes::{Area, Point, X, Y, Z, minus};
+use crate::doors::Corridor;
 use crate::graph::{E, Graph};
 use crate::reason::Reason::{self, *};
 
@@ -105,23 +106,18 @@ impl Graph<'_> {
     pub fn edge_check(&self, from: Point, to: Point) -> Result<Waypoint, Reason> {
         let moving = self.movement(to[Y] - from[Y]);
         let (movement, lift) = moving.unwrap_or((WALK, 0.0));
-        let raised_y = match self.edit {
-            StepRaisedToTarget if movement == STEP => to[Y],
-            _ => from[Y] + lift,
-        };
-        let raised = [from[X], raised_y, from[Z]];
-        let across = [to[X], raised_y, to[Z]];
+        let raised = self.raised(from, to, movement, lift);
+        let corridor = self.corridor(from, to, movement, lift);
+        let [rising, crossing, settling] = corridor;
         // "Then target and raised point in range, target standable, the lift,
         // crossing and settle areas clear, the segment supported."
         let passes = |reason: &Reason| match reason {
             TargetOutOfRange => self.is(TargetRangeUnread) || self.in_range(to),
             RaisedOutOfRange => self.is(RaisedRangeUnread) || self.in_range(raised),
             TargetNotStandable => self.is(TargetStandableUnread) || self.standable(to),
-            LiftBlocked => self.is(LiftUnread) || self.clear(self.lift_area(from, raised, lift)),
-            CrossingBlocked => {
-                self.is(CrossingUnread) || self.clear(self.crossing_area(from, raised, across))
-            }
-            SettleBlocked => self.is(SettleUnread) || self.clear(self.sweep(across, to)),
+            LiftBlocked => self.is(LiftUnread) || self.clear(rising),
+            CrossingBlocked => self.is(CrossingUnread) || self.clear(crossing),
+            SettleBlocked => self.is(SettleUnread) || self.clear(settling),
             Unsupported => self.is(SegmentUnread) || self.supported(from, to),
             height => moving != Err(*height),
         };
@@ -132,8 +128,29 @@ impl Graph<'_> {
                 feet: to,
                 lift,
                 movement,
+                door: self.corridor_door(from, &corridor),
             }),
         }
+    }
+
+    /// The point from which an edge crosses.
+    fn raised(&self, from: Point, to: Point, movement: u64, lift: f64) -> Point {
+        let y = match self.edit {
+            StepRaisedToTarget if movement == STEP => to[Y],
+            _ => from[Y] + lift,
+        };
+        [from[X], y, from[Z]]
+    }
+
+    /// "The lift, crossing and settle areas."
+    pub(crate) fn corridor(&self, from: Point, to: Point, movement: u64, lift: f64) -> Corridor {
+        let raised = self.raised(from, to, movement, lift);
+        let across = [to[X], raised[Y], to[Z]];
+        [
+            self.lift_area(from, raised, lift),
+            self.crossing_area(from, raised, across),
+            self.sweep(across, to),
+        ]
     }
 
     /// The body at `from`, grown towards `to` by their difference.

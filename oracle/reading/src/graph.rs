@@ -33,6 +33,15 @@ pub(crate) fn ceil(x: f64) -> i64 {
     i64::from(x.ceil() as i32)
 }
 
+/// The unit cube of a cell.
+pub(crate) fn voxel(at: [i64; 3]) -> Area {
+    let min = at.map(|n| n as f64);
+    Area {
+        min,
+        max: add(min, [1.0; 3]),
+    }
+}
+
 /// "Same point: equal bits, with -0.0 as 0."
 pub fn same_point(a: Point, b: Point, edit: Variant) -> bool {
     let word = |n: f64| {
@@ -98,7 +107,7 @@ impl Graph<'_> {
         })
     }
 
-    fn clear_cells(&self, area: &Area) -> [RangeInclusive<i64>; 3] {
+    pub(crate) fn clear_cells(&self, area: &Area) -> [RangeInclusive<i64>; 3] {
         let first = |axis: usize| match self.edit {
             ClearFromCeilX if axis == X => ceil(area.min[axis]),
             ClearFromCeilZ if axis == Z => ceil(area.min[axis]),
@@ -133,16 +142,11 @@ impl Graph<'_> {
             _ => None,
         };
         let hit = cell.boxes().any(|shape| shape.intersects(area, touching));
-        let min = at.map(|n| n as f64);
-        let voxel = Area {
-            min,
-            max: add(min, [1.0; 3]),
-        };
         let inside = match self.edit {
-            VoxelTouchingY => voxel.intersects(area, Some(Y)),
+            VoxelTouchingY => voxel(at).intersects(area, Some(Y)),
             OccupiedOfEveryCell => true,
             OccupiedUnread => false,
-            _ => voxel.intersects(area, None),
+            _ => voxel(at).intersects(area, None),
         };
         let hit = hit && !(self.is(ClearBoxesOfOccupiableUnread) && cell.occupied);
         !hit && (cell.occupied || !inside)

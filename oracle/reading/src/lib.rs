@@ -1,11 +1,13 @@
-//! A plain reading of document 01, and of 02's No. 3 and No. 7: what each
-//! sentence says, one function a paragraph, without a thought for speed. It shares nothing with the original's
-//! code; where 01 leaves a sum to the source, it takes the source's.
+//! A plain reading of document 01, and of 02's No. 3, No. 5 and No. 7: what each
+//! sentence says, one function a paragraph, without a thought for speed. It
+//! shares nothing with the original's code; where 01 leaves a sum to the source,
+//! it takes the source's.
 //!
 //! It comes with variants, each of which misreads one sentence on purpose, so
 //! that a scene can be shown to tell the sentence from its misreading.
 
 mod boxes;
+mod doors;
 mod edge;
 mod graph;
 pub mod index;
@@ -32,5 +34,5 @@ pub use reason::Reason;
 pub use request::{Rooms, bad_world, search, search_in, too_large, valid_request};
 pub use root::is_root;
 pub use route::{is_route, reachable_points};
-pub use variant::{ASKED, TOLD, VARIANTS, Variant};
+pub use variant::{ASKED, ROOMED, TOLD, VARIANTS, Variant};
 pub use walk_back::walk_back;

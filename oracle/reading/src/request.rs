@@ -1,7 +1,7 @@
 //! What 01 judges before a search: the order of its checks, `valid_request`,
 //! number 3, the limits and the rooms.
 
-use scene::{Answer, Outcome, Refusal, Scene, Verdict};
+use scene::{Answer, NODE, Outcome, Refusal, Scene, Verdict, WAITING, WAYPOINT};
 
 use crate::Variant::{self, *};
 use crate::boxes::Point;
@@ -24,18 +24,55 @@ impl Rooms {
     /// budget" (02, No. 7): these are just large enough.
     pub fn least(node_budget: u64) -> Self {
         Self {
-            nodes: 56 * node_budget,
-            frontier: 24 * node_budget,
+            nodes: NODE as u64 * node_budget,
+            frontier: WAITING as u64 * node_budget,
             index: index::least_bytes(node_budget) as u64,
-            output: 40 * (node_budget + 1),
+            output: WAYPOINT as u64 * (node_budget + 1),
         }
     }
 
-    /// "5", of an index room also where it is longer and of a wrong size.
-    fn no_room(&self, node_budget: u64) -> bool {
-        self.nodes / 56 < node_budget
-            || self.frontier / 24 < node_budget
-            || self.output / 40 < node_budget + 1
+    /// Rooms for a budget, of which one is a byte too short, with its name.
+    pub fn short(node_budget: u64) -> [(&'static str, Self); 3] {
+        let least = Self::least(node_budget);
+        [
+            (
+                "node room",
+                Self {
+                    nodes: least.nodes.saturating_sub(1),
+                    ..least
+                },
+            ),
+            (
+                "frontier room",
+                Self {
+                    frontier: least.frontier.saturating_sub(1),
+                    ..least
+                },
+            ),
+            (
+                "output",
+                Self {
+                    output: least.output - 1,
+                    ..least
+                },
+            ),
+        ]
+    }
+
+    /// "5", of an index room also where it is longer and of a wrong size. "Rooms
+    /// are counted in the new sizes" (02, No. 5).
+    fn no_room(&self, node_budget: u64, edit: Variant) -> bool {
+        let node = match edit {
+            RoomOfOldNodes => 56,
+            _ => NODE as u64,
+        };
+        let waypoint = match edit {
+            RoomOfOldWaypoints => 40,
+            _ => WAYPOINT as u64,
+        };
+        self.nodes / node < node_budget
+            || self.frontier / (WAITING as u64) < node_budget
+            || self.output / waypoint < node_budget + 1
             || index::wrong_size(self.index as usize, node_budget)
     }
 }
@@ -67,7 +104,7 @@ pub fn search_in(scene: &Scene, rooms: &Rooms, edit: Variant) -> Verdict {
     if too_large(scene, edit) {
         return refused(4);
     }
-    if rooms.no_room(request.node_budget) {
+    if rooms.no_room(request.node_budget, edit) {
         return refused(5);
     }
     if edit == BudgetZeroFirst && request.node_budget == 0 {

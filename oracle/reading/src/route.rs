@@ -19,9 +19,13 @@ fn same(a: Point, b: Point) -> bool {
     same_point(a, b, ReadAsWritten)
 }
 
-/// The same point, movement and lift; "lifts compare as numbers".
+/// The same point, movement and lift, which "compare as numbers", and "the right
+/// door too" (02, No. 5).
 fn agrees(claimed: &Waypoint, edge: &Waypoint) -> bool {
-    same(claimed.feet, edge.feet) && claimed.movement == edge.movement && claimed.lift == edge.lift
+    same(claimed.feet, edge.feet)
+        && claimed.movement == edge.movement
+        && claimed.lift == edge.lift
+        && claimed.door == edge.door
 }
 
 /// "Route: valid request; goal in range; both ends standable; points compared
@@ -32,11 +36,7 @@ fn agrees(claimed: &Waypoint, edge: &Waypoint) -> bool {
 pub fn is_route(scene: &Scene, list: &[Waypoint]) -> bool {
     let request = &scene.request;
     let graph = graph(scene);
-    let start = Waypoint {
-        feet: request.start,
-        lift: 0.0,
-        movement: 0,
-    };
+    let start = Waypoint::walked(request.start);
     let (Some(first), Some(last)) = (list.first(), list.last()) else {
         return false;
     };

@@ -1,6 +1,6 @@
 //! 01's search, from the retained start to the outcome.
 
-use scene::{Answer, NO_PARENT, NodeRecord, Outcome, Waypoint};
+use scene::{Answer, NO_DOOR, NO_PARENT, NodeRecord, Outcome, Waypoint};
 
 use crate::Variant::{self, *};
 use crate::boxes::{Point, distance};
@@ -30,13 +30,16 @@ pub struct Search<'a> {
 type Hit = (usize, Option<Waypoint>);
 
 impl<'a> Search<'a> {
-    /// The start is retained (Walk, lift 0) and waits with estimate 0.
+    /// The start is retained (Walk, lift 0, and "the start has none", no door)
+    /// and waits with estimate 0.
     pub fn begin(graph: Graph<'a>) -> Self {
-        let start = Waypoint {
-            feet: graph.scene.request.start,
-            lift: 0.0,
-            movement: 0,
-        };
+        let feet = graph.scene.request.start;
+        let mut start = Waypoint::walked(feet);
+        match graph.edit {
+            StartHasADoor => start.door = graph.door_in(graph.body_at(feet)),
+            StartDoorIsZero => start.door = 0,
+            _ => {}
+        }
         let node = NodeRecord {
             point: start,
             cost: 0.0,
@@ -133,6 +136,7 @@ impl<'a> Search<'a> {
         let mut connector = self.graph.connector(from)?;
         match self.edit() {
             ConnectorAlwaysWalk => connector.movement = 0,
+            ConnectorHasNoDoor => connector.door = NO_DOOR,
             ClosedAfterConnector => self.nodes[node].closed = 0,
             ConnectorRetained => {
                 if self.full() {
@@ -229,7 +233,7 @@ impl<'a> Search<'a> {
         }
     }
 
-    /// The node takes the edge's movement and lift, the cost and the parent,
+    /// The node takes the edge's movement, lift and door, the cost and the parent,
     /// and is pushed again.
     fn reparent(&mut self, known: usize, step: Waypoint, cost: f64, parent: usize) {
         let edit = self.edit();
@@ -239,6 +243,10 @@ impl<'a> Search<'a> {
         }
         if edit != ReparentKeepsLift {
             node.point.lift = step.lift;
+        }
+        // "A re-parented node takes the new edge's door."
+        if edit != ReparentKeepsDoor {
+            node.point.door = step.door;
         }
         if edit != ReparentKeepsParent {
             node.parent = parent as u32;

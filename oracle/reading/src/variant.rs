@@ -1,5 +1,5 @@
-//! The variants: each misreads one sentence of 01, or of 02's No. 3 or No. 7,
-//! and is switched at the place of that sentence.
+//! The variants: each misreads one sentence of 01, or of 02's No. 3, No. 5 or No.
+//! 7, and is switched at the place of that sentence.
 //!
 //! Left out, because no answer can show them: the start's estimate (it waits
 //! alone); an occupiable unknown cell (its cube fills the voxel); a voxel that
@@ -10,17 +10,22 @@
 //! finiteness other than that of steps, jump and drop, and a limit of 0 or less
 //! (no coordinate is smaller than such a limit); 1 - covered ≤ E instead of
 //! covered ≥ 1 - E (the same, for this E); a lookup that leaves out the nodes of
-//! the expansion under way (its points all differ).
+//! the expansion under way (its points all differ). Of doors: an unknown cell as a
+//! door (its cube would block the area), a voxel that touches in x or z, and one
+//! that intersects another area of the corridor than the one whose turn it is (a
+//! cell that is looked at for an area, but for the layer below, intersects it).
 //!
 //! Three misreadings show only where `supported` is asked by itself: in a search
 //! the body stands at the segment's start and the target is standable, so that
 //! some interval begins at 0 and one ends at 1. Those of 02's No. 3 show only in
-//! the reason of an edge or of a walk-back, or in its place.
+//! the reason of an edge or of a walk-back, or in its place. Two of No. 5 show only
+//! in rooms that are too short.
 
 macro_rules! variants {
     (
         searched { $($part:literal { $($sentence:literal { $($name:ident: $edit:literal,)* })* })* }
         asked { $($part_asked:literal { $($sentence_asked:literal { $($asked:ident: $edit_asked:literal,)* })* })* }
+        roomed { $($part_roomed:literal { $($sentence_roomed:literal { $($roomed:ident: $edit_roomed:literal,)* })* })* }
         told { $($part_told:literal { $($sentence_told:literal { $($told:ident: $edit_told:literal,)* })* })* }
     ) => {
         /// A way to read 01: as written, or with one sentence misread.
@@ -30,6 +35,7 @@ macro_rules! variants {
             ReadAsWritten,
             $($($(#[doc = $edit] $name,)*)*)*
             $($($(#[doc = $edit_asked] $asked,)*)*)*
+            $($($(#[doc = $edit_roomed] $roomed,)*)*)*
             $($($(#[doc = $edit_told] $told,)*)*)*
         }
 
@@ -38,6 +44,9 @@ macro_rules! variants {
 
         /// The variants that only a question to `supported` shows.
         pub const ASKED: &[Variant] = &[$($($(Variant::$asked,)*)*)*];
+
+        /// The variants that only rooms show that are too short.
+        pub const ROOMED: &[Variant] = &[$($($(Variant::$roomed,)*)*)*];
 
         /// The variants that only a reason shows, of an edge or of a walk-back.
         pub const TOLD: &[Variant] = &[$($($(Variant::$told,)*)*)*];
@@ -49,6 +58,7 @@ macro_rules! variants {
                     Variant::ReadAsWritten => ["", "", "nothing is misread"],
                     $($($(Variant::$name => [$part, $sentence, $edit],)*)*)*
                     $($($(Variant::$asked => [$part_asked, $sentence_asked, $edit_asked],)*)*)*
+                    $($($(Variant::$roomed => [$part_roomed, $sentence_roomed, $edit_roomed],)*)*)*
                     $($($(Variant::$told => [$part_told, $sentence_told, $edit_told],)*)*)*
                 }
             }
@@ -57,6 +67,11 @@ macro_rules! variants {
 }
 
 impl Variant {
+    /// Whether it misreads what 02's No. 5 says of doors.
+    pub fn is_of_doors(self) -> bool {
+        self.about()[0] == "02, No. 5"
+    }
+
     /// The name of the variant, and of the scene that tells it apart:
     /// `BoxTouchingX` is `box-touching-x`.
     pub fn name(self) -> String {
@@ -449,6 +464,47 @@ variants! {
                 IndexOwnSlotOnly: "no slot is looked at but the point's own",
             }
         }
+        "02, No. 5" {
+            "the state number of the first crossed cell" {
+                DoorOfTheShape: "the shape's number",
+                DoorLast: "of the last one",
+                DoorNotOfTheCellLeft: "the cells that the body leaves do not count",
+            }
+            "that is known, lacks bit 4" {
+                DoorCollidesUnread: "bit 4 is not read",
+                DoorByOccupied: "lacks bit 1",
+                DoorBySupport: "lacks bit 2",
+            }
+            "whose voxel intersects a corridor area" {
+                DoorVoxelUnread: "the voxel is not read, and the layer below counts",
+                DoorVoxelTouchingY: "a voxel that touches in y counts",
+            }
+            "taken in lift, crossing, settle order" {
+                DoorCrossingBeforeLift: "the crossing before the lift",
+                DoorSettleBeforeCrossing: "the settling before the crossing",
+                DoorOfTheCrossing: "the crossing alone",
+                DoorNotOfTheSettle: "without the settling",
+            }
+            "and within each in the clear check's y, x, z order" {
+                DoorOrderYZX: "y, z, x",
+                DoorOrderXYZ: "x, y, z",
+                DoorOrderXZY: "x, z, y",
+                DoorFromTheTop: "the highest y first",
+            }
+            "4294967295 when there is none" {
+                DoorZeroIsNone: "state 0 is none",
+            }
+            "the start has none" {
+                StartHasADoor: "the start has the door that it stands in",
+                StartDoorIsZero: "the start's door is 0",
+            }
+            "A re-parented node takes the new edge's door" {
+                ReparentKeepsDoor: "the door stays",
+            }
+            "Each waypoint record gains 8 bytes" {
+                ConnectorHasNoDoor: "the connector has no door",
+            }
+        }
     }
     asked {
         "Supported segment" {
@@ -458,6 +514,14 @@ variants! {
             "1 - E suffices" {
                 AskedCoverToOne: "1 is needed",
                 AskedCoverAtEOut: "exactly 1 - E does not suffice",
+            }
+        }
+    }
+    roomed {
+        "02, No. 5" {
+            "Rooms are counted in the new sizes" {
+                RoomOfOldNodes: "56 bytes a node",
+                RoomOfOldWaypoints: "40 bytes a waypoint",
             }
         }
     }
@@ -555,6 +619,16 @@ variants! {
                 ToldPlaceOneMore: "the place is one more",
                 ToldPlaceOneLess: "the earlier point's place",
                 ToldPlaceOfTheEnd: "a wrong end has the last point's place",
+            }
+        }
+        "02, No. 5, the walk-back" {
+            "A route must carry the right door too (else No. 3's wrong movement or lift)" {
+                ToldDoorUnread: "the door of a pair is not read",
+                ToldDoorHalfRead: "the low half of a door is read",
+                ToldDoorNotAStep: "a wrong door is not a graph step",
+            }
+            "the start has none" {
+                ToldStartDoorUnread: "the start's door is not read",
             }
         }
     }

@@ -4,7 +4,7 @@
 //! at the last pair, a connector), wrong movement or lift; then wrong end. With
 //! a pair's reason goes its later point's place."
 
-use scene::{Request, Scene, Tables, Walked, Waypoint, YES, f64_at, u64_at};
+use scene::{NO_DOOR, Request, Scene, Tables, WAYPOINT, Walked, Waypoint, YES};
 
 use crate::Variant::{self, *};
 use crate::boxes::Point;
@@ -12,7 +12,7 @@ use crate::graph::{E, Graph, same_point};
 use crate::reason::Reason::{self, *};
 use crate::request::{bad_world, too_large, valid_request};
 
-/// What the walk-back answers to a list in 40-byte records.
+/// What the walk-back answers to a list in 48-byte records.
 pub fn walk_back(scene: &Scene, list: &[u8], edit: Variant) -> Walked {
     let graph = Graph { scene, edit };
     let walk = Walk::new(graph, list);
@@ -91,12 +91,15 @@ impl<'a> Walk<'a> {
             ToldZeroSignCounts => feet,
             _ => canonical(feet),
         };
-        let waypoint = |record: &[u8]| Waypoint {
-            feet: feet([0, 8, 16].map(|at| f64_at(record, at))),
-            lift: f64_at(record, 24),
-            movement: movement(u64_at(record, 32)),
+        let waypoint = |record: &[u8]| {
+            let read = Waypoint::from_bytes(record);
+            Waypoint {
+                feet: feet(read.feet),
+                movement: movement(read.movement),
+                ..read
+            }
         };
-        let records = list.chunks_exact(40);
+        let records = list.chunks_exact(WAYPOINT);
         Self {
             partial: !records.remainder().is_empty(),
             points: records.map(waypoint).collect(),
@@ -167,7 +170,7 @@ impl<'a> Walk<'a> {
             || self.points[looked].iter().any(|point| point.movement > 3)
     }
 
-    /// "The start first (Walk, lift 0)."
+    /// "The start first (Walk, lift 0)", and "the start has none" (02, No. 5).
     fn begins(&self) -> bool {
         let start = self.graph.scene.request.start;
         self.points.first().is_some_and(|first| {
@@ -177,7 +180,8 @@ impl<'a> Walk<'a> {
                 _ => first.lift == 0.0,
             };
             let walks = first.movement == 0 || self.is(ToldStartMovementUnread);
-            self.same(first.feet, start) && walks && lift
+            let doorless = self.same_door(first.door, NO_DOOR) || self.is(ToldStartDoorUnread);
+            self.same(first.feet, start) && walks && lift && doorless
         })
     }
 
@@ -252,7 +256,10 @@ impl<'a> Walk<'a> {
     /// connector".
     fn stepped(&self, place: usize) -> bool {
         let (from, to) = (self.points[place - 1].feet, self.points[place].feet);
-        let leads = |step: &Waypoint| self.same(step.feet, to);
+        let leads = |step: &Waypoint| {
+            let door = step.door == self.points[place].door || !self.is(ToldDoorNotAStep);
+            self.same(step.feet, to) && door
+        };
         let last = place + 1 == self.points.len() || self.is(ToldConnectorAnywhere);
         let near = (0..3).all(|axis| axis == 1 || (from[axis] - to[axis]).abs() <= 1.5);
         self.graph.steps(from, &|_| false).iter().any(leads)
@@ -263,7 +270,9 @@ impl<'a> Walk<'a> {
             }
     }
 
-    /// It carries its edge's movement and lift; "lifts compare as numbers".
+    /// It carries its edge's movement and lift, which "compare as numbers", and
+    /// its door: "a route must carry the right door too (else No. 3's wrong
+    /// movement or lift)".
     fn labelled(&self, place: usize, edge: &Waypoint) -> bool {
         let point = &self.points[place];
         let lift = match self.graph.edit {
@@ -272,6 +281,15 @@ impl<'a> Walk<'a> {
             ToldLiftWithinE => (point.lift - edge.lift).abs() <= E,
             _ => point.lift == edge.lift,
         };
-        (point.movement == edge.movement || self.is(ToldMovementUnread)) && lift
+        let movement = point.movement == edge.movement || self.is(ToldMovementUnread);
+        let door = self.same_door(point.door, edge.door) || self.is(ToldDoorUnread);
+        movement && lift && door
+    }
+
+    fn same_door(&self, a: u64, b: u64) -> bool {
+        match self.graph.edit {
+            ToldDoorHalfRead => a as u32 == b as u32,
+            _ => a == b,
+        }
     }
 }

@@ -34,7 +34,10 @@ impl Cell<'_> {
 /// The cell at `at`: known by the tables, or unknown.
 pub fn cell(tables: &Tables, at: [i64; 3], edit: Variant) -> Cell<'_> {
     let position = at.map(|n| n as f64);
-    let Some((permission, run)) = known(tables, at, edit) else {
+    let Some(Known {
+        permission, run, ..
+    }) = known(tables, at, edit)
+    else {
         // "One full unit cube, neither occupiable nor a support."
         return Cell {
             occupied: edit == Variant::UnknownIsAir,
@@ -61,9 +64,39 @@ pub fn cell(tables: &Tables, at: [i64; 3], edit: Variant) -> Cell<'_> {
     }
 }
 
-/// Permission byte and run of boxes. "A cell is unknown outside the window, or
-/// with no permission byte for its state, or no such shape."
-fn known(tables: &Tables, at: [i64; 3], edit: Variant) -> Option<(u8, &[[f64; 6]])> {
+/// The state of a cell that "is known, lacks bit 4" (02, No. 5).
+pub fn door_state(tables: &Tables, at: [i64; 3], edit: Variant) -> Option<u32> {
+    let Known {
+        state,
+        shape,
+        permission,
+        ..
+    } = known(tables, at, edit)?;
+    let lacks = match edit {
+        Variant::DoorCollidesUnread => true,
+        Variant::DoorByOccupied => permission & 1 == 0,
+        Variant::DoorBySupport => permission & 2 == 0,
+        Variant::DoorZeroIsNone => permission & 4 == 0 && state != 0,
+        _ => permission & 4 == 0,
+    };
+    let number = match edit {
+        Variant::DoorOfTheShape => shape,
+        _ => state,
+    };
+    lacks.then_some(number)
+}
+
+/// What the tables say of a known cell.
+struct Known<'a> {
+    state: u32,
+    shape: u32,
+    permission: u8,
+    run: &'a [[f64; 6]],
+}
+
+/// "A cell is unknown outside the window, or with no permission byte for its
+/// state, or no such shape."
+fn known(tables: &Tables, at: [i64; 3], edit: Variant) -> Option<Known<'_>> {
     let origin = tables.window.origin.map(i64::from);
     let [width, tall, depth] = tables.window.sizes.map(i64::from);
     let [x, y, z] = [at[0] - origin[0], at[1] - origin[1], at[2] - origin[2]];
@@ -79,7 +112,14 @@ fn known(tables: &Tables, at: [i64; 3], edit: Variant) -> Option<(u8, &[[f64; 6]
     };
     let (state, shape) = tables.cells[place as usize];
     let permission = match tables.permissions.get(state as usize) {
-        None if edit == Variant::StateWithoutByteIsAir => return Some((7, &[])),
+        None if edit == Variant::StateWithoutByteIsAir => {
+            return Some(Known {
+                state,
+                shape,
+                permission: 7,
+                run: &[],
+            });
+        }
         found => *found?,
     };
     let (first, count) = match tables.shapes.get(shape as usize) {
@@ -91,5 +131,10 @@ fn known(tables: &Tables, at: [i64; 3], edit: Variant) -> Option<(u8, &[[f64; 6]
         _ => count,
     };
     let first = first as usize;
-    Some((permission, &tables.boxes[first..first + count as usize]))
+    Some(Known {
+        state,
+        shape,
+        permission,
+        run: &tables.boxes[first..first + count as usize],
+    })
 }

@@ -1,10 +1,10 @@
 //! Questions in the head of a scene in text form, with their answers: of an edge
 //! or of a list. oracle/README.md describes the form.
 
-use crate::Waypoint;
 use crate::print::MOVEMENTS;
 use crate::reasons::{Walked, words};
 use crate::text::float;
+use crate::{NO_DOOR, WAYPOINT, Waypoint};
 
 /// What is asked of a scene.
 #[derive(Debug, Clone, PartialEq)]
@@ -82,7 +82,7 @@ fn list(rest: &str) -> Result<Vec<u8>, String> {
         match words[..] {
             ["cut", kept] => {
                 // As in a scene: so many bytes are kept of the record before.
-                let before = out.len() - out.len().min(40);
+                let before = out.len() - out.len().min(WAYPOINT);
                 out.truncate(before + whole(kept)? as usize);
             }
             _ => out.extend(waypoint(&words)?.bytes()),
@@ -92,8 +92,15 @@ fn list(rest: &str) -> Result<Vec<u8>, String> {
 }
 
 /// Feet; then the movement, by name or number, and the lift, where they are not
-/// `walk 0`.
+/// `walk 0`; then `door` and its number, where there is one.
 fn waypoint(words: &[&str]) -> Result<Waypoint, String> {
+    let (words, door) = match words {
+        [front @ .., "door", number] => (front, whole(number)?),
+        _ => (words, NO_DOOR),
+    };
+    if words.len() > 5 {
+        return Err("more than feet, movement and lift".to_string());
+    }
     let named = |word: &str| MOVEMENTS.iter().position(|name| *name == word);
     let movement = match words.get(3) {
         Some(word) => match named(word) {
@@ -106,6 +113,7 @@ fn waypoint(words: &[&str]) -> Result<Waypoint, String> {
         feet: floats(words.get(..3).ok_or("a point has three numbers")?)?,
         lift: words.get(4).map_or(Ok(0.0), |word| float(word))?,
         movement,
+        door,
     })
 }
 

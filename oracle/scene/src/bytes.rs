@@ -2,6 +2,12 @@
 
 use crate::{Body, NodeRecord, Request, Waypoint, Window};
 
+/// Bytes of a waypoint, of a node record, which is a waypoint and 16 bytes more,
+/// and of a frontier record.
+pub const WAYPOINT: usize = 48;
+pub const NODE: usize = 64;
+pub const WAITING: usize = 24;
+
 impl Window {
     /// Origin, then sizes.
     pub fn bytes(&self) -> [u8; 24] {
@@ -40,24 +46,35 @@ impl Body {
 }
 
 impl Waypoint {
-    /// Feet, lift, movement.
-    pub fn bytes(&self) -> [u8; 40] {
+    /// Feet, lift, movement, door.
+    pub fn bytes(&self) -> [u8; WAYPOINT] {
         let [x, y, z] = self.feet;
-        let mut out = [0; 40];
+        let mut out = [0; WAYPOINT];
         put_floats(&mut out, &[x, y, z, self.lift]);
-        out[32..].copy_from_slice(&self.movement.to_le_bytes());
+        out[32..40].copy_from_slice(&self.movement.to_le_bytes());
+        out[40..].copy_from_slice(&self.door.to_le_bytes());
         out
+    }
+
+    /// The waypoint of a record, whatever its words.
+    pub fn from_bytes(record: &[u8]) -> Self {
+        Self {
+            feet: [0, 8, 16].map(|at| f64_at(record, at)),
+            lift: f64_at(record, 24),
+            movement: u64_at(record, 32),
+            door: u64_at(record, 40),
+        }
     }
 }
 
 impl NodeRecord {
     /// The waypoint, cost, parent, closed.
-    pub fn bytes(&self) -> [u8; 56] {
-        let mut out = [0; 56];
-        out[..40].copy_from_slice(&self.point.bytes());
-        put_floats(&mut out[40..], &[self.cost]);
-        out[48..52].copy_from_slice(&self.parent.to_le_bytes());
-        out[52..].copy_from_slice(&self.closed.to_le_bytes());
+    pub fn bytes(&self) -> [u8; NODE] {
+        let mut out = [0; NODE];
+        out[..WAYPOINT].copy_from_slice(&self.point.bytes());
+        put_floats(&mut out[WAYPOINT..], &[self.cost]);
+        out[56..60].copy_from_slice(&self.parent.to_le_bytes());
+        out[60..].copy_from_slice(&self.closed.to_le_bytes());
         out
     }
 }

@@ -16,7 +16,7 @@ mod text;
 mod world;
 
 pub use asked::{Asked, Question, asked};
-pub use bytes::{f64_at, u32_at, u64_at};
+pub use bytes::{NODE, WAITING, WAYPOINT, f64_at, u32_at, u64_at};
 pub use large::{LARGE, large, stairs};
 pub use make::{KINDS, make};
 pub use print::{name, print, print_refusal, print_verdict};
@@ -87,12 +87,29 @@ pub enum Outcome {
     BudgetExceeded = 2,
 }
 
+/// The door of a waypoint whose edge crosses none, and of the start (02, No. 5).
+pub const NO_DOOR: u64 = 4_294_967_295;
+
 /// A point of a list; movement 0 Walk, 1 Step, 2 Jump, 3 Drop.
 #[derive(Debug, Clone, Copy, PartialEq)]
 pub struct Waypoint {
     pub feet: [f64; 3],
     pub lift: f64,
     pub movement: u64,
+    /// The state number of the first door that its edge crosses.
+    pub door: u64,
+}
+
+impl Waypoint {
+    /// A point that is walked to, through no door: a list begins so.
+    pub fn walked(feet: [f64; 3]) -> Self {
+        Self {
+            feet,
+            lift: 0.0,
+            movement: 0,
+            door: NO_DOOR,
+        }
+    }
 }
 
 /// The parent number of a node without parent.

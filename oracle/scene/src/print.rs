@@ -1,4 +1,5 @@
-//! What walkprint writes to standard output, by 01's "Scenes and walkprint".
+//! What walkprint writes to standard output, by 01's "Scenes and walkprint"; a
+//! waypoint's door last (02, No. 5).
 
 use std::fmt::Write;
 
@@ -31,9 +32,10 @@ pub fn print(answer: &Answer) -> String {
         let [x, y, z] = point.feet.map(f64::to_bits);
         let _ = writeln!(
             out,
-            "{place} {} {x:016x} {y:016x} {z:016x} {:016x}",
+            "{place} {} {x:016x} {y:016x} {z:016x} {:016x} {}",
             MOVEMENTS[point.movement as usize],
-            point.lift.to_bits()
+            point.lift.to_bits(),
+            point.door
         );
     }
     out

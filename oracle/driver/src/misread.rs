@@ -1,0 +1,152 @@
+//! How soon the variants of the reading part from what the proved calls say: those
+//! of reasons on lists and edges, those of doors on searches, in the list and in
+//! the node room, or in rooms that are too short.
+
+use std::ops::Range;
+
+use mutants::notice::notice;
+use mutants::questions::numbered;
+use reading::{ROOMED, Rooms, VARIANTS, Variant, search, search_in};
+use scene::{Question, Scene, Verdict, Walked};
+use walkprint::raw;
+
+use crate::call::Call;
+use crate::sizes::{FRONT, INDEX, NODES, OUT, Sizes, needed};
+
+/// A line a variant: how many lists, edges or searches of the scenes of these
+/// numbers agree before one parts. False if none does for one of them.
+pub fn all(from: u64, count: u64) -> bool {
+    let reasons = reasons(from..from + count);
+    let searches = searches(from..from + count);
+    let all = [reasons, searches].concat();
+    for (variant, line) in &all {
+        let line = line.as_deref().unwrap_or("NOT NOTICED");
+        println!("{}: {line}", variant.name());
+    }
+    let survivors = all.iter().filter(|(_, line)| line.is_none()).count();
+    println!("misread: {} variants, {survivors} not noticed", all.len());
+    survivors == 0
+}
+
+/// A variant and how soon it was noticed, if it was.
+type Line = (Variant, Option<String>);
+
+/// The variants of reasons.
+fn reasons(numbers: Range<u64>) -> Vec<Line> {
+    let mut answers = |scene: &Scene, questions: &[Question]| {
+        let call = Call::of(scene);
+        let answer = |question: &Question| proved(&call, question);
+        questions.iter().map(answer).collect()
+    };
+    let table = notice(numbers, &mut answers).into_iter();
+    table
+        .map(|row| (row.variant, (!row.survives()).then(|| row.line())))
+        .collect()
+}
+
+/// What the proved call answers.
+fn proved(call: &Call, question: &Question) -> Walked {
+    match question {
+        Question::Walk(list) => call.walk_back(list),
+        Question::Edge(from, to) => Walked::told(call.ask(|asked| raw::edge(asked, *from, *to))),
+    }
+}
+
+/// A variant of doors: how many searches agreed before one parted, in the list and
+/// in the node room, or in its number where a room is too short.
+struct Row {
+    variant: Variant,
+    after: [Option<u64>; 2],
+}
+
+impl Row {
+    fn line(&self) -> Line {
+        let told = |part: usize, name: &str| Some(format!("{} by {name}", self.after[part]?));
+        let names = match ROOMED.contains(&self.variant) {
+            true => ["a room too short", ""],
+            false => ["the list", "the nodes"],
+        };
+        let parts: Vec<String> = [told(0, names[0]), told(1, names[1])]
+            .into_iter()
+            .flatten()
+            .collect();
+        let line = format!("searches {}", parts.join(", "));
+        (self.variant, (!parts.is_empty()).then_some(line))
+    }
+
+    /// Whether a search may still show it: a room only by the number.
+    fn waits(&self) -> bool {
+        let parts = if ROOMED.contains(&self.variant) { 1 } else { 2 };
+        self.after[..parts].contains(&None)
+    }
+
+    /// Notes where this search parts first.
+    fn look(&mut self, searches: u64, parted: [bool; 2]) {
+        for (after, parted) in self.after.iter_mut().zip(parted) {
+            if after.is_none() && parted {
+                *after = Some(searches);
+            }
+        }
+    }
+}
+
+/// The variants of doors, each against the proved search.
+fn searches(numbers: Range<u64>) -> Vec<Line> {
+    let doors = VARIANTS.iter().filter(|variant| variant.is_of_doors());
+    let mut rows: Vec<Row> = doors
+        .chain(ROOMED)
+        .map(|&variant| Row {
+            variant,
+            after: [None; 2],
+        })
+        .collect();
+    let scenes = numbers.filter_map(numbered);
+    for (searches, scene) in (0..).zip(scenes) {
+        let call = Call::of(&scene);
+        let budget = scene.request.node_budget.min(4096);
+        let (_, said) = call.search(needed(budget));
+        for row in rows.iter_mut().filter(|row| row.waits()) {
+            let parted = match ROOMED.contains(&row.variant) {
+                true => [short_parts(&call, &scene, row.variant), false],
+                false => parts(&said, &search(&scene, row.variant)),
+            };
+            row.look(searches, parted);
+        }
+    }
+    rows.iter().map(Row::line).collect()
+}
+
+/// Whether the list and the nodes are others than a variant's.
+fn parts([list, nodes]: &[Vec<u8>; 2], verdict: &Verdict) -> [bool; 2] {
+    let (must_list, must_nodes): (Vec<u8>, Vec<u8>) = match verdict {
+        Ok(answer) => (
+            answer.list.iter().flat_map(|point| point.bytes()).collect(),
+            answer.nodes.iter().flat_map(|node| node.bytes()).collect(),
+        ),
+        Err(_) => (Vec::new(), Vec::new()),
+    };
+    [*list != must_list, *nodes != must_nodes]
+}
+
+/// Whether the number is another than a variant's, with some room a byte short.
+fn short_parts(call: &Call, scene: &Scene, edit: Variant) -> bool {
+    let budget = scene.request.node_budget.min(4096);
+    Rooms::short(budget).into_iter().any(|(_, rooms)| {
+        let (number, _) = call.search(sizes(&rooms));
+        let must = match search_in(scene, &rooms, edit) {
+            Ok(answer) => answer.outcome as u64,
+            Err(refusal) => refusal.number.into(),
+        };
+        number != must
+    })
+}
+
+/// The rooms in the order in which they are lent.
+fn sizes(rooms: &Rooms) -> Sizes {
+    let mut out = [0; 4];
+    out[NODES] = rooms.nodes as usize;
+    out[FRONT] = rooms.frontier as usize;
+    out[INDEX] = rooms.index as usize;
+    out[OUT] = rooms.output as usize;
+    out
+}
