@@ -99,7 +99,7 @@ all-moved x y z (b ∷ bs) h = (moved-top b x y z (h .0), all-moved x y z bs (h 
 block-tops : (boxes : List ℕ) (c : Cell) (x y z : ℤ) → Each PlainTop (blockOf boxes c (corner x y z) .boxes)
 unfolding blockOf cube
 block-tops boxes Unknown x y z = (moved-top cube x y z (ofBits-fits binary64 _), tt)
-block-tops boxes (Known o s first count d) x y z = all-moved x y z (run count (drop (48 * first) boxes) 0) (run-held count (drop (48 * first) boxes) 0)
+block-tops boxes (Known o s first count through state) x y z = all-moved x y z (run count (drop (48 * first) boxes) 0) (run-held count (drop (48 * first) boxes) 0)
 
 -- ---- the theorems, of any tables
 

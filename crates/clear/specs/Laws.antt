@@ -4,7 +4,7 @@ use native.Mathlib.Omega.{arith}
 use mathlib.Core.Path.{_≡_, refl, sym, ap, _∙_}
 use mathlib.Core.Bool.{Bool, true, false, not, _&&_, _||_, cond, true≢false}
 use mathlib.Core.List.{List, _∷_, map}
-use borrow.Author.Tests.{eqb-true}
+use borrow.Author.Tests.{eqb-true, not-true}
 use lib.Dec.{ltb, eqb}
 use lib.ListN.{drop}
 use Rattle.regions.specs.declared.Region.{Region}
@@ -17,7 +17,7 @@ use Rattle.world.specs.declared.Found.the-variants.{Here, End}
 use Rattle.world.specs.declared.Cell.the-variants.{Unknown, Known}
 use Rattle.world.specs.Boxes.{meets, moved, cube, corner, voxel}
 use Rattle.world.specs.Laws.{both, run-none as boxes-none, run-end as boxes-end, run-more as boxes-more, turns-end}
-use Rattle.world.specs.Space.{Space, Block, run, boxHere, noDoor, blockOf}
+use Rattle.world.specs.Space.{Space, Block, run, boxHere, noDoor, doorOf, blockOf}
 use Rattle.clear.specs.declared.Passage.{Passage}
 use Rattle.clear.specs.Clear.{hits, free, allFree, clear}
 use Rattle.clear.specs.Doors.{orElse, firstDoor, cellDoor, doorIn, passage}
@@ -71,37 +71,41 @@ passed true met rest e = refl
 passed false false rest e = refl
 passed false true rest e = cc
 
--- a cell without a door, whether its voxel meets the area or not
-no-door : (met : Bool) {door : ℕ} → door ≡ noDoor → door ≡ cond met door noDoor
-no-door true e = refl
-no-door false e = e
+-- a cell has no door, whether its voxel meets the area or not; or it has one, where it does
+no-door : (met : Bool) → noDoor ≡ cond met noDoor noDoor
+no-door true = refl
+no-door false = refl
 
-module _ (area : Aabb) (p : Point) (boxes : List ℕ) (may support : Bool) (first many door : ℕ) where
+door-met : (met through : Bool) (state : ℕ) → cond (met && through) state noDoor ≡ cond met (doorOf through state) noDoor
+door-met true through state = refl
+door-met false through state = refl
+
+module _ (area : Aabb) (p : Point) (boxes : List ℕ) (may support : Bool) (first many : ℕ) (through : Bool) (state : ℕ) where
   -- where a body may be in the cell, and it has no box and no door
-  pub air : ((may && eqb many 0) && eqb door noDoor) ≡ true → record { clear = true; door = door } ≡ cellPassage area p (blockOf boxes (Known may support first many door) p)
+  pub air : ((may && eqb many 0) && not through) ≡ true → record { clear = true; door = noDoor } ≡ cellPassage area p (blockOf boxes (Known may support first many through state) p)
   unfolding free blockOf hits cellDoor
-  air t = λ i. record { clear = go may (both _ _ t .0) i; door = no-door (meets (voxel p) area) (eqb-true door noDoor (both (may && eqb many 0) _ t .1)) i }
+  air t = λ i. record { clear = go may (both _ _ t .0) i; door = (no-door (meets (voxel p) area) ∙ ap (λ (b : Bool). cond (meets (voxel p) area) (doorOf b state) noDoor) (sym (not-true through (both (may && eqb many 0) _ t .1)))) i }
     where
-      go : (may : Bool) → (may && eqb many 0) ≡ true → true ≡ free area p (blockOf boxes (Known may support first many door) p)
+      go : (may : Bool) → (may && eqb many 0) ≡ true → true ≡ free area p (blockOf boxes (Known may support first many through state) p)
       go true t = let z : many ≡ 0 = eqb-true many 0 t in rw (z, boxes-none (drop (48 * first) boxes) 0)
       go false t = absurd (true≢false (sym t))
 
 module _ (area : Aabb) (p : Point) (boxes : List ℕ) {met : Bool} (e : meets (voxel p) area ≡ met) where
   pub unknown : {hit : Bool} → meets (moved cube p) area ≡ hit → record { clear = not (met || hit); door = noDoor } ≡ cellPassage area p (blockOf boxes Unknown p)
   unfolding free blockOf hits cellDoor
-  unknown {hit} f = rw (e, f) (λ i. record { clear = sym (neither met hit) i; door = no-door met refl i })
+  unknown {hit} f = rw (e, f) (λ i. record { clear = sym (neither met hit) i; door = no-door met i })
 
-  module _ (may support : Bool) (first many door : ℕ) where
+  module _ (may support : Bool) (first many : ℕ) (through : Bool) (state : ℕ) where
     -- where the voxel meets the area and a body may not be in the cell
-    pub may-not : (met && not may) ≡ true → record { clear = false; door = cond met door noDoor } ≡ cellPassage area p (blockOf boxes (Known may support first many door) p)
+    pub may-not : (met && not may) ≡ true → record { clear = false; door = cond (met && through) state noDoor } ≡ cellPassage area p (blockOf boxes (Known may support first many through state) p)
     unfolding free blockOf cellDoor
-    may-not t = rw (e, barred may met _ t)
+    may-not t = rw (door-met met through state, e, barred may met _ t)
 
     -- else its boxes decide
     pub may-be : {hit : Bool} → (met && not may) ≡ false → hit ≡ runHits area p (drop (48 * first) boxes) many 0 →
-        record { clear = not hit; door = cond met door noDoor } ≡ cellPassage area p (blockOf boxes (Known may support first many door) p)
+        record { clear = not hit; door = cond (met && through) state noDoor } ≡ cellPassage area p (blockOf boxes (Known may support first many through state) p)
     unfolding free blockOf cellDoor
-    may-be t h = rw (e, passed may met _ t, h)
+    may-be t h = rw (door-met met through state, e, passed may met _ t, h)
 
 -- ---- what a passage tells
 
@@ -116,7 +120,7 @@ module _ (sp : Space) (area : Aabb) {a : Passage} (e : a ≡ passage sp area) wh
 
 -- ---- the first of two doors
 
-or-none : (door : ℕ) → orElse door noDoor ≡ door
+pub or-none : (door : ℕ) → orElse door noDoor ≡ door
 unfolding orElse
 or-none door = go (eqb door noDoor) refl
   where

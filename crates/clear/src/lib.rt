@@ -24,21 +24,24 @@ pub struct Passage {
     pub door: u32,
 }
 
-// The first of two doors: the second where the first is none.
+// The first of two doors: the second where the first is none. That there is no second one, as with most cells, is asked first.
 pub fn or_else(a: u32, b: u32) -> u32
     ensures { λ r. ⌜ r ≡ orElse a b ⌝ }
 {
+    if b == NO_DOOR {
+        return a;
+    }
     if a == NO_DOOR {
         return b;
     }
     a
 }
 
-// The door of a cell whose voxel meets an area, or does not.
-fn met_door(meets: bool, door: u32) -> u32
-    ensures { λ r. ⌜ r ≡ cond meets door noDoor ⌝ }
+// A door where there is one.
+fn door_if(there: bool, door: u32) -> u32
+    ensures { λ r. ⌜ r ≡ cond there door noDoor ⌝ }
 {
-    if meets {
+    if there {
         return door;
     }
     NO_DOOR
@@ -91,14 +94,18 @@ fn cell_passage(
             support: _,
             first,
             count,
-            door,
+            through,
+            state,
         } => {
-            if occupied & (count == 0) & (door == NO_DOOR) {
-                return Passage { clear: true, door };
+            if occupied & (count == 0) & !through {
+                return Passage {
+                    clear: true,
+                    door: NO_DOOR,
+                };
             }
             let p = points::corner_of(x, y, z);
             let meets = boxes::intersects(boxes::voxel_at(p), area);
-            let door = met_door(meets, door);
+            let door = door_if(meets & through, state);
             if meets & !occupied {
                 return Passage { clear: false, door };
             }
@@ -132,7 +139,7 @@ fn all_free(
     }
     Passage {
         clear: free,
-        door: met_door(free, door),
+        door: door_if(free, door),
     }
 }
 

@@ -63,15 +63,15 @@ module _ {S : Type 0} (band : Band) (x z : Float) (g : S → Float → S) where
     unknown-none = refl
 
     -- no support, or no box
-    pub no-support : (o s : Bool) (first many d : ℕ) → (s && ltb 0 many) ≡ false → foldl g t (topsIn band x z (blockOf boxes (Known o s first many d) p)) ≡ t
+    pub no-support : (o s : Bool) (first many : ℕ) (through : Bool) (state : ℕ) → (s && ltb 0 many) ≡ false → foldl g t (topsIn band x z (blockOf boxes (Known o s first many through state) p)) ≡ t
     unfolding topsIn blockOf topsOf
-    no-support o false first many d e = refl
-    no-support o true first many d e = let y : many ≡ 0 = omega (arith, ltb-false 0 many e) in rw (y, boxes-none (drop (48 * first) boxes) 0)
+    no-support o false first many through state e = refl
+    no-support o true first many through state e = let y : many ≡ 0 = omega (arith, ltb-false 0 many e) in rw (y, boxes-none (drop (48 * first) boxes) 0)
 
-    pub supports : (o s : Bool) (first many d : ℕ) → (s && ltb 0 many) ≡ true → foldl g t (topsIn band x z (blockOf boxes (Known o s first many d) p)) ≡ runFold p t (drop (48 * first) boxes) many 0
+    pub supports : (o s : Bool) (first many : ℕ) (through : Bool) (state : ℕ) → (s && ltb 0 many) ≡ true → foldl g t (topsIn band x z (blockOf boxes (Known o s first many through state) p)) ≡ runFold p t (drop (48 * first) boxes) many 0
     unfolding topsIn blockOf
-    supports o true first many d e = refl
-    supports o false first many d e = absurd (true≢false (sym e))
+    supports o true first many through state e = refl
+    supports o false first many through state e = absurd (true≢false (sym e))
 
 -- ---- a top that is in the band is no NaN
 

@@ -105,7 +105,8 @@ fn cell_lowest(
             support,
             first,
             count,
-            door: _,
+            through: _,
+            state: _,
         } => {
             if support & (0 < count) {
                 let by = points::corner_of(cx, y, cz);

@@ -132,7 +132,8 @@ fn keep_cell(
         support: _,
         first,
         count,
-        door: _,
+        through: _,
+        state: _,
     } = space::cell_at(w, cells, perms, shapes, x, y, z) else {
         return held;
     };

@@ -55,7 +55,8 @@ fn reach_cell(
         support,
         first,
         count,
-        door: _,
+        through: _,
+        state: _,
     } = space::cell_at(w, cells, perms, shapes, x, y, z) else {
         let cube = boxes::offset(boxes::unit(), points::corner_of(x, y, z));
         return support::reach_shape(way, false, cube, covered);

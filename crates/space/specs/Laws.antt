@@ -4,7 +4,7 @@ use Prim.Native.Nat.{ℕ, zero, suc, _+_, _*_, _≤_, _<_}
 use native.Mathlib.Omega.{arith}
 use native.Mathlib.Nat.{mul-le-mul}
 use mathlib.Core.Path.{_≡_, refl, sym, ap, _∙_}
-use mathlib.Core.Bool.{Bool, true, false, _&&_, cond}
+use mathlib.Core.Bool.{Bool, true, false, not, _&&_, cond}
 use mathlib.Core.List.{List}
 use borrow.Author.Tests.{lt-ltb, le-ltb, le-leb, lt-leb, ltb-true, ltb-false, leb-true, leb-false}
 use lib.Dec.{T, ltb, leb, eqb}
@@ -186,6 +186,11 @@ pub bit-times : (b n : ℕ) → b < 2 → b * n ≡ cond (eqb b 1) n 0
 bit-times zero n h = omega arith
 bit-times (suc zero) n h = omega arith
 bit-times (suc (suc b)) n h = absurd (omega arith)
+
+pub bit-not : (b : ℕ) → b < 2 → eqb b 0 ≡ not (eqb b 1)
+bit-not zero h = refl
+bit-not (suc zero) h = refl
+bit-not (suc (suc b)) h = absurd (omega arith)
 
 pub by-entry : (cells perms shapes : List ℕ) (p : Place) → cellIn cells perms shapes p ≡ knownBy (entryIn cells p) (λ state shape. known perms shapes state shape)
 unfolding cellIn entryIn

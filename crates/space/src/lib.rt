@@ -2,7 +2,7 @@
 // Nothing is divided but by a power of two.
 ghost use mathlib.Core.Path.{_≡_};
 ghost use lib.IntN.{_-ℤ_};
-ghost use Rattle.world.specs.Space.{place, recordOf, entryIn, doorOf, ofParts, cellAt};
+ghost use Rattle.world.specs.Space.{place, recordOf, entryIn, ofParts, cellAt};
 ghost use Rattle.space.specs.Laws.{far};
 use world::Cell;
 use world::Entry;
@@ -34,16 +34,6 @@ fn entry_of(w: Window, cells: &[u8], x: i64, y: i64, z: i64) -> Entry
     Entry::Missing
 }
 
-// The door of a known cell of a permission byte and a state.
-fn door_of(p: u8, state: u32) -> u32
-    ensures { λ r. ⌜ r ≡ doorOf p state ⌝ }
-{
-    if p / 4 % 2 == 1 {
-        return world::NO_DOOR;
-    }
-    state
-}
-
 // A known cell of a permission byte, of a shape's first box and count, and of a state.
 fn of_parts(p: u8, first: u32, count: u32, state: u32) -> Cell
     ensures { λ r. ⌜ r ≡ ofParts p first count state ⌝ }
@@ -53,7 +43,8 @@ fn of_parts(p: u8, first: u32, count: u32, state: u32) -> Cell
         support: p / 2 % 2 == 1,
         first,
         count: ((p / 4 % 2) as u32) * count,
-        door: door_of(p, state),
+        through: p / 4 % 2 == 0,
+        state,
     }
 }
 

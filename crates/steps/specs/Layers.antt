@@ -54,12 +54,12 @@ tops-short band x z (b ∷ bs) = go (reaches band x z b) (tops-short band x z bs
 -- how many tops a cell has at most: an unknown one is no support
 abbrev most : Cell → ℕ
 most Unknown = 0
-most (Known o s first count d) = count
+most (Known o s first count through state) = count
 
 cell-tops : (band : Band) (x z : Float) (boxes : List ℕ) (c : Cell) (p : Point) → length (topsIn band x z (blockOf boxes c p)) ≤ most c
 unfolding topsIn blockOf
 cell-tops band x z boxes Unknown p = omega arith
-cell-tops band x z boxes (Known o s first count d) p = go s
+cell-tops band x z boxes (Known o s first count through state) p = go s
   where
     read : List Aabb
     read = run count (drop (48 * first) boxes) 0

@@ -266,9 +266,9 @@ module _ (w : Way) {a b : List Float} {n r : ℕ} where
     gathers-append ss ts x y = gathers-more (found w (ss ++ ts)) (λ is f. among-left w ss ts f) (λ is f. among-right w ss ts f) x y
 
 -- of a cell that is known, whether it is a support or not
-pub found-known : (w : Way) (boxes : List ℕ) (p : Point) (may support : Bool) (first many door : ℕ) → found w (shapesOf (blockOf boxes (Known may support first many door) p)) ≡ found w (runShapes true p (drop (48 * first) boxes) many 0)
+pub found-known : (w : Way) (boxes : List ℕ) (p : Point) (may support : Bool) (first many : ℕ) (through : Bool) (state : ℕ) → found w (shapesOf (blockOf boxes (Known may support first many through state) p)) ≡ found w (runShapes true p (drop (48 * first) boxes) many 0)
 unfolding shapesOf
-found-known w boxes p may support first many door = rw (known-block boxes p may support first many door) (sym (found-supports w support (map (λ (b : Aabb). moved b p) (run many (drop (48 * first) boxes) 0))))
+found-known w boxes p may support first many through state = rw (known-block boxes p may support first many through state) (sym (found-supports w support (map (λ (b : Aabb). moved b p) (run many (drop (48 * first) boxes) 0))))
 
 -- a cell, then others
 pub gathers-cell : (w : Way) (sp : Space) {a b d : List Float} {n r q : ℕ} (ps qs : List Spot) (p : Spot) → ps ≡ p ∷ qs → Gathers (found w (shapesOf (sp (p .x) (p .y) (p .z)))) a n b r →

@@ -152,12 +152,12 @@ module _ (w : Way) (r : Reach) (boxes : List ℕ) (p : Point) where
   unfolding shapesOf
   pass-unknown = rw (unknown-block boxes p)
 
-  module _ (may support : Bool) (first many door : ℕ) where
-    pub pass-known : pass w r (shapesOf (blockOf boxes (Known may support first many door) p)) ≡ pass w r (runShapes support p (drop (48 * first) boxes) many 0)
+  module _ (may support : Bool) (first many : ℕ) (through : Bool) (state : ℕ) where
+    pub pass-known : pass w r (shapesOf (blockOf boxes (Known may support first many through state) p)) ≡ pass w r (runShapes support p (drop (48 * first) boxes) many 0)
     unfolding shapesOf
-    pass-known = rw (known-block boxes p may support first many door)
+    pass-known = rw (known-block boxes p may support first many through state)
 
-    pub pass-empty : many ≡ 0 → pass w r (shapesOf (blockOf boxes (Known may support first many door) p)) ≡ r
+    pub pass-empty : many ≡ 0 → pass w r (shapesOf (blockOf boxes (Known may support first many through state) p)) ≡ r
     pass-empty e = pass-known ∙ run-none w support p (drop (48 * first) boxes) 0 r many (omega arith)
 
 -- ---- a turn of a loop is taken: there is one more, and nothing has refused the pass

@@ -21,7 +21,7 @@ use Rattle.world.specs.declared.Cell.the-variants.{Unknown, Known}
 use Rattle.world.specs.declared.Found.the-variants.{Here, End}
 use Rattle.world.specs.declared.Entry.the-variants.{Of, Missing}
 use Rattle.world.specs.Boxes.{moved, cube, corner}
-use Rattle.world.specs.Space.{At, Out, recordOf, entryAt, mayOccupy, maySupport, collides, ofParts, known, cellIn, cellAt, pointAt, boxAt, boxHere, run, noDoor, blockOf, space}
+use Rattle.world.specs.Space.{At, Out, recordOf, entryAt, mayOccupy, maySupport, collides, ofParts, known, cellIn, cellAt, pointAt, boxAt, boxHere, run, noDoor, doorOf, blockOf, space}
 
 -- ---- a point past the table's end reads as one at its end
 
@@ -73,10 +73,10 @@ module _ (boxes : List ℕ) (p : Point) where
   unknown-block = refl
 
   -- "its run of box records inside the box table, shifted by the cell's position"
-  pub known-block : (o s : Bool) (first count d : ℕ) →
-      blockOf boxes (Known o s first count d) p ≡ record { occupied = o; support = s; boxes = map (λ (b : Aabb). moved b p) (run count (drop (48 * first) boxes) 0); door = d }
+  pub known-block : (o s : Bool) (first count : ℕ) (through : Bool) (state : ℕ) → blockOf boxes (Known o s first count through state) p
+      ≡ record { occupied = o; support = s; boxes = map (λ (b : Aabb). moved b p) (run count (drop (48 * first) boxes) 0); door = doorOf through state }
   unfolding blockOf
-  known-block o s first count d = refl
+  known-block o s first count through state = refl
 
   -- "A known state without bit 4 has no boxes", and is a door
   pub no-collision : (perm first count state : ℕ) → collides perm ≡ false →

@@ -59,7 +59,7 @@ pub enum Entry {
 }
 
 // What the tables say of a cell: whether a body may be in it, whether a body may stand on it, its run of box records, which has none where the cell does
-// not collide, and its door (02, No. 5), which it has only there: the number of its state.
+// not collide, whether it is such a cell, and the number of its state, which is its door then (02, No. 5).
 pub enum Cell {
     Unknown,
     Known {
@@ -67,7 +67,8 @@ pub enum Cell {
         support: bool,
         first: u32,
         count: u32,
-        door: u32,
+        through: bool,
+        state: u32,
     },
 }
 

@@ -2,7 +2,7 @@
 use Prim.Native.Nat.{ℕ, _^_, _+_, _*_, _<_}
 use native.Mathlib.Omega.{arith}
 use mathlib.Core.Path.{_≡_, refl}
-use mathlib.Core.Bool.{Bool, true, false, cond}
+use mathlib.Core.Bool.{Bool, true, false, not, cond}
 use mathlib.Core.List.{List, [], _∷_}
 use lib.Dec.{ltb, eqb}
 use lib.IntN.{ℤ}
@@ -21,7 +21,7 @@ use Rattle.world.specs.declared.Entry.the-variants.{Of, Missing}
 use Rattle.world.specs.declared.Cell.{Cell}
 use Rattle.world.specs.declared.Cell.the-variants.{Unknown, Known}
 use Rattle.world.specs.Boxes.{corner, meets, voxel}
-use Rattle.world.specs.Space.{Space, Place, At, Out, recordOf, hasRecord, entryAt, noDoor, collides, ofParts, knownBy, known, cellIn, cellAt, blockOf, space}
+use Rattle.world.specs.Space.{Space, Place, At, Out, recordOf, hasRecord, entryAt, noDoor, doorOf, collides, ofParts, knownBy, known, cellIn, cellAt, blockOf, space}
 use Rattle.clear.specs.Doors.{orElse, firstDoor, cellDoor, crossed, doorIn}
 use Rattle.moves.specs.declared.answer.Waypoint.{Waypoint}
 use Rattle.moves.specs.declared.answer.EdgeAnswer.{EdgeAnswer}
@@ -40,19 +40,19 @@ DooredSpace sp = (x y z : ℤ) → Word (sp x y z .door)
 
 abbrev cellWord : Cell → ℕ
 cellWord Unknown = noDoor
-cellWord (Known o s first count d) = d
+cellWord (Known o s first count through state) = doorOf through state
 
 block-door : (boxes : List ℕ) (c : Cell) (p : Point) → Word (cellWord c) → Word (blockOf boxes c p .door)
 unfolding blockOf
 block-door boxes Unknown p h = h
-block-door boxes (Known o s first count d) p h = h
+block-door boxes (Known o s first count through state) p h = h
 
 module _ (w : Window) (cells perms shapes boxes : List ℕ) (bytes : Bytes cells) where
   known-door : (state shape : ℕ) → Word state → Word (cellWord (known perms shapes state shape))
   unfolding known ofParts
   known-door state shape h = go (ltb state (length perms)) (entryAt shapes shape)
     where
-      part : (b : Bool) → Word (cond b noDoor state)
+      part : (b : Bool) → Word (cond (not b) state noDoor)
       part true = omega arith
       part false = h
 

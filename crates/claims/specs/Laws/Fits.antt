@@ -83,7 +83,7 @@ moved-tops p (b ∷ bs) = more (moved-top b p) (moved-tops p bs)
 block-tops : (boxes : List ℕ) (c : Cell) (p : Point) → Each Topped (blockOf boxes c p .boxes)
 unfolding blockOf
 block-tops boxes Unknown p = more (moved-top cube p) end
-block-tops boxes (Known o s first count d) p = moved-tops p (run count (drop (48 * first) boxes) 0)
+block-tops boxes (Known o s first count through state) p = moved-tops p (run count (drop (48 * first) boxes) 0)
 
 pub space-tops : (w : Window) (cells perms shapes boxes : List ℕ) → ToppedSpace (space w cells perms shapes boxes)
 unfolding space

@@ -72,11 +72,11 @@ loop-again c =
       c .before .before .before .before .before .before .before .before .before .loop .inv .2 ∙ doors-on (within (c .before .before .before .before .before .before .before .before .before .before .before .before .before .before .before)) (c .before .before .before .before .before .before .before .before .before .before .before .before .before .before .before .args .area) _ _ _ (c .before .before .before .before .before .before .before .before .before .loop .door) _ next (ap (λ (p : Passage). p .door) (one (c .before .before))) ∙ rw (c .before .or-else .ensures),
     )
 
-met-door-requires : tie.Need-met-door-requires Inv-loop μ-loop
-met-door-requires c κs = tt
+door-if-requires : tie.Need-door-if-requires Inv-loop μ-loop
+door-if-requires c κs = tt
 
 returns : tie.Need-returns Inv-loop μ-loop
-returns c = rw (c .met-door .ensures) (ends (within (c .before .before .before .before .before .before .before .before .before)) (c .before .before .before .before .before .before .before .before .before .args .area) (c .before .before .before .before .before .before .before .before .before .args .region) (c .before .before .before .loop .cursor) (c .before .before .before .loop .free) (c .before .before .before .loop .door) (cellsOf (c .before .before .before .before .before .before .before .before .before .args .region)) (c .before .if1 .left) (c .before .before .before .loop .inv .1) (c .before .before .before .loop .inv .2))
+returns c = rw (c .door-if .ensures) (ends (within (c .before .before .before .before .before .before .before .before .before)) (c .before .before .before .before .before .before .before .before .before .args .area) (c .before .before .before .before .before .before .before .before .before .args .region) (c .before .before .before .loop .cursor) (c .before .before .before .loop .free) (c .before .before .before .loop .door) (cellsOf (c .before .before .before .before .before .before .before .before .before .args .region)) (c .before .if1 .left) (c .before .before .before .loop .inv .1) (c .before .before .before .loop .inv .2))
 
 pub all-free-spec : {M : Type 1} → statement M
 all-free-spec =
@@ -91,5 +91,5 @@ all-free-spec =
     next-in-requires
     loop-less
     loop-again
-    met-door-requires
+    door-if-requires
     returns)

@@ -70,7 +70,7 @@ enum-known-occupied c = search needs
 
 returns : tie.Need-returns
 unfolding space
-returns c = rw (cell (c .before .before .before .before) ∙ c .before .before .occupied .given .1) (air _ _ _ _ _ _ _ _ (c .if1 .taken))
+returns c = rw (cell (c .before .before .before .before) ∙ c .before .before .occupied .given .1) (air _ _ _ _ _ _ _ _ _ (c .if1 .taken))
 
 corner-of-requires-2 : tie.Need-corner-of-requires-2
 corner-of-requires-2 c κs = tt
@@ -81,12 +81,12 @@ voxel-at-requires-2 c κs = tt
 intersects-requires-3 : tie.Need-intersects-requires-3
 intersects-requires-3 c κs = tt
 
-met-door-requires : tie.Need-met-door-requires
-met-door-requires c κs = tt
+door-if-requires : tie.Need-door-if-requires
+door-if-requires c κs = tt
 
 returns-2 : tie.Need-returns-2
 unfolding space
-returns-2 c = rw (c .before .met-door .ensures, cell (c .before .before .before .before .before .before .before .before .before) ∙ c .before .before .before .before .before .before .before .occupied .given .1) (may-not _ _ _ (met-2 (c .before .before)) _ _ _ _ _ (c .if2 .taken))
+returns-2 c = rw (c .before .door-if .ensures, cell (c .before .before .before .before .before .before .before .before .before) ∙ c .before .before .before .before .before .before .before .occupied .given .1) (may-not _ _ _ (met-2 (c .before .before)) _ _ _ _ _ _ (c .if2 .taken))
 
 boxes-from-requires : tie.Need-boxes-from-requires
 boxes-from-requires c κs = tt
@@ -103,8 +103,8 @@ returns-4 : tie.Need-returns-4
 unfolding space
 returns-4 c =
     rw
-    (c .before .before .before .met-door .ensures, cell (c .before .before .before .before .before .before .before .before .before .before .before) ∙ c .before .before .before .before .before .before .before .before .before .occupied .given .1)
-    (may-be _ _ _ (met-2 (c .before .before .before .before)) _ _ _ _ _ (c .before .before .if2 .left) (rw (c .before .boxes-from .ensures, point-2 (c .before .before .before .before .before .before)) at (c .run-hits .ensures)))
+    (c .before .before .before .door-if .ensures, cell (c .before .before .before .before .before .before .before .before .before .before .before) ∙ c .before .before .before .before .before .before .before .before .before .occupied .given .1)
+    (may-be _ _ _ (met-2 (c .before .before .before .before)) _ _ _ _ _ _ (c .before .before .if2 .left) (rw (c .before .boxes-from .ensures, point-2 (c .before .before .before .before .before .before)) at (c .run-hits .ensures)))
 
 pub cell-passage-spec : {M : Type 1} → statement M
 cell-passage-spec =
@@ -123,7 +123,7 @@ cell-passage-spec =
     corner-of-requires-2
     voxel-at-requires-2
     intersects-requires-3
-    met-door-requires
+    door-if-requires
     returns-2
     boxes-from-requires
     run-hits-requires

@@ -3,7 +3,7 @@ use Prim.Native.Nat.{_/_, _%_}
 use native.Mathlib.Omega.{arith}
 use borrow.Author.Needs.{needs}
 use Rattle.world.specs.Space.{ofParts}
-use Rattle.space.specs.Laws.{bit-least, bit-times}
+use Rattle.space.specs.Laws.{bit-least, bit-times, bit-not}
 use Rattle.space.proofs.of_parts.Statement.{statement}
 use Rattle.space.proofs.of_parts.Tie as tie
 
@@ -13,12 +13,9 @@ cast-t12 c = search needs
 mul-t13 : tie.Need-mul-t13
 mul-t13 c = record { fits = omega (arith, bit-least (c .args .p / 4 % 2) (c .args .count) (omega arith)) }
 
-door-of-requires : tie.Need-door-of-requires
-door-of-requires c κs = tt
-
 returns : tie.Need-returns
 unfolding ofParts
-returns c = rw (c .door-of .ensures, bit-times (c .before .args .p / 4 % 2) (c .before .args .count) (omega arith))
+returns c = rw (bit-times (c .args .p / 4 % 2) (c .args .count) (omega arith), bit-not (c .args .p / 4 % 2) (omega arith))
 
 pub of-parts-spec : {M : Type 1} → statement M
-of-parts-spec = tie.close (tie.spec cast-t12 mul-t13 door-of-requires returns)
+of-parts-spec = tie.close (tie.spec cast-t12 mul-t13 returns)

@@ -58,13 +58,13 @@ returns-2 : tie.Need-returns-2
 unfolding space
 returns-2 c =
     let a = c .before .before .before .before .before .before .before .before .before .before .before .before .before .before .before .before .args in
-    (rw (cell (c .before .before .before .before .before .before .before .before .before .before) ∙ c .before .before .before .before .before .before .before .before .support .given .1) (rw (c .before .before .before .before .boxes-from .ensures, point (c .before .before .before .before .before)) at (c .before .before .run-lowest .ensures .0) ∙ sym (supports (a .band) (a .x) (a .z) (taken (a .after)) _ _ _ _ _ _ _ _ (c .before .before .before .before .before .before .if1 .taken))), c .before .before .run-lowest .ensures .1)
+    (rw (cell (c .before .before .before .before .before .before .before .before .before .before) ∙ c .before .before .before .before .before .before .before .before .support .given .1) (rw (c .before .before .before .before .boxes-from .ensures, point (c .before .before .before .before .before)) at (c .before .before .run-lowest .ensures .0) ∙ sym (supports (a .band) (a .x) (a .z) (taken (a .after)) _ _ _ _ _ _ _ _ _ (c .before .before .before .before .before .before .if1 .taken))), c .before .before .run-lowest .ensures .1)
 
 returns-3 : tie.Need-returns-3
 unfolding space
 returns-3 c =
     let a = c .before .before .before .before .before .before .before .before .before .before .args in
-    (rw (cell (c .before .before .before .before) ∙ c .before .before .support .given .1) (sym (no-support (a .band) (a .x) (a .z) (taken (a .after)) _ _ _ _ _ _ _ _ (c .if1 .left))), c .before .before .before .before .before .before .before .before .before .before .pre)
+    (rw (cell (c .before .before .before .before) ∙ c .before .before .support .given .1) (sym (no-support (a .band) (a .x) (a .z) (taken (a .after)) _ _ _ _ _ _ _ _ _ (c .if1 .left))), c .before .before .before .before .before .before .before .before .before .before .pre)
 
 pub cell-lowest-spec : {M : Type 1} → statement M
 cell-lowest-spec =

@@ -60,7 +60,7 @@ returns c = rw (cell (c .before .before .before .before .before .before) ∙ c .
 
 returns-2 : tie.Need-returns-2
 unfolding space
-returns-2 c = rw (cell (c .before .before .before .before) ∙ c .before .before .support .given .1) (sym (pass-empty _ _ _ _ _ _ _ _ _ (c .if1 .taken)))
+returns-2 c = rw (cell (c .before .before .before .before) ∙ c .before .before .support .given .1) (sym (pass-empty _ _ _ _ _ _ _ _ _ _ (c .if1 .taken)))
 
 corner-of-requires-2 : tie.Need-corner-of-requires-2
 corner-of-requires-2 c κs = tt
@@ -73,7 +73,7 @@ reach-run-requires c κs = tt
 
 returns-3 : tie.Need-returns-3
 unfolding space
-returns-3 c = rw (cell (c .before .before .before .before .before .before .before) ∙ c .before .before .before .before .before .support .given .1) ((rw (c .before .boxes-from .ensures, known-point (c .before .before)) at (c .reach-run .ensures)) ∙ sym (pass-known _ _ _ _ _ _ _ _ _))
+returns-3 c = rw (cell (c .before .before .before .before .before .before .before) ∙ c .before .before .before .before .before .support .given .1) ((rw (c .before .boxes-from .ensures, known-point (c .before .before)) at (c .reach-run .ensures)) ∙ sym (pass-known _ _ _ _ _ _ _ _ _ _))
 
 pub reach-cell-spec : {M : Type 1} → statement M
 reach-cell-spec =
