@@ -95,15 +95,6 @@ impl Tally {
         for (name, count) in &self.verdicts {
             let _ = write!(out, ", {name} {}", share(*count, self.scenes));
         }
-        let moves = |moves: &[u64; 4]| {
-            let all = moves.iter().sum();
-            ["walk", "step", "jump", "drop"]
-                .iter()
-                .zip(moves)
-                .map(|(name, &count)| format!("{name} {}", share(count, all)))
-                .collect::<Vec<_>>()
-                .join(", ")
-        };
         let _ = write!(
             out,
             "\n  searches {}, retained {}, closed {}",
@@ -134,6 +125,17 @@ impl Tally {
         out.push('\n');
         out
     }
+}
+
+/// The shares of the four movements.
+fn moves(moves: &[u64; 4]) -> String {
+    let all = moves.iter().sum();
+    ["walk", "step", "jump", "drop"]
+        .iter()
+        .zip(moves)
+        .map(|(name, &count)| format!("{name} {}", share(count, all)))
+        .collect::<Vec<_>>()
+        .join(", ")
 }
 
 /// How many of the points have a door.

@@ -1,4 +1,4 @@
-//! What is changed in a call so that no scene could have made it.
+//! What is changed in a call, mostly so that no scene could have made it.
 
 use mutants::chance::Chance;
 use scene::{NODE, f64_at, u32_at};

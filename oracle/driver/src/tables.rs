@@ -1,5 +1,5 @@
-//! Tables that no scene can hold: a made scene with one to four edits of its
-//! tables, its budget and its limits.
+//! Tables that mostly no scene can hold: a made scene with one to four edits of
+//! its tables, its budget and its limits.
 
 use mutants::chance::Chance;
 use mutants::draft::scene_of;

@@ -94,9 +94,8 @@ struct Known<'a> {
     run: &'a [[f64; 6]],
 }
 
-/// "A cell is unknown outside the window, or with no permission byte for its
-/// state, or no such shape."
-fn known(tables: &Tables, at: [i64; 3], edit: Variant) -> Option<Known<'_>> {
+/// State and shape of a cell inside the window.
+fn content(tables: &Tables, at: [i64; 3], edit: Variant) -> Option<(u32, u32)> {
     let origin = tables.window.origin.map(i64::from);
     let [width, tall, depth] = tables.window.sizes.map(i64::from);
     let [x, y, z] = [at[0] - origin[0], at[1] - origin[1], at[2] - origin[2]];
@@ -110,7 +109,13 @@ fn known(tables: &Tables, at: [i64; 3], edit: Variant) -> Option<Known<'_>> {
         Variant::CellsRunYBeforeZ => x + width * (y + tall * z),
         _ => x + width * (z + depth * y),
     };
-    let (state, shape) = tables.cells[place as usize];
+    Some(tables.cells[place as usize])
+}
+
+/// "A cell is unknown outside the window, or with no permission byte for its
+/// state, or no such shape."
+fn known(tables: &Tables, at: [i64; 3], edit: Variant) -> Option<Known<'_>> {
+    let (state, shape) = content(tables, at, edit)?;
     let permission = match tables.permissions.get(state as usize) {
         None if edit == Variant::StateWithoutByteIsAir => {
             return Some(Known {
