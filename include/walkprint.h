@@ -140,7 +140,7 @@ typedef struct walkprint_cell {
   uint32_t state, shape;
 } walkprint_cell;
 
-/* A permission is a byte a state: 1 occupied, 2 support, 4 collides; higher bits are not read. Without 4 a cell has no boxes, and is a door (below). */
+/* A permission is a byte a state: 1 occupied, 2 support, 4 collides; higher bits are not read. Without 4 a known cell has no boxes, and is a door (below). */
 enum {
   WALKPRINT_OCCUPIED = 1,
   WALKPRINT_SUPPORT = 2,
@@ -191,7 +191,8 @@ typedef struct walkprint_body {
  * - It is a state and not a place, and of several doors on one way only the first.
  *   Look for that state along the way to see which block it is.
  * - Air counts where its byte lacks WALKPRINT_COLLIDES. So give air that bit, and
- *   a shape without boxes; walkprint_find_path gives it to a state without flags.
+ *   a shape without boxes; walkprint_find_path gives it to every state that is no
+ *   door.
  * - The start, which is a list's first record and node 0, has none.
  */
 typedef struct walkprint_waypoint {

@@ -5,14 +5,13 @@ use lib.Dec.{T}
 use lib.Ieee.{Float, binary64, fits, lt, ofBits}
 use lib.Ieee.Fits.{add-fits, sub-fits}
 use Rattle.floats.specs.Floats.{nought, smaller, larger, canonical}
-use Rattle.regions.specs.declared.Region.{Region}
 use Rattle.regions.specs.declared.Spot.{Spot}
 use Rattle.world.specs.declared.Point.{Point}
 use Rattle.world.specs.declared.Aabb.{Aabb}
 use Rattle.world.specs.Boxes.{plus, minus, span, fromFeet, expandTowards, meets, corner, voxel}
 use Rattle.world.specs.Space.{Space, Block}
 use Rattle.clear.specs.Clear.{hits, free, allFree, around, clear}
-use Rattle.clear.specs.Doors.{firstDoor, cellDoor, crossed, doorIn}
+use Rattle.clear.specs.Corridors.{firstDoor, cellDoor, crossedCells, doorAt, doorIn}
 use Rattle.arrival.specs.Alike.{Alike, Zero, zero-alike, add-alike, sub-alike, with-zero, lt-alike, smaller-alike, larger-alike, floor-alike, ceil-alike}
 
 pub record AlikePoint (p q : Point) : Type 0 where
@@ -166,11 +165,11 @@ module _ (a b : Aabb) (h : AlikeBox a b) where
     unfolding clear
     clear-alike = rw around-alike (all-alike _)
 
-    first-alike : (ps : List Spot) → firstDoor (λ p. cellDoor a (corner (p .x) (p .y) (p .z)) (sp (p .x) (p .y) (p .z))) ps ≡ firstDoor (λ p. cellDoor b (corner (p .x) (p .y) (p .z)) (sp (p .x) (p .y) (p .z))) ps
+    first-alike : (ps : List Spot) → firstDoor (doorAt sp a) ps ≡ firstDoor (doorAt sp b) ps
     unfolding firstDoor
     first-alike [] = refl
     first-alike (p ∷ ps) = rw (cell-door-alike (corner (p .x) (p .y) (p .z)) (sp (p .x) (p .y) (p .z)), first-alike ps)
 
     pub door-alike : doorIn sp a ≡ doorIn sp b
-    unfolding doorIn crossed
+    unfolding doorIn crossedCells
     door-alike = rw around-alike (first-alike _)

@@ -18,7 +18,7 @@ use Rattle.world.specs.Space.{Space, noDoor}
 use Rattle.world.specs.Laws.{both}
 use Rattle.request.specs.Laws.{FinitePoint}
 use Rattle.clear.specs.Clear.{clear}
-use Rattle.clear.specs.Doors.{orElse, doorIn}
+use Rattle.clear.specs.Corridors.{orElse, doorIn}
 use Rattle.support.specs.Support.{supported}
 use Rattle.moves.specs.declared.answer.Movement.the-variants.{Walk}
 use Rattle.moves.specs.declared.answer.Waypoint.{Waypoint}

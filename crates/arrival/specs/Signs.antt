@@ -22,7 +22,7 @@ use Rattle.world.specs.Boxes.{minus}
 use Rattle.world.specs.Space.{Space, Block}
 use Rattle.world.specs.Laws.{both}
 use Rattle.clear.specs.Clear.{clear}
-use Rattle.clear.specs.Doors.{doorIn}
+use Rattle.clear.specs.Corridors.{doorIn}
 use Rattle.moves.specs.declared.answer.Movement.{Movement}
 use Rattle.moves.specs.declared.answer.Movement.the-variants.{Walk}
 use Rattle.moves.specs.declared.answer.Moving.{Moving}

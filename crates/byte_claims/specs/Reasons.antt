@@ -1,5 +1,5 @@
 -- What 117 of the walk-back means, of the bytes that `walkprint_walk_back` is handed, and of the place that it gives: "not a graph step (nor, at the last pair, a connector)". Whatever
--- movement and lift the record had, no graph step would lead to it.
+-- movement, lift and door the record had, no graph step would lead to it.
 use Prim.Native.Nat.{ℕ, _+_, _/_, _<_}
 use native.Mathlib.Omega.{arith}
 use mathlib.Core.Path.{_≡_, refl, sym, _∙_}

@@ -18,9 +18,9 @@ use Rattle.world.specs.declared.Cell.the-variants.{Unknown, Known}
 use Rattle.world.specs.Boxes.{meets, moved, cube, corner, voxel}
 use Rattle.world.specs.Laws.{both, run-none as boxes-none, run-end as boxes-end, run-more as boxes-more, turns-end}
 use Rattle.world.specs.Space.{Space, Block, run, boxHere, noDoor, doorOf, blockOf}
-use Rattle.clear.specs.declared.Passage.{Passage}
+use Rattle.clear.specs.declared.Corridor.{Corridor}
 use Rattle.clear.specs.Clear.{hits, free, allFree, clear}
-use Rattle.clear.specs.Doors.{orElse, firstDoor, cellDoor, doorIn, passage}
+use Rattle.clear.specs.Corridors.{orElse, firstDoor, cellDoor, doorAt, doorIn, corridor}
 
 -- ---- a run of boxes
 
@@ -52,8 +52,8 @@ module _ (area : Aabb) (by : Point) (s : List ℕ) (at left : ℕ) where
 -- ---- a cell, by the tests on it
 
 -- what a cell is to an area
-abbrev pub cellPassage : Aabb → Point → Block → Passage
-cellPassage area p b = record { clear = free area p b; door = cellDoor area p b }
+abbrev pub cellCorridor : Aabb → Point → Block → Corridor
+cellCorridor area p b = record { clear = free area p b; door = cellDoor area p b }
 
 neither : (a b : Bool) → (not a && not (b || false)) ≡ not (a || b)
 neither true b = refl
@@ -82,7 +82,7 @@ door-met false through state = refl
 
 module _ (area : Aabb) (p : Point) (boxes : List ℕ) (may support : Bool) (first many : ℕ) (through : Bool) (state : ℕ) where
   -- where a body may be in the cell, and it has no box and no door
-  pub air : ((may && eqb many 0) && not through) ≡ true → record { clear = true; door = noDoor } ≡ cellPassage area p (blockOf boxes (Known may support first many through state) p)
+  pub air : ((may && eqb many 0) && not through) ≡ true → record { clear = true; door = noDoor } ≡ cellCorridor area p (blockOf boxes (Known may support first many through state) p)
   unfolding free blockOf hits cellDoor
   air t = λ i. record { clear = go may (both _ _ t .0) i; door = (no-door (meets (voxel p) area) ∙ ap (λ (b : Bool). cond (meets (voxel p) area) (doorOf b state) noDoor) (sym (not-true through (both (may && eqb many 0) _ t .1)))) i }
     where
@@ -91,32 +91,32 @@ module _ (area : Aabb) (p : Point) (boxes : List ℕ) (may support : Bool) (firs
       go false t = absurd (true≢false (sym t))
 
 module _ (area : Aabb) (p : Point) (boxes : List ℕ) {met : Bool} (e : meets (voxel p) area ≡ met) where
-  pub unknown : {hit : Bool} → meets (moved cube p) area ≡ hit → record { clear = not (met || hit); door = noDoor } ≡ cellPassage area p (blockOf boxes Unknown p)
+  pub unknown : {hit : Bool} → meets (moved cube p) area ≡ hit → record { clear = not (met || hit); door = noDoor } ≡ cellCorridor area p (blockOf boxes Unknown p)
   unfolding free blockOf hits cellDoor
   unknown {hit} f = rw (e, f) (λ i. record { clear = sym (neither met hit) i; door = no-door met i })
 
   module _ (may support : Bool) (first many : ℕ) (through : Bool) (state : ℕ) where
     -- where the voxel meets the area and a body may not be in the cell
-    pub may-not : (met && not may) ≡ true → record { clear = false; door = cond (met && through) state noDoor } ≡ cellPassage area p (blockOf boxes (Known may support first many through state) p)
+    pub may-not : (met && not may) ≡ true → record { clear = false; door = cond (met && through) state noDoor } ≡ cellCorridor area p (blockOf boxes (Known may support first many through state) p)
     unfolding free blockOf cellDoor
     may-not t = rw (door-met met through state, e, barred may met _ t)
 
     -- else its boxes decide
     pub may-be : {hit : Bool} → (met && not may) ≡ false → hit ≡ runHits area p (drop (48 * first) boxes) many 0 →
-        record { clear = not hit; door = cond (met && through) state noDoor } ≡ cellPassage area p (blockOf boxes (Known may support first many through state) p)
+        record { clear = not hit; door = cond (met && through) state noDoor } ≡ cellCorridor area p (blockOf boxes (Known may support first many through state) p)
     unfolding free blockOf cellDoor
     may-be t h = rw (door-met met through state, e, passed may met _ t, h)
 
--- ---- what a passage tells
+-- ---- what a corridor area tells
 
-module _ (sp : Space) (area : Aabb) {a : Passage} (e : a ≡ passage sp area) where
+module _ (sp : Space) (area : Aabb) {a : Corridor} (e : a ≡ corridor sp area) where
   pub is-clear : {b : Bool} → a .clear ≡ b → clear sp area ≡ b
-  unfolding passage
-  is-clear t = sym (ap (λ (p : Passage). p .clear) e) ∙ t
+  unfolding corridor
+  is-clear t = sym (ap (λ (p : Corridor). p .clear) e) ∙ t
 
   pub its-door : a .clear ≡ true → a .door ≡ doorIn sp area
-  unfolding passage
-  its-door t = ap (λ (p : Passage). p .door) e ∙ rw (is-clear t)
+  unfolding corridor
+  its-door t = ap (λ (p : Corridor). p .door) e ∙ rw (is-clear t)
 
 -- ---- the first of two doors
 
@@ -138,46 +138,43 @@ or-assoc a b c = go (eqb a noDoor) refl
 
 -- ---- the loop over the cells of a region with x and z exchanged: a turn with all free so far, and the end
 
-abbrev pub turned : Spot → Spot
-turned p = record { x = p .z; y = p .y; z = p .x }
+abbrev pub exchanged : Spot → Spot
+exchanged p = record { x = p .z; y = p .y; z = p .x }
 
 module _ (sp : Space) (area : Aabb) where
-  -- what a turn asks, and what it is told of doors
+  -- what a turn asks
   abbrev pub freeAt : Spot → Bool
   freeAt p = free area (corner (p .x) (p .y) (p .z)) (sp (p .x) (p .y) (p .z))
 
-  abbrev pub doorAt : Spot → ℕ
-  doorAt p = cellDoor area (corner (p .x) (p .y) (p .z)) (sp (p .x) (p .y) (p .z))
-
   -- what the cells of such a region are together
   abbrev pub freeAlong : List Spot → Bool
-  freeAlong ps = allFree sp area (map turned ps)
+  freeAlong ps = allFree sp area (map exchanged ps)
 
   abbrev pub doorAlong : List Spot → ℕ
-  doorAlong ps = firstDoor doorAt (map turned ps)
+  doorAlong ps = firstDoor (doorAt sp area) (map exchanged ps)
 
-  abbrev pub passageAlong : List Spot → Passage
-  passageAlong ps = record { clear = freeAlong ps; door = cond (freeAlong ps) (doorAlong ps) noDoor }
+  abbrev pub corridorAlong : List Spot → Corridor
+  corridorAlong ps = record { clear = freeAlong ps; door = cond (freeAlong ps) (doorAlong ps) noDoor }
 
   pub turn : (more free : Bool) → (more && free) ≡ true → (more ≡ true) × (free ≡ true)
   turn true true t = (refl, refl)
   turn true false t = (refl, t)
   turn false free t = (t, absurd (let z : _≡_ {A = ℕ} 0 1 = cc in omega arith))
 
-  pub goes-on : (ps qs : List Spot) (p : Spot) (free next : Bool) → free ≡ true → ps ≡ p ∷ qs → freeAt (turned p) ≡ next → free && freeAlong ps ≡ next && freeAlong qs
+  pub goes-on : (ps qs : List Spot) (p : Spot) (free next : Bool) → free ≡ true → ps ≡ p ∷ qs → freeAt (exchanged p) ≡ next → free && freeAlong ps ≡ next && freeAlong qs
   unfolding allFree
   goes-on ps qs p free next t e f = rw (t, e, f)
 
-  pub doors-on : (ps qs : List Spot) (p : Spot) (door next : ℕ) → ps ≡ p ∷ qs → doorAt (turned p) ≡ next → orElse door (doorAlong ps) ≡ orElse (orElse door next) (doorAlong qs)
+  pub doors-on : (ps qs : List Spot) (p : Spot) (door next : ℕ) → ps ≡ p ∷ qs → doorAt sp area (exchanged p) ≡ next → orElse door (doorAlong ps) ≡ orElse (orElse door next) (doorAlong qs)
   unfolding firstDoor
   doors-on ps qs p door next e f = rw (e, f) (or-assoc door next (doorAlong qs))
 
   pub ends : (r : Region) (c : Cursor) (free : Bool) (door : ℕ) (ps : List Spot) → (c .more && free) ≡ false → freeAlong ps ≡ free && freeAlong (toCome r c) →
-      doorAlong ps ≡ orElse door (doorAlong (toCome r c)) → record { clear = free; door = cond free door noDoor } ≡ passageAlong ps
+      doorAlong ps ≡ orElse door (doorAlong (toCome r c)) → record { clear = free; door = cond free door noDoor } ≡ corridorAlong ps
   unfolding allFree firstDoor
   ends r c free door ps t f d = go (c .more) refl free t f
     where
-      go : (more : Bool) → c .more ≡ more → (b : Bool) → (more && b) ≡ false → freeAlong ps ≡ b && freeAlong (toCome r c) → record { clear = b; door = cond b door noDoor } ≡ passageAlong ps
+      go : (more : Bool) → c .more ≡ more → (b : Bool) → (more && b) ≡ false → freeAlong ps ≡ b && freeAlong (toCome r c) → record { clear = b; door = cond b door noDoor } ≡ corridorAlong ps
       go more p false t f = rw f
       go true p true t f = absurd (true≢false t)
       go false p true t f = rw (f, d, ended r c p, or-none door)

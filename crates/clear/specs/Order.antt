@@ -11,8 +11,8 @@ use Rattle.regions.specs.declared.Spot.{Spot}
 use Rattle.world.specs.declared.Aabb.{Aabb}
 use Rattle.world.specs.Space.{Space}
 use Rattle.clear.specs.Clear.{allFree, around, clear}
-use Rattle.clear.specs.Doors.{crossed, doorIn, passage}
-use Rattle.clear.specs.Laws.{turned, freeAt, passageAlong}
+use Rattle.clear.specs.Corridors.{crossedCells, doorIn, corridor}
+use Rattle.clear.specs.Laws.{exchanged, freeAt, corridorAlong}
 
 abbrev pub sideways : Region → Region
 sideways r = record { ys = r .ys; zs = r .xs; xs = r .zs }
@@ -37,12 +37,12 @@ module _ (area : Aabb) where
   abbrev row : ℤ → ℤ → List Spot
   row y x = along (λ z. record { x = z; y = y; z = x } ∷ []) (around area .zs .first) (around area .zs .last)
 
-  crossed-is : map turned (cellsOf (sideways (around area))) ≡ crossed area
-  unfolding cellsOf crossed
+  crossed-is : map exchanged (cellsOf (sideways (around area))) ≡ crossedCells area
+  unfolding cellsOf crossedCells
   crossed-is =
-      map-along turned _ _ _
-      ∙ (λ i. along (λ y. (map-along turned (row y) (around area .xs .first) (around area .xs .last)
-          ∙ (λ j. along (λ x. map-along turned (λ z. record { x = z; y = y; z = x } ∷ []) (around area .zs .first) (around area .zs .last) j) (around area .xs .first) (around area .xs .last))) i)
+      map-along exchanged _ _ _
+      ∙ (λ i. along (λ y. (map-along exchanged (row y) (around area .xs .first) (around area .xs .last)
+          ∙ (λ j. along (λ x. map-along exchanged (λ z. record { x = z; y = y; z = x } ∷ []) (around area .zs .first) (around area .zs .last) j) (around area .xs .first) (around area .xs .last))) i)
           (around area .ys .first) (around area .ys .last))
 
 -- ---- whether all are free
@@ -112,14 +112,14 @@ module _ (sp : Space) (area : Aabb) where
         ∙ sym (free-along (λ z. along (λ x. cell x z) x₁ x₂) z₁ z₂)
 
   -- 01's clear check, cell by cell in y, x, z order
-  clear-crossed : allFree sp area (crossed area) ≡ clear sp area
-  unfolding crossed clear cellsOf
+  clear-crossed : allFree sp area (crossedCells area) ≡ clear sp area
+  unfolding crossedCells clear cellsOf
   clear-crossed =
       free-along _ _ _
       ∙ every-so _ _ (λ k. either-way (λ x z. record { x = x; y = around area .ys .first +ℤ pos k; z = z } ∷ []) (around area .xs .first) (around area .xs .last) (around area .zs .first) (around area .zs .last)) 0
           (count (around area .ys .first) (around area .ys .last))
       ∙ sym (free-along _ _ _)
 
-  pub passage-is : passageAlong sp area (cellsOf (sideways (around area))) ≡ passage sp area
-  unfolding passage doorIn
-  passage-is = rw (crossed-is area, clear-crossed)
+  pub corridor-is : corridorAlong sp area (cellsOf (sideways (around area))) ≡ corridor sp area
+  unfolding corridor doorIn
+  corridor-is = rw (crossed-is area, clear-crossed)

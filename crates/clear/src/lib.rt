@@ -1,5 +1,5 @@
-// Clear areas (01, The graph): whether a body fits into an area, by the boxes and the permissions of the cells that it reaches; and the door that it meets there
-// (02, No. 5), which the same pass finds: the cells come in the clear check's y, x, z order.
+// Clear areas (01, The graph): whether a body fits into an area, by the boxes and the permissions of the cells that it reaches, and which door it meets there. The
+// door (02, No. 5) is found by the same pass: the cells come in the clear check's y, x, z order.
 ghost use mathlib.Core.Path.{_≡_};
 ghost use mathlib.Core.Bool.{cond};
 ghost use mathlib.Core.List.{map};
@@ -8,8 +8,8 @@ ghost use Rattle.world.specs.declared.Aabb.{Aabb};
 ghost use Rattle.world.specs.Boxes.{moved, corner};
 ghost use Rattle.world.specs.Space.{run, noDoor, space};
 ghost use Rattle.clear.specs.Clear.{hits, clear};
-ghost use Rattle.clear.specs.Doors.{orElse, passage};
-ghost use Rattle.clear.specs.Laws.{cellPassage, passageAlong};
+ghost use Rattle.clear.specs.Corridors.{orElse, corridor};
+ghost use Rattle.clear.specs.Laws.{cellCorridor, corridorAlong};
 use regions::Region;
 use world::Aabb;
 use world::Cell;
@@ -18,8 +18,8 @@ use world::NO_DOOR;
 use world::Point;
 use world::Window;
 
-// What an area is to a body: whether it is clear, and its door.
-pub struct Passage {
+// What a corridor area is to a body: whether it is clear, and its door.
+pub struct Corridor {
     pub clear: bool,
     pub door: u32,
 }
@@ -66,28 +66,18 @@ fn run_hits(part: &[u8], boxes: u32, by: Point, area: Aabb) -> bool
 }
 
 // Whether a cell is free for an area, and its door where its voxel intersects the area. Of air, as most cells are, nothing is worked out.
-fn cell_passage(
-    w: Window,
-    cells: &[u8],
-    perms: &[u8],
-    shapes: &[u8],
-    boxes: &[u8],
-    area: Aabb,
-    x: i64,
-    y: i64,
-    z: i64,
-) -> Passage
-    ensures { λ r. ⌜ r ≡ cellPassage area (corner x y z) (space w (now (cells .entry)) (now (perms .entry)) (now (shapes .entry)) (now (boxes .entry)) x y z) ⌝ }
+fn cell_corridor(
+    w: Window, cells: &[u8], perms: &[u8], shapes: &[u8], boxes: &[u8],
+    area: Aabb, x: i64, y: i64, z: i64,
+) -> Corridor
+    ensures { λ r. ⌜ r ≡ cellCorridor area (corner x y z) (space w (now (cells .entry)) (now (perms .entry)) (now (shapes .entry)) (now (boxes .entry)) x y z) ⌝ }
 {
     match space::cell_at(w, cells, perms, shapes, x, y, z) {
         Cell::Unknown => {
             let p = points::corner_of(x, y, z);
             let meets = boxes::intersects(boxes::voxel_at(p), area);
             let hit = boxes::intersects(boxes::offset(boxes::unit(), p), area);
-            Passage {
-                clear: !(meets | hit),
-                door: NO_DOOR,
-            }
+            Corridor { clear: !(meets | hit), door: NO_DOOR }
         }
         Cell::Known {
             occupied,
@@ -98,19 +88,16 @@ fn cell_passage(
             state,
         } => {
             if occupied & (count == 0) & !through {
-                return Passage {
-                    clear: true,
-                    door: NO_DOOR,
-                };
+                return Corridor { clear: true, door: NO_DOOR };
             }
             let p = points::corner_of(x, y, z);
             let meets = boxes::intersects(boxes::voxel_at(p), area);
             let door = door_if(meets & through, state);
             if meets & !occupied {
-                return Passage { clear: false, door };
+                return Corridor { clear: false, door };
             }
             let clear = !run_hits(world::boxes_from(boxes, first), count, p, area);
-            Passage { clear, door }
+            Corridor { clear, door }
         }
     }
 }
@@ -124,35 +111,35 @@ fn all_free(
     boxes: &[u8],
     area: Aabb,
     region: Region,
-) -> Passage
-    ensures { λ r. ⌜ r ≡ passageAlong (space w (now (cells .entry)) (now (perms .entry)) (now (shapes .entry)) (now (boxes .entry))) area (cellsOf region) ⌝ }
+) -> Corridor
+    ensures { λ r. ⌜ r ≡ corridorAlong (space w (now (cells .entry)) (now (perms .entry)) (now (shapes .entry)) (now (boxes .entry))) area (cellsOf region) ⌝ }
 {
     let mut free = true;
     let mut door = NO_DOOR;
     let mut cursor = regions::first_in(region);
     while cursor.more & free {
         let at = cursor.at;
-        let cell = cell_passage(w, cells, perms, shapes, boxes, area, at.z, at.y, at.x);
+        let cell = cell_corridor(w, cells, perms, shapes, boxes, area, at.z, at.y, at.x);
         free = cell.clear;
         door = or_else(door, cell.door);
         cursor = regions::next_in(region, at);
     }
-    Passage {
+    Corridor {
         clear: free,
         door: door_if(free, door),
     }
 }
 
 // Whether an area is clear, and its door. A region's cells come with x fastest, and the clear check's with z fastest, so the two axes are exchanged.
-pub fn passage_of(
+pub fn corridor_of(
     w: Window,
     cells: &[u8],
     perms: &[u8],
     shapes: &[u8],
     boxes: &[u8],
     area: Aabb,
-) -> Passage
-    ensures { λ r. ⌜ r ≡ passage (space w (now (cells .entry)) (now (perms .entry)) (now (shapes .entry)) (now (boxes .entry))) area ⌝ }
+) -> Corridor
+    ensures { λ r. ⌜ r ≡ corridor (space w (now (cells .entry)) (now (perms .entry)) (now (shapes .entry)) (now (boxes .entry))) area ⌝ }
 {
     let ys = regions::reached(area.min.y, area.max.y, 1);
     let xs = regions::reached(area.min.x, area.max.x, 0);
@@ -176,5 +163,5 @@ pub fn clear_area(
 ) -> bool
     ensures { λ r. ⌜ r ≡ clear (space w (now (cells .entry)) (now (perms .entry)) (now (shapes .entry)) (now (boxes .entry))) area ⌝ }
 {
-    passage_of(w, cells, perms, shapes, boxes, area).clear
+    corridor_of(w, cells, perms, shapes, boxes, area).clear
 }

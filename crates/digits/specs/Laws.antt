@@ -150,7 +150,8 @@ pub length-decimal : (v : ℕ) → length (decimal v) ≡ places v
 unfolding decimal
 length-decimal v = length-digits 10 (places v) v
 
--- for those who write a line: a number's field, and n bytes left behind it
+-- for those who write a line: a number's field, and how many bytes are left behind it where there was room for one of 21 and n more: a decimal field has up to 21,
+-- one in hex 17
 
 pub hex-field : {s t : List ℕ} {at r : ℕ} (v end n : ℕ) → (r ≡ behind (hex v) at s) × (t ≡ withField (hex v) end at s) → at + (21 + n) ≤ length s →
     Field s t at r (hex v) end × (r + (4 + n) ≤ length t)

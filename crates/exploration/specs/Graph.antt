@@ -6,13 +6,13 @@ use mathlib.Core.Option.{Option, none, some}
 use mathlib.Core.List.{List, [], _∷_}
 use Rattle.exploration.specs.Lists.{has}
 
--- Over points P and labels L. A label is what an edge says of its later point: its movement and lift.
+-- Over points P and labels L. A label is what an edge says of its later point: its movement, its lift and its door.
 pub record Graph (P L : Type 0) : Type 0 where
   -- points compare by `same`, labels by `alike`
   pub same : P → P → Bool
   pub alike : L → L → Bool
   pub start : P
-  -- what the first point of a list carries (Walk, lift 0)
+  -- what the first point of a list carries (Walk, lift 0, no door)
   pub startLabel : L
   pub goal : P
   -- the graph steps from a point, in the order in which an expansion visits them

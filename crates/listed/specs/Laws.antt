@@ -1,4 +1,4 @@
--- Bad lists, as a loop over the records finds them.
+-- Bad lists, as a loop over the records finds them; and that the start's door is none.
 use Prim.Native.Nat.{ℕ, suc, _+_, _-_, _/_, _%_, _<_}
 use native.Mathlib.Omega.{arith}
 use native.Mathlib.Numerals.{add-one}
@@ -10,8 +10,14 @@ use lib.Dec.{eqb, ltb}
 use lib.ListN.{length}
 use Rattle.exploration.specs.Lists.{has}
 use Rattle.rooms.specs.declared.WaypointRecord.{WaypointRecord}
+use Rattle.world.specs.Space.{noDoor}
 use Rattle.rooms.specs.Records.{waypointAt}
+use Rattle.rooms.specs.Waypoints.{standing}
 use Rattle.listed.specs.Listed.{entriesFrom, waypoints, above3, badList}
+
+-- 02, No. 5: "the start has none"
+pub start-has-none : standing .door ≡ noDoor
+start-has-none = refl
 
 -- whether one of the records from k on has a movement above 3
 abbrev pub aboveFrom : List ℕ → ℕ → Bool

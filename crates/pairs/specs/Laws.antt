@@ -154,7 +154,7 @@ module _ (sp : Space) (r : Request) (body : Body) (from : Point) (v : WaypointRe
 
 -- ---- one pair
 
--- the connector has a record's movement and lift
+-- the connector has a record's movement, lift and door
 abbrev pub connectorTo : Space → Request → Body → Point → WaypointRecord → Bool
 connectorTo sp r body from v = labelledBy (connector sp r body from) (v .label)
 

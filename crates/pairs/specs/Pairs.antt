@@ -23,7 +23,8 @@ pairNumber WrongLabel = 118
 
 module _ (sp : Space) (r : Request) (body : Body) where
   -- "the edge's reason, not a graph step (nor, at the last pair, a connector), wrong movement or lift": of a pair that is none of the graph's, by its edge. It is
-  -- a graph step, or at the last pair a connector, where it is one with its own edge's movement and lift; then the record's are wrong.
+  -- a graph step, or at the last pair a connector, where it is one with its own edge's movement, lift and door; then the record's are wrong. (02, No. 5: "A route must
+  -- carry the right door too (else No. 3's wrong movement or lift)".)
   abbrev pub pairFaultBy : Bool → Feet → Feet → EdgeCheck → PairFault
   pairFaultBy last p q (Fails why) = NoEdge why
   pairFaultBy last p q (Passes step) = cond (joined (graph sp r body) last p (q, labelOf step)) WrongLabel NotAStep

@@ -28,8 +28,8 @@ use world::Point;
 use world::Request;
 use world::Window;
 
-// Why a pair is none of the graph's: it has no edge; its edge is no graph step nor, at the last pair, a connector; or the record's movement or lift is not its
-// edge's.
+// Why a pair is none of the graph's: it has no edge; its edge is no graph step nor, at the last pair, a connector; or the record's movement, lift or door is not
+// its edge's.
 pub enum PairFault {
     NoEdge(Reason),
     NotAStep,

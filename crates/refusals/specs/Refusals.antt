@@ -17,7 +17,8 @@ use Rattle.outcomes.specs.Outcomes.{outcomeNumber}
 use Rattle.refusals.specs.declared.Judged.{Judged}
 use Rattle.refusals.specs.declared.Judged.the-variants.{Refused, Begins}
 
--- "5 NoRoom: node or frontier room under node_budget records, output under node_budget + 1": rooms of so many bytes
+-- "5 NoRoom: node or frontier room under node_budget records, output under node_budget + 1"; 02, No. 5: "Rooms are counted in the new sizes". Of
+-- rooms of so many bytes.
 unfoldable pub noRoom : ℕ → ℕ → ℕ → ℕ → Bool
 noRoom budget nodes front out = ltb nodes (64 * budget) || ltb front (24 * budget) || ltb out (48 * (budget + 1))
 

@@ -1,5 +1,5 @@
 // The digest of a case's answers (oracle/README.md, `store`).
-use clear::Passage;
+use clear::Corridor;
 use heights::Height;
 use moves::EdgeAnswer;
 use moves::EdgeCheck;
@@ -42,7 +42,7 @@ pub(crate) fn with_height(d: u64, h: Height) -> u64 {
 }
 
 // Whether an area is clear, and its door.
-pub(crate) fn with_passage(d: u64, a: Passage) -> u64 {
+pub(crate) fn with_corridor(d: u64, a: Corridor) -> u64 {
     with(with_yes(d, a.clear), a.door as u64)
 }
 

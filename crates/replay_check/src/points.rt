@@ -61,10 +61,10 @@ fn pair(
     let body = s.body;
     let in_range = places::in_range(r, a);
     let standable = places::standable(w, cells, perms, shapes, boxes, body, a);
-    let area = clear::passage_of(w, cells, perms, shapes, boxes, Aabb { min: a, max: b });
+    let area = clear::corridor_of(w, cells, perms, shapes, boxes, Aabb { min: a, max: b });
     let supported = segments::supported_segment(w, cells, perms, shapes, boxes, body.width, a, b);
     let e = digest::with_yes(digest::with_yes(d, in_range), standable);
-    let f = digest::with_yes(digest::with_passage(e, area), supported);
+    let f = digest::with_yes(digest::with_corridor(e, area), supported);
     let to = edges::edge_check(w, cells, perms, shapes, boxes, r, body, a, b);
     let end = edges::connector(w, cells, perms, shapes, boxes, r, body, a);
     digest::with_edge(digest::with_check(f, to), end)

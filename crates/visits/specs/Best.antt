@@ -1,5 +1,6 @@
 -- 01's policy: "lowest estimate first, then earliest push. Estimate = cost + 1.5 × distance to goal (start 0). .. An open point is re-parented, with the new
--- edge's movement and lift, and pushed again only if new cost + E < old cost." The book is the number of pushes. Definitions only.
+-- edge's movement and lift, and pushed again only if new cost + E < old cost." And 02, No. 5: "A re-parented node takes the new edge's door." The book is the number of
+-- pushes. Definitions only.
 use Prim.Native.Nat.{ℕ, _+_}
 use mathlib.Core.Bool.{Bool, true, false}
 use mathlib.Core.Option.{Option, none, some}

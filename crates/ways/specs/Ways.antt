@@ -11,7 +11,7 @@ use Rattle.world.specs.declared.Request.{Request}
 use Rattle.world.specs.Boxes.{fromFeet, expandTowards, minus}
 use Rattle.world.specs.Space.{Space}
 use Rattle.clear.specs.Clear.{clear}
-use Rattle.clear.specs.Doors.{orElse, doorIn}
+use Rattle.clear.specs.Corridors.{orElse, doorIn}
 use Rattle.support.specs.Support.{supported}
 use Rattle.places.specs.Places.{inRange, standable}
 use Rattle.moves.specs.declared.answer.Movement.{Movement}
@@ -44,7 +44,7 @@ crossingArea body from to lift = swept body (raised from lift) (minus (across fr
 abbrev pub settleArea : Body → Point → Point → Float → Aabb
 settleArea body from to lift = swept body (across from lift to) (minus to (across from lift to))
 
--- 02, No. 5: "the first crossed cell that .. intersects a corridor area, taken in lift, crossing, settle order"
+-- 02, No. 5: "the first crossed cell .. whose voxel intersects a corridor area, taken in lift, crossing, settle order"
 unfoldable pub wayDoor : Space → Body → Point → Point → Float → ℕ
 wayDoor sp body from to lift =
     orElse (doorIn sp (liftArea body from lift)) (orElse (doorIn sp (crossingArea body from to lift)) (doorIn sp (settleArea body from to lift)))

@@ -2,10 +2,10 @@
 // (02, No. 3), and if so, which door it meets (02, No. 5).
 ghost use mathlib.Core.Path.{_≡_};
 ghost use Rattle.world.specs.Space.{space};
-ghost use Rattle.clear.specs.Doors.{passage};
+ghost use Rattle.clear.specs.Corridors.{corridor};
 ghost use Rattle.moves.specs.Moves.{checkGiven};
 ghost use Rattle.ways.specs.Ways.{swept, wayCheck};
-use clear::Passage;
+use clear::Corridor;
 use clear::or_else;
 use moves::EdgeCheck;
 use moves::Movement;
@@ -21,11 +21,11 @@ use world::Window;
 fn sweep(
     w: Window, cells: &[u8], perms: &[u8], shapes: &[u8], boxes: &[u8],
     body: Body, feet: Point, by: Point,
-) -> Passage
-    ensures { λ a. ⌜ a ≡ passage (space w (now (cells .entry)) (now (perms .entry)) (now (shapes .entry)) (now (boxes .entry))) (swept body feet by) ⌝ }
+) -> Corridor
+    ensures { λ a. ⌜ a ≡ corridor (space w (now (cells .entry)) (now (perms .entry)) (now (shapes .entry)) (now (boxes .entry))) (swept body feet by) ⌝ }
 {
     let area = boxes::expand_towards(boxes::from_feet(feet, body.width, body.height), by);
-    clear::passage_of(w, cells, perms, shapes, boxes, area)
+    clear::corridor_of(w, cells, perms, shapes, boxes, area)
 }
 
 // What a way comes to: the checks of an edge in order, up to the first that fails. Where none does, the waypoint is made.

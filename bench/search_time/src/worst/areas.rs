@@ -9,8 +9,8 @@ use crate::ground::{CUBE, Ground, Numbers, body, request};
 /// floor of sixteen boxes a cell. `elsewhere`: each cell above the floor has
 /// sixteen boxes, all of them deep below. `lifts`: one that lifts by 60 blocks for each
 /// step up. `corner`: every area is blocked by its cell with the least x and the
-/// greatest z, which the original meets among the first and the proved search
-/// among the last.
+/// greatest z, which a scan with z fastest meets among the first and one with x
+/// fastest among the last.
 pub fn world(name: &str) -> Option<Scene> {
     match name {
         "wide-body" => Some(wide_body()),

@@ -1,5 +1,5 @@
 -- Every word of a route is below 2^64: it is the same, by 01's rules, as the word of an f64, of a movement or of a door.
-use Prim.Native.Nat.{ℕ, _^_, _<_}
+use Prim.Native.Nat.{ℕ}
 use native.Mathlib.Omega.{arith}
 use mathlib.Core.Path.{_≡_, refl, sym}
 use mathlib.Core.Bool.{Bool, true, false, _&&_}

@@ -1,7 +1,7 @@
 -- Every door is below 2^64, where the cell table holds bytes: it is a state's number, which stands in four bytes of that table, or none.
 use Prim.Native.Nat.{ℕ, _^_, _+_, _*_, _<_}
 use native.Mathlib.Omega.{arith}
-use mathlib.Core.Path.{_≡_, refl}
+use mathlib.Core.Path.{_≡_}
 use mathlib.Core.Bool.{Bool, true, false, not, cond}
 use mathlib.Core.List.{List, [], _∷_}
 use lib.Dec.{ltb, eqb}
@@ -22,9 +22,8 @@ use Rattle.world.specs.declared.Cell.{Cell}
 use Rattle.world.specs.declared.Cell.the-variants.{Unknown, Known}
 use Rattle.world.specs.Boxes.{corner, meets, voxel}
 use Rattle.world.specs.Space.{Space, Place, At, Out, recordOf, hasRecord, entryAt, noDoor, doorOf, collides, ofParts, knownBy, known, cellIn, cellAt, blockOf, space}
-use Rattle.clear.specs.Doors.{orElse, firstDoor, cellDoor, crossed, doorIn}
+use Rattle.clear.specs.Corridors.{orElse, firstDoor, cellDoor, crossedCells, doorAt, doorIn}
 use Rattle.moves.specs.declared.answer.Waypoint.{Waypoint}
-use Rattle.moves.specs.declared.answer.EdgeAnswer.{EdgeAnswer}
 use Rattle.moves.specs.declared.answer.EdgeAnswer.the-variants.{To, Nowhere}
 use Rattle.edges.specs.Edges.{wayDoor, edge, nearGoal, connector}
 use Rattle.edges.specs.Answers.{nowhere-to, edge-has}
@@ -85,7 +84,7 @@ or-word a b p q = go (eqb a noDoor)
     go false = p
 
 module _ (sp : Space) (doored : DooredSpace sp) where
-  one-word : (area : Aabb) (p : Spot) → Word (cellDoor area (corner (p .x) (p .y) (p .z)) (sp (p .x) (p .y) (p .z)))
+  one-word : (area : Aabb) (p : Spot) → Word (doorAt sp area p)
   unfolding cellDoor
   one-word area p = go (meets (voxel (corner (p .x) (p .y) (p .z))) area)
     where
@@ -93,14 +92,14 @@ module _ (sp : Space) (doored : DooredSpace sp) where
       go true = doored (p .x) (p .y) (p .z)
       go false = omega arith
 
-  first-word : (area : Aabb) (ps : List Spot) → Word (firstDoor (λ p. cellDoor area (corner (p .x) (p .y) (p .z)) (sp (p .x) (p .y) (p .z))) ps)
+  first-word : (area : Aabb) (ps : List Spot) → Word (firstDoor (doorAt sp area) ps)
   unfolding firstDoor
   first-word area [] = omega arith
   first-word area (p ∷ ps) = or-word _ _ (one-word area p) (first-word area ps)
 
   area-word : (area : Aabb) → Word (doorIn sp area)
   unfolding doorIn
-  area-word area = first-word area (crossed area)
+  area-word area = first-word area (crossedCells area)
 
   way-word : (body : Body) (from to : Point) (lift : Float) → Word (wayDoor sp body from to lift)
   unfolding wayDoor

@@ -11,9 +11,9 @@ use Rattle.regions.specs.Regions.{cellsOf}
 use Rattle.regions.specs.RegionLaws.{toCome, Proper, begun, taken, still-proper, fewer}
 use Rattle.world.specs.Boxes.{corner}
 use Rattle.world.specs.Space.{Space, noDoor, space}
-use Rattle.clear.specs.declared.Passage.{Passage}
-use Rattle.clear.specs.Doors.{orElse}
-use Rattle.clear.specs.Laws.{cellPassage, freeAlong, doorAlong, turn, goes-on, doors-on, ends}
+use Rattle.clear.specs.declared.Corridor.{Corridor}
+use Rattle.clear.specs.Corridors.{orElse}
+use Rattle.clear.specs.Laws.{cellCorridor, freeAlong, doorAlong, turn, goes-on, doors-on, ends}
 use Rattle.clear.proofs.all_free.Statement.{statement}
 use Rattle.clear.proofs.all_free.Tie as tie
 
@@ -32,16 +32,16 @@ abbrev within : (s : tie.Start Inv-loop μ-loop) → Space
 within s = space (s .args .w) (now (s .args .cells)) (now (s .args .perms)) (now (s .args .shapes)) (now (s .args .boxes))
 
 -- a turn: there is a cell, all are free so far, and what that cell is
-module _ (c : tie.After-cell-passage Inv-loop μ-loop) where
+module _ (c : tie.After-cell-corridor Inv-loop μ-loop) where
   tested : (c .before .before .before .before .before .before .before .loop .cursor .more ≡ true) × (c .before .before .before .before .before .before .before .loop .free ≡ true)
   tested = turn (within (c .before .before .before .before .before .before .before .before .before .before .before .before .before)) (c .before .before .before .before .before .before .before .before .before .before .before .before .before .args .area) (c .before .before .before .before .before .before .before .loop .cursor .more) (c .before .before .before .before .before .before .before .loop .free) (c .before .before .before .before .before .if1 .taken)
 
-  one : cellPassage (c .before .before .before .before .before .before .before .before .before .before .before .before .before .args .area) (corner (c .before .before .before .before .before .before .before .loop .cursor .at .z) (c .before .before .before .before .before .before .before .loop .cursor .at .y) (c .before .before .before .before .before .before .before .loop .cursor .at .x)) (within (c .before .before .before .before .before .before .before .before .before .before .before .before .before) (c .before .before .before .before .before .before .before .loop .cursor .at .z) (c .before .before .before .before .before .before .before .loop .cursor .at .y) (c .before .before .before .before .before .before .before .loop .cursor .at .x)) ≡ c .cell-passage .result
+  one : cellCorridor (c .before .before .before .before .before .before .before .before .before .before .before .before .before .args .area) (corner (c .before .before .before .before .before .before .before .loop .cursor .at .z) (c .before .before .before .before .before .before .before .loop .cursor .at .y) (c .before .before .before .before .before .before .before .loop .cursor .at .x)) (within (c .before .before .before .before .before .before .before .before .before .before .before .before .before) (c .before .before .before .before .before .before .before .loop .cursor .at .z) (c .before .before .before .before .before .before .before .loop .cursor .at .y) (c .before .before .before .before .before .before .before .loop .cursor .at .x)) ≡ c .cell-corridor .result
   one =
       let f : SFits w64 (c .before .before .before .before .before .before .before .loop .cursor .at .x) = search needs in
       let g : SFits w64 (c .before .before .before .before .before .before .before .loop .cursor .at .y) = search needs in
       let h : SFits w64 (c .before .before .before .before .before .before .before .loop .cursor .at .z) = search needs in
-      sym (simp (toZ-ofZ, f, g, h) at (c .cell-passage .ensures))
+      sym (simp (toZ-ofZ, f, g, h) at (c .cell-corridor .ensures))
 
 first-in-requires : tie.Need-first-in-requires Inv-loop μ-loop
 first-in-requires c κs = tt
@@ -52,8 +52,8 @@ loop-holds c =
     let b = begun (c .before .before .before .before .before .args .region) (c .first-in .result) (c .first-in .ensures) in
     (b .1, ap (freeAlong (within (c .before .before .before .before .before)) (c .before .before .before .before .before .args .area)) (sym (b .0)), ap (doorAlong (within (c .before .before .before .before .before)) (c .before .before .before .before .before .args .area)) (sym (b .0)))
 
-cell-passage-requires : tie.Need-cell-passage-requires Inv-loop μ-loop
-cell-passage-requires c κs = tt
+cell-corridor-requires : tie.Need-cell-corridor-requires Inv-loop μ-loop
+cell-corridor-requires c κs = tt
 
 or-else-requires : tie.Need-or-else-requires Inv-loop μ-loop
 or-else-requires c κs = tt
@@ -68,8 +68,8 @@ loop-again : tie.Need-loop-again Inv-loop μ-loop
 loop-again c =
     let next = taken (c .before .before .before .before .before .before .before .before .before .before .before .before .before .before .before .args .region) (c .before .before .before .before .before .before .before .before .before .loop .cursor) (c .next-in .result) (c .before .before .before .before .before .before .before .before .before .loop .inv .0) (c .next-in .ensures) (tested (c .before .before) .0) in (
       still-proper (c .before .before .before .before .before .before .before .before .before .before .before .before .before .before .before .args .region) (c .before .before .before .before .before .before .before .before .before .loop .cursor) (c .next-in .result) (c .before .before .before .before .before .before .before .before .before .loop .inv .0) (c .next-in .ensures) (tested (c .before .before) .0),
-      c .before .before .before .before .before .before .before .before .before .loop .inv .1 ∙ goes-on (within (c .before .before .before .before .before .before .before .before .before .before .before .before .before .before .before)) (c .before .before .before .before .before .before .before .before .before .before .before .before .before .before .before .args .area) _ _ _ (c .before .before .before .before .before .before .before .before .before .loop .free) _ (tested (c .before .before) .1) next (ap (λ (p : Passage). p .clear) (one (c .before .before))),
-      c .before .before .before .before .before .before .before .before .before .loop .inv .2 ∙ doors-on (within (c .before .before .before .before .before .before .before .before .before .before .before .before .before .before .before)) (c .before .before .before .before .before .before .before .before .before .before .before .before .before .before .before .args .area) _ _ _ (c .before .before .before .before .before .before .before .before .before .loop .door) _ next (ap (λ (p : Passage). p .door) (one (c .before .before))) ∙ rw (c .before .or-else .ensures),
+      c .before .before .before .before .before .before .before .before .before .loop .inv .1 ∙ goes-on (within (c .before .before .before .before .before .before .before .before .before .before .before .before .before .before .before)) (c .before .before .before .before .before .before .before .before .before .before .before .before .before .before .before .args .area) _ _ _ (c .before .before .before .before .before .before .before .before .before .loop .free) _ (tested (c .before .before) .1) next (ap (λ (p : Corridor). p .clear) (one (c .before .before))),
+      c .before .before .before .before .before .before .before .before .before .loop .inv .2 ∙ doors-on (within (c .before .before .before .before .before .before .before .before .before .before .before .before .before .before .before)) (c .before .before .before .before .before .before .before .before .before .before .before .before .before .before .before .args .area) _ _ _ (c .before .before .before .before .before .before .before .before .before .loop .door) _ next (ap (λ (p : Corridor). p .door) (one (c .before .before))) ∙ rw (c .before .or-else .ensures),
     )
 
 door-if-requires : tie.Need-door-if-requires Inv-loop μ-loop
@@ -86,7 +86,7 @@ all-free-spec =
     μ-loop
     first-in-requires
     loop-holds
-    cell-passage-requires
+    cell-corridor-requires
     or-else-requires
     next-in-requires
     loop-less

@@ -2,7 +2,7 @@
 use mathlib.Core.Path.{sym}
 use borrow.Author.Tests.{eq-eqb, ne-eqb}
 use Rattle.world.specs.Space.{noDoor}
-use Rattle.clear.specs.Doors.{orElse}
+use Rattle.clear.specs.Corridors.{orElse}
 use Rattle.clear.specs.Laws.{or-none}
 use Rattle.clear.proofs.or_else.Statement.{statement}
 use Rattle.clear.proofs.or_else.Tie as tie

@@ -9,12 +9,12 @@ from-feet-requires c κs = tt
 expand-towards-requires : tie.Need-expand-towards-requires
 expand-towards-requires c κs = tt
 
-passage-of-requires : tie.Need-passage-of-requires
-passage-of-requires c κs = tt
+corridor-of-requires : tie.Need-corridor-of-requires
+corridor-of-requires c κs = tt
 
 returns : tie.Need-returns
 unfolding swept
-returns c = rw (← c .before .before .from-feet .ensures, ← c .before .expand-towards .ensures) (c .passage-of .ensures)
+returns c = rw (← c .before .before .from-feet .ensures, ← c .before .expand-towards .ensures) (c .corridor-of .ensures)
 
 pub sweep-spec : {M : Type 1} → statement M
-sweep-spec = tie.close (tie.spec from-feet-requires expand-towards-requires passage-of-requires returns)
+sweep-spec = tie.close (tie.spec from-feet-requires expand-towards-requires corridor-of-requires returns)

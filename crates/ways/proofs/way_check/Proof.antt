@@ -6,9 +6,9 @@ use borrow.Author.Tests.{not-true, not-false}
 use denote.Ref.{now}
 use Rattle.world.specs.Space.{Space, space}
 use Rattle.clear.specs.Clear.{clear}
-use Rattle.clear.specs.Doors.{passage, doorIn}
+use Rattle.clear.specs.Corridors.{corridor, doorIn}
 use Rattle.clear.specs.Laws.{is-clear, its-door}
-use Rattle.clear.specs.declared.Passage.{Passage}
+use Rattle.clear.specs.declared.Corridor.{Corridor}
 use Rattle.places.specs.Places.{inRange, standable}
 use Rattle.ways.specs.Ways.{raised, liftArea, crossingArea, settleArea, wayDoor}
 use Rattle.ways.specs.Laws.{target-out, raised-out, not-standable, lift-blocked, crossing-blocked, settle-blocked, unsupported, passes}
@@ -20,13 +20,13 @@ sp s = let a = s .args in space (a .w) (now (a .cells)) (now (a .perms)) (now (a
 
 -- ---- what the three sweeps told
 
-lifting : (c : tie.After-sweep) → let s = c .before .before .before .before .before .before .before .before .before .before .before .before in let a = s .args in c .sweep .result ≡ passage (sp s) (liftArea (a .body) (a .from) (a .lift))
+lifting : (c : tie.After-sweep) → let s = c .before .before .before .before .before .before .before .before .before .before .before .before in let a = s .args in c .sweep .result ≡ corridor (sp s) (liftArea (a .body) (a .from) (a .lift))
 lifting c = c .sweep .ensures
 
-crossing : (c : tie.After-sweep2) → let s = c .before .before .before .before .before .before .before .before .before .before .before .before .before .before .before .before in let a = s .args in c .sweep2 .result ≡ passage (sp s) (crossingArea (a .body) (a .from) (a .to) (a .lift))
+crossing : (c : tie.After-sweep2) → let s = c .before .before .before .before .before .before .before .before .before .before .before .before .before .before .before .before in let a = s .args in c .sweep2 .result ≡ corridor (sp s) (crossingArea (a .body) (a .from) (a .to) (a .lift))
 crossing c = rw (c .before .difference .ensures) at (c .sweep2 .ensures)
 
-settling : (c : tie.After-sweep3) → let s = c .before .before .before .before .before .before .before .before .before .before .before .before .before .before .before .before .before .before .before .before in let a = s .args in c .sweep3 .result ≡ passage (sp s) (settleArea (a .body) (a .from) (a .to) (a .lift))
+settling : (c : tie.After-sweep3) → let s = c .before .before .before .before .before .before .before .before .before .before .before .before .before .before .before .before .before .before .before .before in let a = s .args in c .sweep3 .result ≡ corridor (sp s) (settleArea (a .body) (a .from) (a .to) (a .lift))
 settling c = rw (c .before .difference2 .ensures) at (c .sweep3 .ensures)
 
 -- ---- what has passed, where the next check begins

@@ -11,7 +11,7 @@ use Rattle.world.specs.declared.Point.{Point}
 use Rattle.world.specs.declared.Aabb.{Aabb}
 use Rattle.world.specs.Boxes.{meets, corner, voxel}
 use Rattle.world.specs.Space.{Space, Block, noDoor}
-use Rattle.clear.specs.declared.Passage.{Passage}
+use Rattle.clear.specs.declared.Corridor.{Corridor}
 use Rattle.clear.specs.Clear.{around, clear}
 
 -- the first of two: the second where the first is none
@@ -27,18 +27,21 @@ firstDoor f (p ∷ ps) = orElse (f p) (firstDoor f ps)
 unfoldable pub cellDoor : Aabb → Point → Block → ℕ
 cellDoor area p b = cond (meets (voxel p) area) (b .door) noDoor
 
--- "the clear check's y, x, z order": the cells that the clear check looks at, z fastest. The layer below is among them, but none of its voxels intersects an area
--- that ends above it.
-unfoldable pub crossed : Aabb → List Spot
-crossed area =
+-- "the clear check's y, x, z order": the cells that the clear check looks at, z fastest. The layer below is among them: its voxels end at floor(min y), and so none
+-- of them intersects the area. (Where the floor stops at the lower end of an i32, that layer lies below every window, and is unknown.)
+unfoldable pub crossedCells : Aabb → List Spot
+crossedCells area =
     along (λ y.
     along (λ x.
     along (λ z. record { x = x; y = y; z = z } ∷ []) (around area .zs .first) (around area .zs .last)) (around area .xs .first) (around area .xs .last))
     (around area .ys .first) (around area .ys .last)
 
-unfoldable pub doorIn : Space → Aabb → ℕ
-doorIn sp area = firstDoor (λ p. cellDoor area (corner (p .x) (p .y) (p .z)) (sp (p .x) (p .y) (p .z))) (crossed area)
+abbrev pub doorAt : Space → Aabb → Spot → ℕ
+doorAt sp area p = cellDoor area (corner (p .x) (p .y) (p .z)) (sp (p .x) (p .y) (p .z))
 
--- what an area is to a body: whether it is clear, and the door that it has only then
-unfoldable pub passage : Space → Aabb → Passage
-passage sp area = record { clear = clear sp area; door = cond (clear sp area) (doorIn sp area) noDoor }
+unfoldable pub doorIn : Space → Aabb → ℕ
+doorIn sp area = firstDoor (doorAt sp area) (crossedCells area)
+
+-- a corridor area: whether it is clear, and the door that it has only then
+unfoldable pub corridor : Space → Aabb → Corridor
+corridor sp area = record { clear = clear sp area; door = cond (clear sp area) (doorIn sp area) noDoor }

@@ -1,4 +1,4 @@
--- `clear::cell_passage` meets its contract. Assumes nothing.
+-- `clear::cell_corridor` meets its contract. Assumes nothing.
 use mathlib.Core.Path.{_≡_, sym, _∙_}
 use denote.Ref.{now}
 use mir.Syntax.{w64}
@@ -8,8 +8,8 @@ use Rattle.world.specs.Boxes.{corner, meets, voxel}
 use Rattle.world.specs.Space.{cellAt, space}
 use Rattle.clear.specs.Laws.{air, unknown, may-not, may-be}
 use borrow.Author.Needs.{needs}
-use Rattle.clear.proofs.cell_passage.Statement.{statement}
-use Rattle.clear.proofs.cell_passage.Tie as tie
+use Rattle.clear.proofs.cell_corridor.Statement.{statement}
+use Rattle.clear.proofs.cell_corridor.Tie as tie
 
 -- signed numbers are what the machine reads back from their bits
 cell : (c : tie.After-cell-at) →
@@ -106,8 +106,8 @@ returns-4 c =
     (c .before .before .before .door-if .ensures, cell (c .before .before .before .before .before .before .before .before .before .before .before) ∙ c .before .before .before .before .before .before .before .before .before .occupied .given .1)
     (may-be _ _ _ (met-2 (c .before .before .before .before)) _ _ _ _ _ _ (c .before .before .if2 .left) (rw (c .before .boxes-from .ensures, point-2 (c .before .before .before .before .before .before)) at (c .run-hits .ensures)))
 
-pub cell-passage-spec : {M : Type 1} → statement M
-cell-passage-spec =
+pub cell-corridor-spec : {M : Type 1} → statement M
+cell-corridor-spec =
     tie.close
     (tie.spec
     cell-at-requires
