@@ -42,8 +42,8 @@ module _ (area : Aabb) where
   crossed-is =
       map-along exchanged _ _ _
       ∙ (λ i. along (λ y. (map-along exchanged (row y) (around area .xs .first) (around area .xs .last)
-          ∙ (λ j. along (λ x. map-along exchanged (λ z. record { x = z; y = y; z = x } ∷ []) (around area .zs .first) (around area .zs .last) j) (around area .xs .first) (around area .xs .last))) i)
-          (around area .ys .first) (around area .ys .last))
+      ∙ (λ j. along (λ x. map-along exchanged (λ z. record { x = z; y = y; z = x } ∷ []) (around area .zs .first) (around area .zs .last) j) (around area .xs .first) (around area .xs .last))) i)
+      (around area .ys .first) (around area .ys .last))
 
 -- ---- whether all are free
 
@@ -117,7 +117,7 @@ module _ (sp : Space) (area : Aabb) where
   clear-crossed =
       free-along _ _ _
       ∙ every-so _ _ (λ k. either-way (λ x z. record { x = x; y = around area .ys .first +ℤ pos k; z = z } ∷ []) (around area .xs .first) (around area .xs .last) (around area .zs .first) (around area .zs .last)) 0
-          (count (around area .ys .first) (around area .ys .last))
+      (count (around area .ys .first) (around area .ys .last))
       ∙ sym (free-along _ _ _)
 
   pub corridor-is : corridorAlong sp area (cellsOf (sideways (around area))) ≡ corridor sp area

@@ -51,7 +51,8 @@ pub fn labelled_by(answer: EdgeAnswer, v: WaypointRecord) -> bool
 fn is_start(start: Point, v: WaypointRecord) -> bool
     ensures { λ r. ⌜ r ≡ starts start v ⌝ }
 {
-    same_feet(start, v) & ((0 == v.label.movement) & (same_word(0, v.label.lift) & (NO_DOOR == v.label.door)))
+    same_feet(start, v)
+        & ((0 == v.label.movement) & (same_word(0, v.label.lift) & (NO_DOOR == v.label.door)))
 }
 
 // Whether the first record of a list is the start's.
