@@ -1,7 +1,6 @@
 -- A scene that is read into a cell table of bytes leaves a cell table of bytes: each of its records writes bytes there, or nothing.
 use Prim.Native.Nat.{ℕ, zero, suc, _%_, _/_, _<_}
 use native.Mathlib.Omega.{arith}
-use mathlib.Core.Bool.{Bool, true, false, cond}
 use mathlib.Core.List.{List, [], _∷_, foldl}
 use lib.Dec.{eqb}
 use lib.ListN.{take, set}
@@ -18,6 +17,7 @@ use Rattle.scene_fills.specs.Fills.{regionOf, withCell, filled}
 use Rattle.scene_state.specs.declared.state.Reading.{Reading}
 use Rattle.scene_state.specs.Answers.{Answer, given, refused, begun}
 use Rattle.scene_step.specs.Next.{next, goodIn}
+use Rattle.byte_claims.specs.Requests.{either}
 use Rattle.scene.specs.Scene.{Tables, Read, cellsAfter, cellsRead, tablesRead, readFrom, onward, readAll}
 
 -- ---- lists
@@ -39,15 +39,11 @@ bytes-sets : (n v : ℕ) (s : List ℕ) (at : ℕ) → Bytes s → Bytes (sets s
 bytes-sets zero v s at b = b
 bytes-sets (suc n) v s at b = bytes-sets n (v / 256) (set s at (v % 256)) (suc at) (bytes-set s at (v % 256) (omega arith) b)
 
-either : {A : Type 0} (P : A → Type 0) (t : Bool) {x y : A} → P x → P y → P (cond t x y)
-either P true p q = p
-either P false p q = q
-
 -- ---- what a scene writes into the cell table
 
 bytes-field : (n v : ℕ) (s : List ℕ) (at : ℕ) → Bytes s → Bytes (withField n s at v)
 unfolding withField
-bytes-field n v s at b = either Bytes (fitsAt n s at) (bytes-sets n v s at b) b
+bytes-field n v s at b = either Bytes (fitsAt n s at) _ _ (bytes-sets n v s at b) b
 
 bytes-entry : (state shape i : ℕ) (s : List ℕ) → Bytes s → Bytes (withEntry state shape i s)
 unfolding withEntry
@@ -64,7 +60,7 @@ bytes-cells sx sz state shape (p ∷ ps) s b = bytes-cells sx sz state shape ps 
 
 bytes-filled : (w : Window) (s t : List ℕ) → Bytes t → Bytes (filled w s t)
 unfolding filled
-bytes-filled w s t b = either Bytes (sizeAbove w) b (bytes-cells (w .sx) (w .sz) (field 4 s 32) (field 4 s 36) (cellsOf (regionOf w s)) t b)
+bytes-filled w s t b = either Bytes (sizeAbove w) _ _ b (bytes-cells (w .sx) (w .sz) (field 4 s 32) (field 4 s 36) (cellsOf (regionOf w s)) t b)
 
 bytes-unfilled : (n : ℕ) (t : List ℕ) → Bytes t → Bytes (unfilled n t)
 unfolding unfilled
@@ -73,8 +69,8 @@ bytes-unfilled n t b = bytes-in-turn (withEntry 4294967295 0) (bytes-entry 42949
 bytes-read : (r : Reading) (s t : List ℕ) → Bytes t → Bytes (cellsRead r s t)
 unfolding cellsRead cellsAfter
 bytes-read r s t b =
-    either Bytes (goodIn r s)
-    (either Bytes (eqb (kindOf s) 3) (bytes-unfilled (cellCount (windowOf s)) t b) (either Bytes (eqb (kindOf s) 6) (bytes-filled (r .window) s t b) b)) b
+    either Bytes (goodIn r s) _ _
+    (either Bytes (eqb (kindOf s) 3) _ _ (bytes-unfilled (cellCount (windowOf s)) t b) (either Bytes (eqb (kindOf s) 6) _ _ (bytes-filled (r .window) s t b) b)) b
 
 -- ---- all records, one after the other
 
@@ -82,7 +78,7 @@ bytes-from : (r : Reading) (t : Tables) (ss : List (List ℕ)) → Bytes (t .cel
 unfolding readFrom
 bytes-from r t [] b = b
 bytes-from r t (s ∷ ss) b =
-    either (λ (x : Read). Bytes (x .tables .cells)) (goodIn r s) (bytes-from (next (kindOf s) r s) (tablesRead r s t) ss (bytes-read r s (t .cells) b)) b
+    either (λ (x : Read). Bytes (x .tables .cells)) (goodIn r s) _ _ (bytes-from (next (kindOf s) r s) (tablesRead r s t) ss (bytes-read r s (t .cells) b)) b
 
 pub cells-left : (t : Tables) (ss : List (List ℕ)) → Bytes (t .cells) → Bytes (readAll t ss .tables .cells)
 unfolding readAll onward

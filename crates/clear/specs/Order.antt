@@ -2,7 +2,7 @@
 use Prim.Native.Nat.{ℕ, zero, suc}
 use mathlib.Core.Path.{_≡_, refl, sym, ap, _∙_}
 use mathlib.Core.Bool.{Bool, true, false, _&&_}
-use mathlib.Core.List.{List, [], _∷_, _++_, map}
+use mathlib.Core.List.{List, [], _∷_, _++_, map, map-append}
 use lib.IntN.{ℤ, pos, _+ℤ_}
 use Rattle.regions.specs.Ranges.{gather, along, count}
 use Rattle.regions.specs.Regions.{cellsOf}
@@ -20,14 +20,10 @@ sideways r = record { ys = r .ys; zs = r .xs; xs = r .zs }
 -- ---- the order of the cells
 
 module _ {A B : Type 0} (f : A → B) where
-  map-append : (xs ys : List A) → map f (xs ++ ys) ≡ map f xs ++ map f ys
-  map-append [] ys = refl
-  map-append (x ∷ xs) ys = ap (λ (l : List B). f x ∷ l) (map-append xs ys)
-
   map-gather : (g : ℕ → List A) (k n : ℕ) → map f (gather g k n) ≡ gather (λ j. map f (g j)) k n
   unfolding gather
   map-gather g k zero = refl
-  map-gather g k (suc n) = map-append (g k) (gather g (suc k) n) ∙ ap (λ (l : List B). map f (g k) ++ l) (map-gather g (suc k) n)
+  map-gather g k (suc n) = map-append f (g k) (gather g (suc k) n) ∙ ap (λ (l : List B). map f (g k) ++ l) (map-gather g (suc k) n)
 
   map-along : (g : ℤ → List A) (low high : ℤ) → map f (along g low high) ≡ along (λ k. map f (g k)) low high
   unfolding along

@@ -1,6 +1,6 @@
 -- `clear::all_free` meets its contract. Assumes nothing.
 use mathlib.Core.Bool.{true, _&&_}
-use mathlib.Core.Path.{_≡_, refl, sym, ap, _∙_}
+use mathlib.Core.Path.{_≡_, sym, ap, _∙_}
 use denote.Ref.{now}
 use lib.ListN.{length}
 use mir.Syntax.{w64}
@@ -10,7 +10,7 @@ use borrow.Author.Needs.{needs}
 use Rattle.regions.specs.Regions.{cellsOf}
 use Rattle.regions.specs.RegionLaws.{toCome, Proper, begun, taken, still-proper, fewer}
 use Rattle.world.specs.Boxes.{corner}
-use Rattle.world.specs.Space.{Space, noDoor, space}
+use Rattle.world.specs.Space.{Space, space}
 use Rattle.clear.specs.declared.Corridor.{Corridor}
 use Rattle.clear.specs.Corridors.{orElse}
 use Rattle.clear.specs.Laws.{cellCorridor, freeAlong, doorAlong, turn, goes-on, doors-on, ends}

@@ -6,9 +6,8 @@ use borrow.Author.Tests.{not-true, not-false}
 use denote.Ref.{now}
 use Rattle.world.specs.Space.{Space, space}
 use Rattle.clear.specs.Clear.{clear}
-use Rattle.clear.specs.Corridors.{corridor, doorIn}
+use Rattle.clear.specs.Corridors.{corridor}
 use Rattle.clear.specs.Laws.{is-clear, its-door}
-use Rattle.clear.specs.declared.Corridor.{Corridor}
 use Rattle.places.specs.Places.{inRange, standable}
 use Rattle.ways.specs.Ways.{raised, liftArea, crossingArea, settleArea, wayDoor}
 use Rattle.ways.specs.Laws.{target-out, raised-out, not-standable, lift-blocked, crossing-blocked, settle-blocked, unsupported, passes}
