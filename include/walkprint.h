@@ -36,7 +36,7 @@ extern "C" {
 /* ---- The version ---------------------------------------------------------- */
 
 #define WALKPRINT_VERSION_MAJOR 0
-#define WALKPRINT_VERSION_MINOR 4
+#define WALKPRINT_VERSION_MINOR 5
 #define WALKPRINT_VERSION_PATCH 0
 #define WALKPRINT_VERSION (WALKPRINT_VERSION_MAJOR * 1000000 + WALKPRINT_VERSION_MINOR * 1000 + WALKPRINT_VERSION_PATCH)
 
@@ -425,6 +425,29 @@ uint64_t walkprint_edge(
     const uint8_t *body, size_t body_length,
     double from_x, double from_y, double from_z,
     double to_x, double to_y, double to_z);
+
+/*
+ * The length of a list of waypoint records, as the body goes: it lifts, crosses
+ * and settles. From one record to the next that is
+ *
+ *     lift, plus the root of dx * dx + dz * dz, plus the size of to.y - (from.y + lift),
+ *
+ * added in this order, where `lift` is the later record's, dx is to.x - from.x
+ * and dz is to.z - from.z; these are added up in the order of the list, from 0.0
+ * on. Each operation is rounded once, and the root is walkprint_square_root. For
+ * no record and for one the length is 0.0. A partial record at the end is not
+ * read, and of the records neither movement nor door is, nor the first one's
+ * lift. Writes nothing.
+ *
+ * Of a found list, walkprint_length(out, count * 48) is the length that the
+ * program walkprint prints. It is not the cost by which the search compares ways:
+ * that adds up straight lines. On the level, where no lift is, both are the same.
+ *
+ * The list is not judged, and need be no route: the numbers of its records are
+ * taken as they are, also a lift below 0. Where there is no number, as of a point
+ * that is a NaN, the length is a NaN.
+ */
+double walkprint_length(const uint8_t *list, size_t list_length);
 
 /* ---- Scenes --------------------------------------------------------------- */
 

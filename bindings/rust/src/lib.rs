@@ -173,6 +173,17 @@ pub fn edge(t: &Tables, request: &Request, body: &Body, from: Point, to: Point) 
     Reason::numbered(number).map(Err).ok_or_else(|| refusal(number, 0))
 }
 
+/// The length of a list of waypoint records, as the body goes: of each record
+/// and the next one the later one's lift, plus the way across, plus the way up
+/// or down from there. It is what the program walkprint prints of a found list,
+/// and not the search's cost, which adds up straight lines.
+///
+/// A partial record at the end is not read. The list need be no route: its
+/// numbers are taken as they are, and the length is a NaN where there is none.
+pub fn length(list: &[u8]) -> f64 {
+    raw::length(list)
+}
+
 /// Reads a whole scene into four tables, each of at least its size in
 /// `SCENE_TABLES`.
 pub fn read_scene(

@@ -105,6 +105,12 @@ pub fn edge(asked: &Asked, from: [f64; 3], to: [f64; 3]) -> u64 {
     ))
 }
 
+/// The length of a list's whole records, as the body goes.
+#[inline]
+pub fn length(list: &[u8]) -> f64 {
+    call!(walkprint_length(list;;))
+}
+
 /// The tables are cells, permissions, shapes and boxes.
 pub fn read_scene(bytes: &[u8], tables: [&mut [u8]; 4], made: &mut [u8]) -> u64 {
     let [cells, permissions, shapes, boxes] = tables;
@@ -235,6 +241,8 @@ unsafe extern "C" {
         to_y: f64,
         to_z: f64,
     ) -> u64;
+
+    fn walkprint_length(list: *const u8, list_length: usize) -> f64;
 
     fn walkprint_read_scene(
         bytes: *const u8,
