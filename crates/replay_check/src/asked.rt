@@ -14,7 +14,7 @@ fn read(answer: SceneAnswer, cells: &[u8], perms: &[u8], shapes: &[u8], boxes: &
     digest::with_words(digest::with_words(digest::with_words(d, perms), shapes), boxes)
 }
 
-// The walk-back of the sheet's list, as the C interface answers it: its number, and the place that goes with a pair's reason, or 0.
+// The walk-back of the sheet's list, as the C interface answers it: its number, and the place that goes with a pair's reason, or 0. Then the list's length.
 fn walked(
     s: Scene,
     cells: &[u8],
@@ -28,7 +28,8 @@ fn walked(
     let a = walk_back::walk_back(s.window, cells, perms, shapes, boxes, s.request, s.body, list);
     let mut place = [0u8; 8];
     let number = c_answers::put_walked(a, &mut place);
-    digest::with_words(digest::with(d, number), &place)
+    let walked = digest::with_words(digest::with(d, number), &place);
+    digest::with_float(walked, lengths::length_of(list))
 }
 
 // All answers. A whole scene is asked about over the part of each table that it made.

@@ -18,7 +18,7 @@ pub(crate) fn with_yes(d: u64, yes: bool) -> u64 {
     with(d, yes as u64)
 }
 
-fn with_float(d: u64, x: f64) -> u64 {
+pub(crate) fn with_float(d: u64, x: f64) -> u64 {
     with(d, floats::bits_of(x))
 }
 

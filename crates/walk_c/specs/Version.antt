@@ -1,11 +1,11 @@
--- The version of the interface, 0.4.0, as one number.
+-- The version of the interface, 0.5.0, as one number.
 use Prim.Native.Nat.{ℕ, _+_, _*_}
 
 abbrev major : ℕ
 major = 0
 
 abbrev minor : ℕ
-minor = 4
+minor = 5
 
 abbrev patch : ℕ
 patch = 0

@@ -5,6 +5,7 @@
 // gets back.
 pub mod apex;
 pub mod edge;
+pub mod length;
 pub mod mob;
 pub mod path;
 pub mod roots;

@@ -5,31 +5,31 @@ use mathlib.Core.Path.{_≡_, refl, sym, _∙_}
 use denote.Ref.{now}
 use native.Mathlib.Omega.{arith}
 use lib.ListN.{length}
-use Rattle.lengths.specs.Length.{onward, feetFrom, lengthOf}
+use Rattle.lengths.specs.Length.{onward, stopsFrom, lengthOf}
 use Rattle.lengths.specs.LengthLaws.{starts, goes-on, ends}
 use Rattle.lengths.proofs.length_of.Statement.{statement}
 use Rattle.lengths.proofs.length_of.Tie as tie
 
 abbrev Inv-loop : tie.InvT-loop
-Inv-loop list n total₀ from₀ k₀ total from k = (lengthOf list ≡ onward total from (feetFrom list k (n - k))) × (n ≡ length list / 48)
+Inv-loop list n total₀ from₀ k₀ total from k = (lengthOf list ≡ onward total from (stopsFrom list k (n - k))) × (n ≡ length list / 48)
 
 abbrev μ-loop : tie.MeasureT-loop
 μ-loop list n total₀ from₀ k₀ total from k = n - k
 
-point-at-requires : tie.Need-point-at-requires Inv-loop μ-loop
-point-at-requires c κs = tt
+stop-at-requires : tie.Need-stop-at-requires Inv-loop μ-loop
+stop-at-requires c κs = omega arith
 
 loop-holds : tie.Need-loop-holds Inv-loop μ-loop
-loop-holds c = (rw (c .point-at .ensures) (starts (now (c .before .before .args .list))), refl)
+loop-holds c = (rw (c .stop-at .ensures) (starts (now (c .before .before .args .list))), refl)
 
-mul-point-at : tie.Need-mul-point-at Inv-loop μ-loop
-mul-point-at c = record { fits = omega arith }
+mul-stop-at : tie.Need-mul-stop-at Inv-loop μ-loop
+mul-stop-at c = record { fits = omega arith }
 
-point-at-requires-2 : tie.Need-point-at-requires-2 Inv-loop μ-loop
-point-at-requires-2 c κs = tt
+stop-at-requires-2 : tie.Need-stop-at-requires-2 Inv-loop μ-loop
+stop-at-requires-2 c κs = omega arith
 
-apart-requires : tie.Need-apart-requires Inv-loop μ-loop
-apart-requires c κs = tt
+add-edge-requires : tie.Need-add-edge-requires Inv-loop μ-loop
+add-edge-requires c κs = tt
 
 add-k : tie.Need-add-k Inv-loop μ-loop
 add-k c = record { fits = omega arith }
@@ -41,7 +41,7 @@ loop-again : tie.Need-loop-again Inv-loop μ-loop
 loop-again c =
     let at-loop = c .before .before .before in
     let list = now (at-loop .before .before .before .args .list) in (
-      rw (c .apart .ensures, c .before .point-at2 .ensures)
+      rw (c .add-edge .ensures, c .before .stop-at2 .ensures)
           (at-loop .loop .inv .0 ∙ goes-on list (length list / 48) (at-loop .loop .k) (at-loop .loop .total) (at-loop .loop .from) (c .before .before .loop-test .taken)),
       refl,
     )
@@ -58,11 +58,11 @@ length-of-spec =
     (tie.spec
     Inv-loop
     μ-loop
-    point-at-requires
+    stop-at-requires
     loop-holds
-    mul-point-at
-    point-at-requires-2
-    apart-requires
+    mul-stop-at
+    stop-at-requires-2
+    add-edge-requires
     add-k
     loop-less
     loop-again
