@@ -1,7 +1,7 @@
-//! The length of a list: of every movement, of lists that a search found, of
-//! lists that are none; whose lift counts; that the order of the sums shows in the
-//! bits; and numbers that are none. The bits were worked out by Python's floats,
-//! whose operations are rounded once each.
+//! The length of a list: of none, of each movement, and of lists that a search
+//! found; whose lift counts, what is not read, and that the order of the sums shows
+//! in the bits; NaNs, infinities and lifts below 0. The bits that are written out
+//! here were worked out apart, by Python's floats.
 
 use walkprint::{Movement, NO_DOOR, Point, Request, WalkBack, Waypoint, raw};
 
@@ -209,15 +209,15 @@ fn the_length_of_a_found_list() {
         at(2.5, 1.0, 0.0, Movement::Drop),
         at(3.5, 1.0, 0.0, Movement::Walk),
     ];
-    assert_eq!(Waypoint::list(&list, 6), way);
+    assert_eq!(Waypoint::list(&list, list.len() / WAYPOINT), way);
     assert_eq!(bits(&list), 0x401f_3333_3333_3334);
     assert_eq!(summed(&stops(&list), edge).to_bits(), bits(&list));
 }
 
-/// The search compares ways by straight lines. Over a block they are 2.83, and
-/// around it 4; but up, across and down it is 4.5.
+/// The search compares ways by straight lines: over a block they are 2.83 long,
+/// and around it 4. But up, across and down again is 4.5.
 #[test]
-fn a_found_list_need_not_be_the_least_long() {
+fn a_found_way_need_not_have_the_least_length() {
     let world = World::new(6).stone([1, 1, 0]);
     let request = Request { jump_height: 1.25, ..REQUEST };
     let [over, _] = found(&world, &request, &BODY);
@@ -267,7 +267,7 @@ fn an_infinity_is_infinitely_far() {
             assert!(walkprint::length(&walks(&[far, far])).is_nan());
         }
     }
-    // Up without end, and down again; and down without end first, which is less than nothing, and up.
+    // An infinite lift is not undone by the way down; to one of minus infinity infinity is added.
     assert_eq!(walkprint::length(&list(&[(S, 0.0), (A, f64::INFINITY)])), f64::INFINITY);
     assert!(walkprint::length(&list(&[(S, 0.0), (A, f64::NEG_INFINITY)])).is_nan());
 }
