@@ -427,25 +427,27 @@ uint64_t walkprint_edge(
     double to_x, double to_y, double to_z);
 
 /*
- * The length of a list of waypoint records, as the body goes: it lifts, crosses
- * and settles. From one record to the next that is
+ * The length of a list of waypoint records, as the body goes: from one point to
+ * the next it rises by the lift, crosses at that height, and then goes up or down
+ * to the point. From a record `from` to the next one, `to`, that is
  *
- *     lift, plus the root of dx * dx + dz * dz, plus the size of to.y - (from.y + lift),
+ *     (to.lift + root(dx * dx + dz * dz)) + size(to.y - (from.y + to.lift))
  *
- * added in this order, where `lift` is the later record's, dx is to.x - from.x
- * and dz is to.z - from.z; these are added up in the order of the list, from 0.0
- * on. Each operation is rounded once, and the root is walkprint_square_root. For
- * no record and for one the length is 0.0. A partial record at the end is not
- * read, and of the records neither movement nor door is, nor the first one's
- * lift. Writes nothing.
+ * where dx is to.x - from.x, dz is to.z - from.z, the root is
+ * walkprint_square_root, and the size is the number without its sign. These are
+ * added up in the order of the list, from 0.0 on. Each operation is rounded once.
+ * For no record and for one the length is 0.0. A partial record at the end is not
+ * read; nor are movements, doors and the first record's lift. Writes nothing.
  *
  * Of a found list, walkprint_length(out, count * 48) is the length that the
  * program walkprint prints. It is not the cost by which the search compares ways:
- * that adds up straight lines. On the level, where no lift is, both are the same.
+ * that adds up straight lines from point to point. So a way that is found need not
+ * be the one with the least length. Where all points lie at one height and every
+ * lift is 0, the two are the same.
  *
- * The list is not judged, and need be no route: the numbers of its records are
- * taken as they are, also a lift below 0. Where there is no number, as of a point
- * that is a NaN, the length is a NaN.
+ * The list is not judged, and need be no route: the numbers that are read are
+ * taken as they are, also a lift below 0. With a NaN among them the length is a
+ * NaN, with an infinity it is infinite or a NaN.
  */
 double walkprint_length(const uint8_t *list, size_t list_length);
 

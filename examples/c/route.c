@@ -1,8 +1,9 @@
 /*
  * A route through a door, from a C program: builds the world's tables, searches
- * a way, prints the route with the doors on it, and asks walk-back whether it is
- * one; then the same of a list that is none, which is told why and where. The
- * world is that of scenes/start/door.txt. tools/test-examples builds and runs it.
+ * a way, prints the route with the doors on it and how long it is, and asks
+ * walk-back whether it is one; then the same of a list that is none, which is told
+ * why and where. The world is that of scenes/start/door.txt. tools/test-examples
+ * builds and runs it.
  */
 #include <stdio.h>
 
@@ -97,6 +98,7 @@ int main(void) {
   if (number != WALKPRINT_FOUND)
     return 1;
   print_route(answer.count);
+  printf("length %g\n", walkprint_length((const uint8_t *)out, answer.count * sizeof out[0]));
 
   const uint64_t found = walk_back("walk-back", answer.count);
   out[answer.count - 1].y += 1;

@@ -173,13 +173,16 @@ pub fn edge(t: &Tables, request: &Request, body: &Body, from: Point, to: Point) 
     Reason::numbered(number).map(Err).ok_or_else(|| refusal(number, 0))
 }
 
-/// The length of a list of waypoint records, as the body goes: of each record
-/// and the next one the later one's lift, plus the way across, plus the way up
-/// or down from there. It is what the program walkprint prints of a found list,
-/// and not the search's cost, which adds up straight lines.
+/// The length of a list of waypoint records, as the body goes: from each record
+/// to the next one up by the later one's lift, across, and up or down to the
+/// point. The header's `walkprint_length` has the sum with its order. It is what
+/// the program walkprint prints of a found list, and not the search's cost, which
+/// adds up straight lines from point to point.
 ///
-/// A partial record at the end is not read. The list need be no route: its
-/// numbers are taken as they are, and the length is a NaN where there is none.
+/// A partial record at the end is not read; nor are movements, doors and the
+/// first record's lift. The list need be no route: its numbers are taken as they
+/// are. With a NaN among them the length is a NaN, with an infinity it is infinite
+/// or a NaN.
 pub fn length(list: &[u8]) -> f64 {
     raw::length(list)
 }

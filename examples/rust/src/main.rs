@@ -1,7 +1,8 @@
 //! A scene, from a Rust program: reads the scene file that it is given,
-//! searches a way, prints the route with the doors on it, and asks walk-back
-//! whether it is one; then the same of a list that is none, which is told why and
-//! where. tools/test-examples builds and runs it on scenes/start/door.txt.
+//! searches a way, prints the route with the doors on it and how long it is, and
+//! asks walk-back whether it is one; then the same of a list that is none, which
+//! is told why and where. tools/test-examples builds and runs it on
+//! scenes/start/door.txt.
 
 use std::error::Error;
 
@@ -37,6 +38,7 @@ fn main() -> Result<(), Box<dyn Error>> {
     }
     let list = &mut out[..Waypoint::BYTES * answer.count];
     print_route(&Waypoint::list(list, answer.count));
+    println!("length {}", walkprint::length(list));
     println!("walk-back: {}", walkprint::walk_back(&tables, &scene.request, &scene.body, list)?);
     raise_last(list)?;
     println!("its last point a block higher: {}", walkprint::walk_back(&tables, &scene.request, &scene.body, list)?);

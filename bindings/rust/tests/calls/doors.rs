@@ -2,10 +2,10 @@
 //! the order of the cells, the doorway that is left, state 0, touching cells, a
 //! mob's doors; and lists with a wrong door walked back.
 
-use walkprint::{Body, Movement, NO_DOOR, Outcome, Point, Policy, Reason, Request, Rooms, WalkBack, Waypoint};
+use walkprint::{Body, Movement, NO_DOOR, Point, Policy, Reason, Request, WalkBack, Waypoint};
 
-use super::world::{A, G, S, UP, World, at, back, no, record, through, walks};
-use super::{BODY, MOB_ROOMS, NODE, POLICY, REQUEST, ROOMS, WAYPOINT, mob_in, pattern};
+use super::world::{A, G, S, UP, World, at, back, found, no, record, through, walks};
+use super::{BODY, MOB_ROOMS, NODE, POLICY, REQUEST, WAYPOINT, mob_in};
 
 /// Air and stone; states 2 and 4 are doors, 3 is one that nobody stands on.
 const STATES: [u8; 5] = [7, 7, 3, 1, 3];
@@ -19,17 +19,10 @@ fn doorway() -> World {
     flat().with([1, 1, 0], 2, 1).with([1, 2, 0], 2, 1)
 }
 
-/// The list that a search finds, which walks back as a route, and the records of
-/// the nodes.
+/// The list that a search finds, and the records of the nodes.
 fn found_by(world: &World, request: &Request, body: &Body) -> (Vec<Waypoint>, Vec<u8>) {
-    let [mut nodes, mut front, mut index, mut out] = ROOMS.map(pattern);
-    let mut rooms = Rooms { nodes: &mut nodes, front: &mut front, index: &mut index, out: &mut out };
-    let answer = walkprint::find_walk_path(&world.tables(), request, body, &mut rooms).expect("no refusal");
-    assert_eq!(answer.outcome, Outcome::Found);
-    let list = &out[..WAYPOINT * answer.count];
-    assert_eq!(walkprint::walk_back(&world.tables(), request, body, list), Ok(WalkBack::Yes));
-    nodes.truncate(NODE * answer.retained);
-    (Waypoint::list(list, answer.count), nodes)
+    let [list, nodes] = found(world, request, body);
+    (Waypoint::list(&list, list.len() / WAYPOINT), nodes)
 }
 
 /// The waypoints of node records.

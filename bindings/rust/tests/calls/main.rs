@@ -1,9 +1,10 @@
 //! The calls on the flat scene, with rooms and tables that are filled with a
 //! pattern: exactly long, too long and one byte short, the index room of every
 //! right and wrong size, every byte compared. Why a step is refused is in
-//! `reasons`, which door is named in `doors`.
+//! `reasons`, which door is named in `doors`, how long a list is in `lengths`.
 
 mod doors;
+mod lengths;
 mod reasons;
 mod world;
 

@@ -1,9 +1,9 @@
-//! Small worlds made of the flat scene, and lists to be walked back in them, for
-//! `reasons` and `doors`.
+//! Small worlds made of the flat scene, searches in them, and lists to be walked
+//! back, for `reasons`, `doors` and `lengths`.
 
-use walkprint::{Body, Error, NO_DOOR, Point, Reason, Request, Tables, WalkBack, Window, raw};
+use walkprint::{Body, Error, NO_DOOR, Outcome, Point, Reason, Request, Rooms, Tables, WalkBack, Window, raw};
 
-use super::{BODY, WINDOW, flat, floats, pattern};
+use super::{BODY, NODE, ROOMS, WAYPOINT, WINDOW, flat, floats, pattern};
 
 /// The flat scene's start, the point between, and its goal.
 pub const S: Point = [0.5, 1.0, 0.5];
@@ -50,6 +50,14 @@ impl World {
     /// The permission bytes of the states, from 0 on.
     pub fn permitting(mut self, permissions: &[u8]) -> Self {
         self.tables[1] = permissions.to_vec();
+        self
+    }
+
+    /// The next shape: one box, from the cell's least corner to this one.
+    pub fn shaped(mut self, corner: Point) -> Self {
+        let [_, _, shapes, boxes] = &mut self.tables;
+        shapes.extend([boxes.len() as u32 / 48, 1].map(u32::to_le_bytes).concat());
+        boxes.extend(floats(&[[0.0; 3], corner].concat()));
         self
     }
 
@@ -104,6 +112,21 @@ fn request_bytes(r: &Request) -> Vec<u8> {
     let mut bytes = floats(&[&r.start[..], &r.goal, &rest].concat());
     bytes.extend(r.node_budget.to_le_bytes());
     bytes
+}
+
+// ---- searches
+
+/// The records of the list that a search finds, which walks back as a route, and
+/// those of the nodes.
+pub fn found(world: &World, request: &Request, body: &Body) -> [Vec<u8>; 2] {
+    let [mut nodes, mut front, mut index, mut out] = ROOMS.map(pattern);
+    let mut rooms = Rooms { nodes: &mut nodes, front: &mut front, index: &mut index, out: &mut out };
+    let answer = walkprint::find_walk_path(&world.tables(), request, body, &mut rooms).expect("no refusal");
+    assert_eq!(answer.outcome, Outcome::Found);
+    out.truncate(WAYPOINT * answer.count);
+    nodes.truncate(NODE * answer.retained);
+    assert_eq!(walkprint::walk_back(&world.tables(), request, body, &out), Ok(WalkBack::Yes));
+    [out, nodes]
 }
 
 // ---- lists
