@@ -434,9 +434,10 @@ uint64_t walkprint_edge(
  *     (to.lift + root(dx * dx + dz * dz)) + size(to.y - (from.y + to.lift))
  *
  * where dx is to.x - from.x, dz is to.z - from.z, the root is
- * walkprint_square_root, and the size is the number without its sign. These are
- * added up in the order of the list, from 0.0 on. Each operation is rounded once.
- * For no record and for one the length is 0.0. A partial record at the end is not
+ * walkprint_square_root, and the size is the number without its sign. Each of
+ * these is worked out first and then added to the sum, in the order of the list
+ * and from 0.0 on; each operation is rounded once. For no record, and for one
+ * whatever stands in it, the length is 0.0. A partial record at the end is not
  * read; nor are movements, doors and the first record's lift. Writes nothing.
  *
  * Of a found list, walkprint_length(out, count * 48) is the length that the
@@ -446,8 +447,9 @@ uint64_t walkprint_edge(
  * lift is 0, the two are the same.
  *
  * The list is not judged, and need be no route: the numbers that are read are
- * taken as they are, also a lift below 0. With a NaN among them the length is a
- * NaN, with an infinity it is infinite or a NaN.
+ * taken as they are. So with lifts below 0 the length can be below 0. Of two
+ * records or more, a NaN makes it a NaN; an infinity, or numbers too large to be
+ * added, make it infinite or a NaN.
  */
 double walkprint_length(const uint8_t *list, size_t list_length);
 
