@@ -22,6 +22,8 @@ use std::io::{ErrorKind, Read, Write};
 use std::path::Path;
 use std::process::ExitCode;
 
+use reading::Variant::ReadAsWritten;
+use reading::print;
 use scene::{Walked, YES, words};
 
 use crate::files::scene_file;
@@ -61,7 +63,7 @@ fn main() -> ExitCode {
 fn run(arguments: &[String]) -> Result<bool, String> {
     let words: Vec<&str> = arguments.iter().map(String::as_str).collect();
     match words[..] {
-        ["print"] => put(scene::print_verdict(&original::verdict(&input()?)).as_bytes()),
+        ["print"] => put(print(&original::verdict(&input()?), ReadAsWritten).as_bytes()),
         ["nodes"] => nodes(),
         ["scene", file] => put(&scene_file(file)?),
         ["text"] => put(scene::to_text(&input()?).as_bytes()),

@@ -3,6 +3,8 @@
 use std::path::Path;
 
 use original::{Apex, Policy};
+use reading::Variant::ReadAsWritten;
+use reading::print;
 use scene::{Answer, Outcome, YES};
 
 use crate::files::{directed, scene_file};
@@ -59,7 +61,7 @@ found 3 9 2 4000000000000000
 1 walk 3ff8000000000000 3ff0000000000000 3fe0000000000000 0000000000000000 4294967295
 2 walk 4004000000000000 3ff0000000000000 3fe0000000000000 0000000000000000 4294967295
 ";
-    Ok(scene::print(&answered(flat)?) == lines)
+    Ok(print(&Ok(answered(flat)?), ReadAsWritten) == lines)
 }
 
 /// "Budget 0 and 1 exceed, 2 finds. Goal x 2.0: two points; 2.0625: three."

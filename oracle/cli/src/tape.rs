@@ -6,6 +6,8 @@ use std::collections::VecDeque;
 use std::fmt::Write;
 
 use original::Checks;
+use reading::Variant::ReadAsWritten;
+use reading::print;
 use scene::{Partial, Scene};
 
 use crate::row::{Row, bits};
@@ -95,7 +97,7 @@ impl Tape {
             Some(scene) => {
                 self.input.extend(number(scene.len() + 1));
                 self.output
-                    .push_str(&scene::print_verdict(&original::verdict(&scene)));
+                    .push_str(&print(&original::verdict(&scene), ReadAsWritten));
                 self.input.extend(scene);
             }
             None => self.input.extend(number(0)),

@@ -3,7 +3,8 @@
 use std::collections::BTreeMap;
 use std::fmt;
 
-use reading::index;
+use reading::Variant::{LengthStraight, ReadAsWritten};
+use reading::{edges, index, length, same_number};
 use scene::{NODE, WAYPOINT, words};
 
 use crate::expected::Expected;
@@ -52,6 +53,21 @@ impl Counts {
         self.add("node records", (answer.nodes.len() / NODE) as u64);
         self.add("waypoints", (answer.list.len() / WAYPOINT) as u64);
         self.doors(answer);
+        self.lengths(&answer.list);
+    }
+
+    /// The lists with an edge, and those in which a lift, a settling and 02's No. 2
+    /// itself show.
+    pub fn lengths(&mut self, list: &[u8]) {
+        let edges = edges(list);
+        let straight = length(list, LengthStraight);
+        let other = !same_number(length(list, ReadAsWritten), straight);
+        let lifted = edges.iter().any(|[lift, _, _]| *lift != 0.0);
+        let settled = edges.iter().any(|[_, _, settle]| *settle != 0.0);
+        self.add("lists of two points or more", (!edges.is_empty()).into());
+        self.add("lists with a lift", lifted.into());
+        self.add("lists with a settling", settled.into());
+        self.add("lists longer or shorter than straight lines", other.into());
     }
 
     /// The doors that a search names, those of number 0 among them, and whether

@@ -2,7 +2,9 @@
 //! every byte of every lent room and around it.
 
 use mutants::chance::Chance;
-use scene::{WAYPOINT, f64_at};
+use reading::Variant::ReadAsWritten;
+use reading::same_number;
+use scene::WAYPOINT;
 use walkprint::raw::{self, Lent};
 
 use crate::call::Call;
@@ -65,12 +67,14 @@ pub fn compare(
     if number != must.number {
         return Err(format!("answered {number}, must be {}", must.number));
     }
+    // Before the rooms are looked at: no byte of them may change by this either.
+    let lengths = lengths(&rooms[OUT], must.list.len(), &mut chance);
     let answers = answer.parts(&said).map(|parts| format!("answer: {parts}"));
     if let Some(parts) = answers.or_else(|| parted(&rooms, &after)) {
         let numbers = must.answer();
         return Err(format!("{parts}, where the answer must be {numbers:?}"));
     }
-    same_length(&must.list)
+    same_length(&must.list, lengths)
 }
 
 /// Rooms of these sizes. The index room looks used where that is asked for, and
@@ -116,21 +120,21 @@ fn told(must: &Expected, length: usize) -> Vec<u8> {
     }
 }
 
-/// The list's length by the proved root and by the processor's.
-fn same_length(list: &[u8]) -> Result<(), String> {
-    let feet = |record: &[u8]| [0, 8, 16].map(|at| f64_at(record, at));
-    let points: Vec<[f64; 3]> = list.chunks(WAYPOINT).map(feet).collect();
-    let sum = |root: fn(f64) -> f64| {
-        points.windows(2).fold(0.0, |sum, pair| {
-            let [x, y, z] = [0, 1, 2].map(|axis| pair[1][axis] - pair[0][axis]);
-            sum + root(x * x + y * y + z * z)
-        })
-    };
-    let (ours, theirs): (f64, f64) = (sum(raw::square_root), sum(f64::sqrt));
-    if ours.to_bits() == theirs.to_bits() {
-        return Ok(());
+/// The proved length of the list that a search wrote into its output, and of the
+/// same with a part of a record behind it.
+fn lengths(out: &Room, list: usize, chance: &mut Chance) -> [f64; 2] {
+    let behind = chance.below(WAYPOINT).min(out.length() - list);
+    [list, list + behind].map(|end| raw::length(&out.bytes()[..end]))
+}
+
+/// Both are the reading's, which sums by the processor's root.
+fn same_length(list: &[u8], lengths: [f64; 2]) -> Result<(), String> {
+    let must = reading::length(list, ReadAsWritten);
+    match lengths.iter().all(|&length| same_number(length, must)) {
+        true => Ok(()),
+        false => Err(format!(
+            "length {:e}, with a part of a record behind {:e}, must be {must:e}",
+            lengths[0], lengths[1]
+        )),
     }
-    Err(format!(
-        "length {ours} by the proved root, {theirs} by the processor's"
-    ))
 }

@@ -10,6 +10,7 @@ mod edges;
 mod edits;
 mod expected;
 mod large;
+mod lengths;
 mod misread;
 mod numbers;
 mod passes;
@@ -45,6 +46,7 @@ driver read FROM COUNT [THREADS]
 driver policy FROM COUNT [THREADS]
 driver numbers FROM COUNT [THREADS]
 driver roots FROM COUNT [THREADS]
+driver lengths FROM COUNT [THREADS]
 driver edges FROM COUNT [THREADS]
 driver reasons FOLDER
 driver misread FROM COUNT
@@ -87,6 +89,7 @@ fn command(arguments: &[String]) -> Result<bool, String> {
         "policy" => policy::one_scene,
         "numbers" => numbers::one_of_each,
         "roots" => roots::one_pattern,
+        "lengths" => lengths::one_list,
         "edges" => edges::one_scene,
         "short" => short::one_scene,
         "columns" => columns::one_world,

@@ -1,6 +1,7 @@
 //! How soon the variants of the reading part from what the proved calls say: those
 //! of reasons on lists and edges, those of doors on searches, in the list and in
-//! the node room, or in rooms that are too short.
+//! the node room, or in rooms that are too short, and those of lengths on lists
+//! that no search gave and on found ones.
 
 use std::ops::Range;
 
@@ -11,6 +12,7 @@ use scene::{Question, Scene, Verdict, Walked};
 use walkprint::raw;
 
 use crate::call::Call;
+use crate::lengths::noticed;
 use crate::sizes::{FRONT, INDEX, NODES, OUT, Sizes, needed};
 
 /// A line a variant: how many lists, edges or searches of the scenes of these
@@ -18,7 +20,8 @@ use crate::sizes::{FRONT, INDEX, NODES, OUT, Sizes, needed};
 pub fn all(from: u64, count: u64) -> bool {
     let reasons = reasons(from..from + count);
     let searches = searches(from..from + count);
-    let all = [reasons, searches].concat();
+    let lengths = lengths(from..from + count);
+    let all = [reasons, searches, lengths].concat();
     for (variant, line) in &all {
         let line = line.as_deref().unwrap_or("NOT NOTICED");
         println!("{}: {line}", variant.name());
@@ -52,6 +55,22 @@ fn proved(call: &Call, question: &Question) -> Walked {
     }
 }
 
+/// How many agreed before one parted, by each of two means, in words.
+fn line(variant: Variant, what: &str, after: [Option<u64>; 2], names: [&str; 2]) -> Line {
+    let told = |(after, name): (Option<u64>, &str)| Some(format!("{} by {name}", after?));
+    let parts: Vec<String> = after.into_iter().zip(names).filter_map(told).collect();
+    let line = format!("{what} {}", parts.join(", "));
+    (variant, (!parts.is_empty()).then_some(line))
+}
+
+/// The variants of lengths.
+fn lengths(numbers: Range<u64>) -> Vec<Line> {
+    let names = ["lists that no search gave", "found lists"];
+    let rows = noticed(numbers).into_iter();
+    rows.map(|(variant, after)| line(variant, "lengths", after, names))
+        .collect()
+}
+
 /// A variant of doors: how many searches agreed before one parted, in the list and
 /// in the node room, or in its number where a room is too short.
 struct Row {
@@ -61,17 +80,11 @@ struct Row {
 
 impl Row {
     fn line(&self) -> Line {
-        let told = |part: usize, name: &str| Some(format!("{} by {name}", self.after[part]?));
         let names = match ROOMED.contains(&self.variant) {
             true => ["a room too short", ""],
             false => ["the list", "the nodes"],
         };
-        let parts: Vec<String> = [told(0, names[0]), told(1, names[1])]
-            .into_iter()
-            .flatten()
-            .collect();
-        let line = format!("searches {}", parts.join(", "));
-        (self.variant, (!parts.is_empty()).then_some(line))
+        line(self.variant, "searches", self.after, names)
     }
 
     /// Whether a search may still show it: a room only by the number.

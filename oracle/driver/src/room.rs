@@ -26,6 +26,10 @@ impl Room {
         self.length
     }
 
+    pub fn bytes(&self) -> &[u8] {
+        &self.bytes[self.begin..][..self.length]
+    }
+
     pub fn lent(&mut self) -> &mut [u8] {
         &mut self.bytes[self.begin..][..self.length]
     }

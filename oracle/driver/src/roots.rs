@@ -2,7 +2,7 @@
 //! processor's root and against 01's own words about squares.
 
 use mutants::chance::Chance;
-use reading::is_root;
+use reading::{is_root, same_number};
 use walkprint::raw;
 
 use crate::counts::Counts;
@@ -94,7 +94,7 @@ fn same_roots(number: f64, chance: &mut Chance) -> Result<Option<f64>, String> {
         return Err(format!("{root:?} is not the one root by 01's words"));
     }
     let (square_root, must) = (raw::square_root(number), number.sqrt());
-    if square_root.to_bits() != must.to_bits() && !(square_root.is_nan() && must.is_nan()) {
+    if !same_number(square_root, must) {
         return Err(format!("square root {square_root:e}, must be {must:e}"));
     }
     Ok(root)

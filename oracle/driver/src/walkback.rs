@@ -100,7 +100,8 @@ pub fn differ(
     Ok(())
 }
 
-fn hex(list: &[u8]) -> String {
+/// A list's records, a word each.
+pub fn hex(list: &[u8]) -> String {
     let digits = |record: &[u8]| record.iter().map(|byte| format!("{byte:02x}")).collect();
     list.chunks(WAYPOINT)
         .map(digits)

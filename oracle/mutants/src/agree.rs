@@ -192,7 +192,7 @@ fn show(records: Vec<Record>) {
         both(records).is_some_and(|(ours, theirs)| !same(&ours, &theirs))
     });
     if let Some((ours, theirs)) = both(&small) {
-        let [left, right] = parting(&ours, &theirs);
+        let [left, right] = parting(&ours, &theirs, Variant::ReadAsWritten);
         println!("the reading: {left}\nthe original: {right}");
     }
     print!("{}", to_text(&write_bytes(&small)));

@@ -6,17 +6,15 @@ use std::path::Path;
 use reading::{VARIANTS, Variant, search};
 use scene::{RECORD, Record, Scene, to_text};
 
-use crate::compare::{parting, same};
+use crate::compare::{self, parting};
 use crate::draft::scene_of;
 use crate::recipes::Recipe;
 use crate::shrink::{shrink, weight};
 
 /// Whether the scene tells the variant from the reading.
 pub fn tells(scene: &Scene, variant: Variant) -> bool {
-    !same(
-        &search(scene, Variant::ReadAsWritten),
-        &search(scene, variant),
-    )
+    let right = search(scene, Variant::ReadAsWritten);
+    compare::tells(&right, &search(scene, variant), variant)
 }
 
 /// The best scene so far for a variant.
@@ -68,7 +66,7 @@ pub fn page(records: &[Record], variant: Variant) -> String {
     let scene = scene_of(records).expect("a good scene");
     let right = search(&scene, Variant::ReadAsWritten);
     let wrong = search(&scene, variant);
-    let [is, would_be] = parting(&right, &wrong);
+    let [is, would_be] = parting(&right, &wrong, variant);
     format!(
         "# {part}: \"{sentence}\".\n# Misread: {edit}.\n# Right: {is}\n# Wrong: {would_be}\n{}",
         plain_text(records)

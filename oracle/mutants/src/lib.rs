@@ -9,6 +9,7 @@ mod compare;
 mod doorways;
 pub mod draft;
 mod hunt;
+pub mod lengths;
 pub mod lists;
 pub mod notice;
 pub mod pairs;

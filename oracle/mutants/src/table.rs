@@ -2,12 +2,13 @@
 
 use std::path::Path;
 
-use reading::{ASKED, Graph, ROOMED, Rooms, VARIANTS, Variant, search, search_in};
+use reading::{ASKED, Graph, LISTED, ROOMED, Rooms, VARIANTS, Variant, search, search_in};
 use scene::{Scene, Verdict};
 
-use crate::compare::{parting, same, shown_by};
+use crate::compare::{self, parting, same, shown_by};
 use crate::doorways::doorways;
 use crate::draft::{draft, scene_of};
+use crate::lengths::noticed_after;
 
 /// A scene with its name, its text and the reading's answer.
 struct Judged {
@@ -29,7 +30,7 @@ impl Judged {
     }
 
     fn tells(&self, variant: Variant) -> bool {
-        !same(&self.right, &search(&self.scene, variant))
+        compare::tells(&self.right, &search(&self.scene, variant), variant)
     }
 
     /// Whether the segment from start to goal is supported, by this variant.
@@ -56,7 +57,7 @@ impl Judged {
         let original = original::judge(&self.scene);
         let agrees = same(&self.right, &original);
         if !agrees {
-            let [ours, theirs] = parting(&self.right, &original);
+            let [ours, theirs] = parting(&self.right, &original, Variant::ReadAsWritten);
             let name = &self.name;
             println!("{name}: the reading says {ours}, the original {theirs}");
         }
@@ -66,7 +67,8 @@ impl Judged {
     /// Whether the head of a variant's own scene gives the lines on which the
     /// answers part; says so if not.
     fn headed(&self, variant: Variant) -> bool {
-        let [right, wrong] = parting(&self.right, &search(&self.scene, variant));
+        let wrong = search(&self.scene, variant);
+        let [right, wrong] = parting(&self.right, &wrong, variant);
         let headed = [format!("# Right: {right}"), format!("# Wrong: {wrong}")]
             .iter()
             .all(|line| self.text.lines().any(|other| other == line));
@@ -135,7 +137,8 @@ pub fn table(folder: &Path, seed: u64, count: u64) -> bool {
     let roomed = ROOMED
         .iter()
         .map(|&variant| (variant, roomed(variant, &scenes)));
-    for (variant, shown) in asked.chain(roomed) {
+    let listed = LISTED.iter().map(|&variant| (variant, listed(variant)));
+    for (variant, shown) in asked.chain(roomed).chain(listed) {
         survivors += u32::from(shown.is_none());
         let shown = shown.unwrap_or("SURVIVES".to_string());
         println!("{}: {shown}", variant.name());
@@ -163,6 +166,14 @@ fn roomed(variant: Variant, scenes: &[Judged]) -> Option<String> {
         "scenes/directed/{}.txt with its {room} a byte short; {} directed",
         judged.name,
         1 + short.count()
+    ))
+}
+
+/// What tells a variant apart that only the length of a list shows.
+fn listed(variant: Variant) -> Option<String> {
+    let lists = noticed_after(variant)?;
+    Some(format!(
+        "by lists that no search gives; after {lists} lists"
     ))
 }
 

@@ -1,4 +1,4 @@
-//! A plain reading of document 01, and of 02's No. 3, No. 5 and No. 7: what each
+//! A plain reading of document 01, and of 02's No. 2, 3, 5 and 7: what each
 //! sentence says, one function a paragraph, without a thought for speed. It
 //! shares nothing with the original's code; where 01 leaves a sum to the source,
 //! it takes the source's.
@@ -11,6 +11,7 @@ mod doors;
 mod edge;
 mod graph;
 pub mod index;
+mod length;
 mod lookup;
 mod policy;
 mod reason;
@@ -26,6 +27,7 @@ mod world;
 
 pub use boxes::Area;
 pub use graph::{E, Graph};
+pub use length::{edges, length, print, same_number};
 pub use policy::{
     DAMAGING, DOOR, GRASS, IRON_DOOR, OPEN, Passage, Policy, WATER, fill_permissions,
     find_path_request, jump_apex, passage, permission,
@@ -34,5 +36,5 @@ pub use reason::Reason;
 pub use request::{Rooms, bad_world, search, search_in, too_large, valid_request};
 pub use root::is_root;
 pub use route::{is_route, reachable_points};
-pub use variant::{ASKED, ROOMED, TOLD, VARIANTS, Variant};
+pub use variant::{ASKED, LISTED, ROOMED, TOLD, VARIANTS, Variant};
 pub use walk_back::walk_back;

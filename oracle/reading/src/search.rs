@@ -5,6 +5,7 @@ use scene::{Answer, NO_DOOR, NO_PARENT, NodeRecord, Outcome, Waypoint};
 use crate::Variant::{self, *};
 use crate::boxes::{Point, distance};
 use crate::graph::{E, Graph, same_point};
+use crate::length::{Stop, edge_length};
 use crate::lookup::{is_of_index, look_up};
 
 /// A waiting node: its estimate and the number of its push.
@@ -267,11 +268,14 @@ impl<'a> Search<'a> {
         }
     }
 
-    /// The length of a lift, a crossing and a settle, for a variant.
+    /// The length that 02's No. 2 has printed, for a variant that takes it for the
+    /// cost.
     fn corridor_length(&self, from: usize, step: &Waypoint) -> f64 {
-        let at = self.nodes[from].point.feet;
-        let (dx, dz) = (step.feet[0] - at[0], step.feet[2] - at[2]);
-        step.lift + (dx * dx + dz * dz).sqrt() + (step.feet[1] - (at[1] + step.lift)).abs()
+        let stop = |point: &Waypoint| Stop {
+            feet: point.feet,
+            lift: point.lift,
+        };
+        edge_length(stop(&self.nodes[from].point), stop(step))
     }
 
     fn retain(&mut self, point: Waypoint, cost: f64, parent: usize) {

@@ -1,5 +1,5 @@
-//! The variants: each misreads one sentence of 01, or of 02's No. 3, No. 5 or No.
-//! 7, and is switched at the place of that sentence.
+//! The variants: each misreads one sentence of 01, or of 02's No. 2, 3, 5 or 7,
+//! and is switched at the place of that sentence.
 //!
 //! Left out, because no answer can show them: the start's estimate (it waits
 //! alone); an occupiable unknown cell (its cube fills the voxel); a voxel that
@@ -13,19 +13,23 @@
 //! the expansion under way (its points all differ). Of doors: an unknown cell as a
 //! door (its cube would block the area), a voxel that touches in x or z, and one
 //! that intersects another area of the corridor than the one whose turn it is (a
-//! cell that is looked at for an area, but for the layer below, intersects it).
+//! cell that is looked at for an area, but for the layer below, intersects it). Of
+//! lengths: another order of two numbers that are added, dz² + dx², root + lift,
+//! edge + sum, and so (root + settle) + lift, which is lift + (root + settle).
 //!
 //! Three misreadings show only where `supported` is asked by itself: in a search
 //! the body stands at the segment's start and the target is standable, so that
 //! some interval begins at 0 and one ends at 1. Those of 02's No. 3 show only in
 //! the reason of an edge or of a walk-back, or in its place. Two of No. 5 show only
-//! in rooms that are too short.
+//! in rooms that are too short, and two of lengths only in lists that no search
+//! gives: a found list has whole records, and its start's lift is 0.
 
 macro_rules! variants {
     (
         searched { $($part:literal { $($sentence:literal { $($name:ident: $edit:literal,)* })* })* }
         asked { $($part_asked:literal { $($sentence_asked:literal { $($asked:ident: $edit_asked:literal,)* })* })* }
         roomed { $($part_roomed:literal { $($sentence_roomed:literal { $($roomed:ident: $edit_roomed:literal,)* })* })* }
+        listed { $($part_listed:literal { $($sentence_listed:literal { $($listed:ident: $edit_listed:literal,)* })* })* }
         told { $($part_told:literal { $($sentence_told:literal { $($told:ident: $edit_told:literal,)* })* })* }
     ) => {
         /// A way to read 01: as written, or with one sentence misread.
@@ -36,6 +40,7 @@ macro_rules! variants {
             $($($(#[doc = $edit] $name,)*)*)*
             $($($(#[doc = $edit_asked] $asked,)*)*)*
             $($($(#[doc = $edit_roomed] $roomed,)*)*)*
+            $($($(#[doc = $edit_listed] $listed,)*)*)*
             $($($(#[doc = $edit_told] $told,)*)*)*
         }
 
@@ -48,6 +53,9 @@ macro_rules! variants {
         /// The variants that only rooms show that are too short.
         pub const ROOMED: &[Variant] = &[$($($(Variant::$roomed,)*)*)*];
 
+        /// The variants that only the length of a list shows that no search gives.
+        pub const LISTED: &[Variant] = &[$($($(Variant::$listed,)*)*)*];
+
         /// The variants that only a reason shows, of an edge or of a walk-back.
         pub const TOLD: &[Variant] = &[$($($(Variant::$told,)*)*)*];
 
@@ -59,6 +67,7 @@ macro_rules! variants {
                     $($($(Variant::$name => [$part, $sentence, $edit],)*)*)*
                     $($($(Variant::$asked => [$part_asked, $sentence_asked, $edit_asked],)*)*)*
                     $($($(Variant::$roomed => [$part_roomed, $sentence_roomed, $edit_roomed],)*)*)*
+                    $($($(Variant::$listed => [$part_listed, $sentence_listed, $edit_listed],)*)*)*
                     $($($(Variant::$told => [$part_told, $sentence_told, $edit_told],)*)*)*
                 }
             }
@@ -70,6 +79,13 @@ impl Variant {
     /// Whether it misreads what 02's No. 5 says of doors.
     pub fn is_of_doors(self) -> bool {
         self.about()[0] == "02, No. 5"
+    }
+
+    /// Whether it misreads the printed length alone (02, No. 2): its search is the
+    /// reading's own.
+    pub fn is_of_lengths(self) -> bool {
+        let [part, ..] = self.about();
+        part == "02, No. 2" || part.ends_with(", the length")
     }
 
     /// The name of the variant, and of the scene that tells it apart:
@@ -505,6 +521,46 @@ variants! {
                 ConnectorHasNoDoor: "the connector has no door",
             }
         }
+        "02, No. 2" {
+            "The guide lifts, crosses and settles; document 01 sums straight lines" {
+                LengthStraight: "straight lines",
+            }
+            "The length of an edge becomes lift" {
+                LengthWithoutLift: "the lift is not added",
+                LengthByTheLiftBefore: "the lift of the record before",
+            }
+            "plus the root of dx² + dz²" {
+                LengthWithTheRise: "the root of dx² + dy² + dz²",
+                LengthAlongAxes: "the sizes of dx and dz",
+                LengthFused: "dx² is not rounded before dz² is added",
+                LengthHypot: "a root for which no square is too small or too large",
+            }
+            "plus the size of to.y - (from.y + lift)" {
+                LengthWithoutSettle: "the settling is not added",
+                LengthSettleSigned: "to.y - (from.y + lift) itself",
+                LengthSettleFromFeet: "the size of to.y - from.y",
+                LengthSettleLessLift: "the size of (to.y - from.y) - lift",
+            }
+            "added in that order" {
+                LengthCrossingWithSettle: "lift + (root + settle)",
+                LengthSettleBeforeCrossing: "(lift + settle) + root",
+            }
+            "then added to the sum" {
+                LengthPartByPart: "each of the three parts is added to the sum",
+            }
+        }
+        "Scenes and walkprint, the length" {
+            "the f64 sum, from 0.0 in list order" {
+                LengthFromMinusZero: "from -0.0",
+                LengthFromTheEnd: "from the list's end",
+            }
+        }
+        "02, No. 5, the length" {
+            "Each waypoint record gains 8 bytes" {
+                LengthOfOldRecords: "40 bytes a record",
+                LengthOfNodeRecords: "64 bytes a record",
+            }
+        }
     }
     asked {
         "Supported segment" {
@@ -522,6 +578,16 @@ variants! {
             "Rooms are counted in the new sizes" {
                 RoomOfOldNodes: "56 bytes a node",
                 RoomOfOldWaypoints: "40 bytes a waypoint",
+            }
+        }
+    }
+    listed {
+        "include/walkprint.h, walkprint_length" {
+            "A partial record at the end is not read" {
+                LengthOfAPartialRecord: "it is read as if zeros followed",
+            }
+            "nor [is] the first one's lift [read]" {
+                LengthWithTheFirstLift: "the sum begins at the first record's lift",
             }
         }
     }

@@ -19,7 +19,7 @@ pub use asked::{Asked, Question, asked};
 pub use bytes::{NODE, WAITING, WAYPOINT, f64_at, u32_at, u64_at};
 pub use large::{LARGE, large, stairs};
 pub use make::{KINDS, make};
-pub use print::{name, print, print_refusal, print_verdict};
+pub use print::{name, print, print_refusal};
 pub use random::Random;
 pub use read::{BadScene, Ends, Partial, RECORD, Steps, read, read_partial};
 pub use reasons::{Walked, YES, words};

@@ -1,9 +1,10 @@
 //! What walkprint writes to standard output, by 01's "Scenes and walkprint"; a
-//! waypoint's door last (02, No. 5).
+//! waypoint's door last (02, No. 5). The length is worked out by `reading`, which
+//! has its variants too.
 
 use std::fmt::Write;
 
-use crate::{Answer, Outcome, Refusal, Verdict};
+use crate::{Answer, Outcome, Refusal};
 
 pub(crate) const MOVEMENTS: [&str; 4] = ["walk", "step", "jump", "drop"];
 
@@ -17,7 +18,7 @@ pub fn name(outcome: Outcome) -> &'static str {
 }
 
 /// Outcome, waypoints, retained, closed, length; then a line a waypoint.
-pub fn print(answer: &Answer) -> String {
+pub fn print(answer: &Answer, length: f64) -> String {
     let mut out = String::new();
     let _ = writeln!(
         out,
@@ -26,7 +27,7 @@ pub fn print(answer: &Answer) -> String {
         answer.list.len(),
         answer.nodes.len(),
         answer.closed,
-        length(answer).to_bits()
+        length.to_bits()
     );
     for (place, point) in answer.list.iter().enumerate() {
         let [x, y, z] = point.feet.map(f64::to_bits);
@@ -44,23 +45,4 @@ pub fn print(answer: &Answer) -> String {
 /// The line of a refusal.
 pub fn print_refusal(refusal: Refusal) -> String {
     format!("refused {} {}\n", refusal.number, refusal.record)
-}
-
-/// What walkprint prints for either.
-pub fn print_verdict(verdict: &Verdict) -> String {
-    match verdict {
-        Ok(answer) => print(answer),
-        Err(refusal) => print_refusal(*refusal),
-    }
-}
-
-/// "The f64 sum, from 0.0 in list order, of straight distances between
-/// neighbours."
-fn length(answer: &Answer) -> f64 {
-    let mut sum = 0.0;
-    for pair in answer.list.windows(2) {
-        let [dx, dy, dz] = [0, 1, 2].map(|axis| pair[1].feet[axis] - pair[0].feet[axis]);
-        sum += (dx * dx + dy * dy + dz * dz).sqrt();
-    }
-    sum
 }
