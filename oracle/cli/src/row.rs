@@ -64,10 +64,12 @@ impl Row {
         self.take(point.door);
     }
 
-    /// A walk-back: its number, then its place, 0 if there is none.
-    pub fn take_walked(&mut self, walked: Walked) {
+    /// A walk-back: its number, then its place, 0 if there is none, then the
+    /// list's length.
+    pub fn take_walked(&mut self, walked: Walked, length: f64) {
         self.take(walked.number);
         self.take(walked.place.unwrap_or(0));
+        self.take_float(length);
     }
 }
 

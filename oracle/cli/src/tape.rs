@@ -7,7 +7,7 @@ use std::fmt::Write;
 
 use original::Checks;
 use reading::Variant::ReadAsWritten;
-use reading::print;
+use reading::{length, print};
 use scene::{Partial, Scene};
 
 use crate::row::{Row, bits};
@@ -228,7 +228,10 @@ impl Tape {
             self.sheet[..list.len()].copy_from_slice(list);
             self.put(LIST, list.len());
             let mut row = self.read(bytes);
-            row.take_walked(original::walk_back(scene, list));
+            row.take_walked(
+                original::walk_back(scene, list),
+                length(list, ReadAsWritten),
+            );
             self.case(bytes, row);
         }
     }
