@@ -24,9 +24,7 @@ fn stir(h: u64) -> u64 {
 
 /// The hash of three words: each added and stirred in, then stirred twice more.
 pub fn hash_words(words: [u64; 3]) -> u64 {
-    let h = words
-        .into_iter()
-        .fold(0, |h: u64, w| stir(h.wrapping_add(w)));
+    let h = words.into_iter().fold(0, |h: u64, w| stir(h.wrapping_add(w)));
     let h = stir(stir(h));
     h.wrapping_add(h >> 34)
 }
