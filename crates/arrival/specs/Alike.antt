@@ -8,7 +8,7 @@ use mathlib.Core.Logic.{_⊎_, inl, inr}
 use borrow.Author.Tests.{ltb-false, le-ltb, ne-eqb}
 use lib.Dec.{T, ltb}
 use lib.IntN.{ℤ, pos}
-use lib.Ieee.{Float, nan, inf, fin, binary64, fits, up, down, size, span, climb, odd, units, round, sum, add, sub, neg, div, lt, le, eq, ofBits}
+use lib.Ieee.{Float, nan, inf, fin, binary64, fits, up, down, size, span, climb, odd, units, round, sum, add, sub, neg, mul, div, lt, le, eq, ofBits}
 use lib.Ieee.Fits.{up-pos, down-pos}
 use lib.Ieee.Scale.{finite, round-same}
 use Rattle.floats.specs.Floats.{nought, smaller, larger, absolute, canonical}
@@ -177,6 +177,30 @@ with-nil (fin s (suc m) e) h =
 
 pub with-zero : (x z : Float) → T (fits binary64 x) → Zero z → Alike (add binary64 x z) x
 with-zero x z h e = sym (add-right x z) ∙ ap (λ (v : Float). canonical (add binary64 x v)) e ∙ with-nil x h
+
+round-second : (s : Bool) (m : ℕ) (e : ℤ) → T (fits binary64 (fin s (suc m) e)) → round binary64 s (suc m * up e * 1) (1 * down e) ≡ fin s (suc m) e
+round-second s m e h = rw (mul-one (suc m * up e), one-mul (down e)) (round-itself s m e h)
+
+nil-with : (x : Float) → T (fits binary64 x) → Alike (add binary64 nil x) x
+unfolding canonical add
+nil-with nan h = refl
+nil-with (inf s) h = refl
+nil-with (fin s zero e) h =
+    zero-left (1 * down e) (mul-pos {m = 1} {n = down e} (omega arith) (down-pos e)) false s (0 * 1 * down e) (0 * up e * 1) (simp zero-mul)
+    ∙ round-zero s (0 * up e * 1) (1 * down e) (simp zero-mul) (mul-pos {m = 1} {n = down e} (omega arith) (down-pos e))
+nil-with (fin s (suc m) e) h =
+    zero-left (1 * down e) (mul-pos {m = 1} {n = down e} (omega arith) (down-pos e)) false s (0 * 1 * down e) (suc m * up e * 1) (simp zero-mul)
+    ∙ ap canonical (round-second s m e h)
+
+pub zero-with : (z x : Float) → T (fits binary64 x) → Zero z → Alike (add binary64 z x) x
+zero-with z x h e = sym (add-left z x) ∙ ap (λ (v : Float). canonical (add binary64 v x)) e ∙ nil-with x h
+
+-- the square of a zero is one
+pub square-zero : (z : Float) → Zero z → Zero (mul binary64 z z)
+square-zero z h = sym (by-zeros (λ v. canonical (mul binary64 v v)) (λ s e. zero-squared false (pos zero) ∙ sym (zero-squared s e)) z) ∙ ap (λ (v : Float). canonical (mul binary64 v v)) h ∙ zero-squared false (pos zero)
+  where
+    zero-squared : (s : Bool) (e : ℤ) → Zero (mul binary64 (fin s zero e) (fin s zero e))
+    zero-squared s e = unfold mul in round-zero _ (0 * up e * (0 * up e)) (down e * down e) (simp zero-mul) (mul-pos (down-pos e) (down-pos e))
 
 -- ---- comparisons
 

@@ -1,5 +1,7 @@
--- What the contracts of the public search and of the walk-back imply. What a reader must believe: Words, and the statements of Claims and Reasons.
+-- What the contracts of the public search, of the walk-back and of the length imply. What a reader must believe: Words, and the statements of Claims, Reasons and
+-- Level.
 pub mod Words
 pub mod Laws
 pub mod Claims
 pub mod Reasons
+pub mod Level

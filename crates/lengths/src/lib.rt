@@ -8,9 +8,9 @@ ghost use Rattle.lengths.specs.Length.{stopAt, edgeLength, lengthOf};
 use world::Point;
 
 // A stop of a list: a record's feet, and how far the edge to it lifts.
-struct Stop {
-    feet: Point,
-    lift: f64,
+pub struct Stop {
+    pub feet: Point,
+    pub lift: f64,
 }
 
 // The stop whose record stands from an offset on.

@@ -1,0 +1,122 @@
+-- What 02, No. 2 leaves of 01's length: where a way is level, its length is the sum of straight distances as before, but for the sign of a zero.
+use Prim.Native.Nat.{ℕ, zero, suc, _-_, _*_, _/_}
+use mathlib.Core.Path.{_≡_, refl, sym, ap, _∙_}
+use mathlib.Core.Bool.{Bool, true, false}
+use mathlib.Core.List.{List, [], _∷_}
+use lib.Dec.{T}
+use lib.IntN.{ℤ}
+use lib.ListN.{length}
+use lib.Ieee.{Float, nan, inf, fin, binary64, fits, add, sub, mul, neg, lt, ofBits}
+use lib.Ieee.Bits.{ofBits-fits}
+use lib.Ieee.Fits.{nan-fits, inf-fits, add-fits, mul-fits}
+use lib.Ieee.Scale.{finite}
+use Rattle.fields.specs.Little.{floatField}
+use Rattle.floats.specs.Floats.{nought, absolute, canonical}
+use Rattle.floats.specs.Zeros.{by-zeros}
+use Rattle.root.specs.Method.{rootOf, answer}
+use Rattle.root.specs.Distance.{squareRoot, distance}
+use Rattle.world.specs.Boxes.{minus}
+use Rattle.world.specs.Space.{pointAt}
+use Rattle.lengths.specs.declared.Stop.{Stop}
+use Rattle.lengths.specs.Length.{across, settling, edgeLength, onward, through, stopAt, stopsFrom, lengthOf}
+use Rattle.arrival.specs.Alike.{Alike, Zero, zero-alike, nought-zero, finite-alike, add-alike, sub-alike, no-difference, with-zero, zero-with, square-zero, absolute-alike}
+
+-- ---- 01's length
+
+-- "straight distances between neighbours"
+abbrev pub straight : Stop → Stop → Float
+straight from to = let d = minus (to .feet) (from .feet) in distance (d .x) (d .y) (d .z)
+
+-- "the f64 sum .. in list order"
+abbrev pub straightOnward : Float → Stop → List Stop → Float
+straightOnward total p [] = total
+straightOnward total p (q ∷ qs) = straightOnward (add binary64 total (straight p q)) q qs
+
+-- "from 0.0"
+abbrev pub straightThrough : List Stop → Float
+straightThrough [] = nought
+straightThrough (p ∷ ps) = straightOnward nought p ps
+
+-- ---- a level way
+
+-- two neighbours of one height, -0.0 taken as 0, and no lift to the later one
+abbrev pub Flat : Stop → Stop → Type 0
+Flat from to = (finite (from .feet .y) ≡ true) × (Alike (to .feet .y) (from .feet .y)) × (Zero (to .lift))
+
+abbrev pub Level : List Stop → Type 0
+Level [] = Unit {0}
+Level (p ∷ []) = Unit {0}
+Level (p ∷ q ∷ qs) = (Flat p q) × (Level (q ∷ qs))
+
+-- ---- one edge
+
+root-held : (x : Float) → T (fits binary64 x) → T (fits binary64 (squareRoot x))
+unfolding squareRoot answer rootOf
+root-held nan h = nan-fits binary64
+root-held (inf true) h = nan-fits binary64
+root-held (inf false) h = inf-fits binary64 false
+root-held (fin s zero e) h = h
+root-held (fin true (suc m) e) h = nan-fits binary64
+root-held (fin false (suc m) e) h = ofBits-fits binary64 _
+
+root-canonical : (x : Float) → canonical (squareRoot (canonical x)) ≡ canonical (squareRoot x)
+unfolding squareRoot answer canonical
+root-canonical = by-zeros (λ v. canonical (squareRoot v)) (λ s e. refl)
+
+root-alike : (x y : Float) → Alike x y → Alike (squareRoot x) (squareRoot y)
+root-alike x y e = sym (root-canonical x) ∙ ap (λ (v : Float). canonical (squareRoot v)) e ∙ root-canonical y
+
+module _ (from to : Stop) (held : T (fits binary64 (from .feet .y))) (flat : Flat from to) where
+  abbrev y : Float
+  y = from .feet .y
+
+  no-rise : Zero (sub binary64 (to .feet .y) y)
+  no-rise = no-difference (to .feet .y) y (flat .1) (finite-alike (to .feet .y) y (flat .1) ∙ flat .0)
+
+  no-settling : Zero (settling (from .feet) (to .feet) (to .lift))
+  no-settling =
+      absolute-alike (sub binary64 (to .feet .y) (add binary64 y (to .lift))) nought
+      (zero-alike (sub binary64 (to .feet .y) (add binary64 y (to .lift))) (sub-alike (to .feet .y) (add binary64 y (to .lift)) (to .feet .y) y refl (with-zero y (to .lift) held (flat .2)) ∙ no-rise))
+      ∙ (unfold absolute lt ofBits canonical in refl)
+
+  abbrev way : Float
+  way = across (from .feet) (to .feet)
+
+  way-alone : Alike (edgeLength from to) way
+  unfolding edgeLength
+  way-alone =
+      with-zero (add binary64 (to .lift) way) (settling (from .feet) (to .feet) (to .lift)) (add-fits binary64 (to .lift) way) no-settling
+      ∙ zero-with (to .lift) way (root-held _ (add-fits binary64 _ _)) (flat .2)
+
+  pub edge-is-straight : Alike (edgeLength from to) (straight from to)
+  unfolding distance minus
+  edge-is-straight =
+      let dx = sub binary64 (to .feet .x) (from .feet .x) in
+      let dy = sub binary64 (to .feet .y) y in
+      let dz = sub binary64 (to .feet .z) (from .feet .z) in
+      way-alone
+      ∙ sym (root-alike _ _ (add-alike (add binary64 (mul binary64 dx dx) (mul binary64 dy dy)) (mul binary64 dz dz) (mul binary64 dx dx) (mul binary64 dz dz)
+          (with-zero (mul binary64 dx dx) (mul binary64 dy dy) (mul-fits binary64 dx dx) (square-zero dy no-rise)) refl))
+
+-- ---- a list
+
+stop-held : (list : List ℕ) (at : ℕ) → T (fits binary64 (stopAt list at .feet .y))
+unfolding stopAt pointAt floatField
+stop-held list at = ofBits-fits binary64 _
+
+along : (list : List ℕ) (n k : ℕ) (t u : Float) → Alike t u → Level (stopAt list (48 * k) ∷ stopsFrom list (suc k) n) →
+    Alike (onward t (stopAt list (48 * k)) (stopsFrom list (suc k) n)) (straightOnward u (stopAt list (48 * k)) (stopsFrom list (suc k) n))
+along list zero k t u e h = e
+along list (suc n) k t u e h =
+    let p = stopAt list (48 * k) in
+    let q = stopAt list (48 * suc k) in
+    along list n (suc k) _ _ (add-alike t (edgeLength p q) u (straight p q) e (edge-is-straight p q (stop-held list (48 * k)) (h .0))) (h .1)
+
+-- of the stops of a list's whole records
+pub level-is-straight : (list : List ℕ) → Level (stopsFrom list 0 (length list / 48)) → Alike (lengthOf list) (straightThrough (stopsFrom list 0 (length list / 48)))
+unfolding lengthOf
+level-is-straight list = go (length list / 48)
+  where
+    go : (n : ℕ) → Level (stopsFrom list 0 n) → Alike (through (stopsFrom list 0 n)) (straightThrough (stopsFrom list 0 n))
+    go zero h = refl
+    go (suc n) h = along list n 0 nought nought refl h
