@@ -96,7 +96,7 @@ module _ (from to : Stop) (held : T (fits binary64 (from .feet .y))) (flat : Fla
       let dz = sub binary64 (to .feet .z) (from .feet .z) in
       way-alone
       ∙ sym (root-alike _ _ (add-alike (add binary64 (mul binary64 dx dx) (mul binary64 dy dy)) (mul binary64 dz dz) (mul binary64 dx dx) (mul binary64 dz dz)
-          (with-zero (mul binary64 dx dx) (mul binary64 dy dy) (mul-fits binary64 dx dx) (square-zero dy no-rise)) refl))
+      (with-zero (mul binary64 dx dx) (mul binary64 dy dy) (mul-fits binary64 dx dx) (square-zero dy no-rise)) refl))
 
 -- ---- a list
 
