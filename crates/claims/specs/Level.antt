@@ -1,12 +1,11 @@
 -- What 02, No. 2 leaves of 01's length: where a way is level, its length is the sum of straight distances as before, but for the sign of a zero.
-use Prim.Native.Nat.{ℕ, zero, suc, _-_, _*_, _/_}
+use Prim.Native.Nat.{ℕ, zero, suc, _*_, _/_}
 use mathlib.Core.Path.{_≡_, refl, sym, ap, _∙_}
-use mathlib.Core.Bool.{Bool, true, false}
+use mathlib.Core.Bool.{true, false}
 use mathlib.Core.List.{List, [], _∷_}
 use lib.Dec.{T}
-use lib.IntN.{ℤ}
 use lib.ListN.{length}
-use lib.Ieee.{Float, nan, inf, fin, binary64, fits, add, sub, mul, neg, lt, ofBits}
+use lib.Ieee.{Float, nan, inf, fin, binary64, fits, add, sub, mul, lt, ofBits}
 use lib.Ieee.Bits.{ofBits-fits}
 use lib.Ieee.Fits.{nan-fits, inf-fits, add-fits, mul-fits}
 use lib.Ieee.Scale.{finite}
@@ -19,7 +18,7 @@ use Rattle.world.specs.Boxes.{minus}
 use Rattle.world.specs.Space.{pointAt}
 use Rattle.lengths.specs.declared.Stop.{Stop}
 use Rattle.lengths.specs.Length.{across, settling, edgeLength, onward, through, stopAt, stopsFrom, lengthOf}
-use Rattle.arrival.specs.Alike.{Alike, Zero, zero-alike, nought-zero, finite-alike, add-alike, sub-alike, no-difference, with-zero, zero-with, square-zero, absolute-alike}
+use Rattle.arrival.specs.Alike.{Alike, Zero, zero-alike, finite-alike, add-alike, sub-alike, no-difference, with-zero, zero-with, square-zero, absolute-alike}
 
 -- ---- 01's length
 
