@@ -62,11 +62,14 @@ pub fn noticed_after(edit: Variant) -> Option<u64> {
     (0..1000).find(parts)
 }
 
-/// How many records a list has. A last digit of one edge shows best where few are
-/// summed.
+/// How many records a list has: seldom so few that it has no edge, often few,
+/// because the last digit of an edge shows best where few are summed.
 fn count(chance: &mut Chance) -> usize {
-    let end = chance.pick(&[3, 6, MOST + 1]);
-    chance.below(end)
+    let more = chance.pick(&[2, 6, MOST - 1]);
+    match chance.once_in(12) {
+        true => chance.below(2),
+        false => 2 + chance.below(more),
+    }
 }
 
 fn bytes(points: &[Waypoint]) -> Vec<u8> {
