@@ -33,8 +33,8 @@ const KINDS: [(&str, Make); 12] = [
     ("of all sizes", |chance| records(chance, of_any_size)),
     ("spoilt walks", spoilt),
     ("of any bytes", |chance| {
-        let records = chance.below(MOST + 1);
-        any_bytes(chance, WAYPOINT * records)
+        let length = WAYPOINT * count(chance);
+        any_bytes(chance, length)
     }),
 ];
 
@@ -62,6 +62,16 @@ pub fn noticed_after(edit: Variant) -> Option<u64> {
     (0..1000).find(parts)
 }
 
+/// How many records a list has: seldom so few that it has no edge, often few,
+/// because the last digit of an edge shows best where few are summed.
+fn count(chance: &mut Chance) -> usize {
+    let more = chance.pick(&[2, 6, MOST - 1]);
+    match chance.once_in(12) {
+        true => chance.below(2),
+        false => 2 + chance.below(more),
+    }
+}
+
 fn bytes(points: &[Waypoint]) -> Vec<u8> {
     points.iter().flat_map(Waypoint::bytes).collect()
 }
@@ -74,7 +84,7 @@ fn any_bytes(chance: &mut Chance, length: usize) -> Vec<u8> {
 /// Records of numbers of one kind. A lift is mostly at least 0; movement and door,
 /// which no length reads, are now and then any words.
 fn records(chance: &mut Chance, number: impl Fn(&mut Chance) -> f64) -> Vec<u8> {
-    let count = chance.below(MOST + 1);
+    let count = count(chance);
     let mut record = || {
         let [x, y, z, lift] = [(); 4].map(|()| number(chance));
         Waypoint {
@@ -155,7 +165,7 @@ fn walk(chance: &mut Chance) -> Vec<Waypoint> {
     let mut feet = [x + chance.part(), y + chance.part(), z + chance.part()];
     let jump = chance.pick(&[1.25, 1.252203352512, 1.1, 2.0]);
     let mut out = Vec::new();
-    for place in 0..chance.below(MOST + 1) {
+    for place in 0..count(chance) {
         let before = feet;
         let middle = |x: f64, chance: &mut Chance| x.floor() + chance.pick(&[-0.5, 0.5, 0.5, 1.5]);
         if place > 0 {
