@@ -444,12 +444,12 @@ uint64_t walkprint_edge(
  * program walkprint prints. It is not the cost by which the search compares ways:
  * that adds up straight lines from point to point. So a way that is found need not
  * be the one with the least length. Where all points lie at one height and every
- * lift is 0, the two are the same.
+ * lift is 0, cost and length are the same number.
  *
  * The list is not judged, and need be no route: the numbers that are read are
  * taken as they are. So with lifts below 0 the length can be below 0. Of two
  * records or more, a NaN makes it a NaN; an infinity, or numbers too large to be
- * added, make it infinite or a NaN.
+ * squared or added, make it infinite or a NaN.
  */
 double walkprint_length(const uint8_t *list, size_t list_length);
 

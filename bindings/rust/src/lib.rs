@@ -182,8 +182,8 @@ pub fn edge(t: &Tables, request: &Request, body: &Body, from: Point, to: Point) 
 /// A partial record at the end is not read; nor are movements, doors and the
 /// first record's lift. The list need be no route: its numbers are taken as they
 /// are. So with lifts below 0 the length can be below 0. Of two records or more, a
-/// NaN makes it a NaN; an infinity, or numbers too large to be added, make it
-/// infinite or a NaN.
+/// NaN makes it a NaN; an infinity, or numbers too large to be squared or added,
+/// make it infinite or a NaN.
 pub fn length(list: &[u8]) -> f64 {
     raw::length(list)
 }

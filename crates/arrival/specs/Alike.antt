@@ -195,7 +195,7 @@ nil-with (fin s (suc m) e) h =
 pub zero-with : (z x : Float) → T (fits binary64 x) → Zero z → Alike (add binary64 z x) x
 zero-with z x h e = sym (add-left z x) ∙ ap (λ (v : Float). canonical (add binary64 v x)) e ∙ nil-with x h
 
--- the square of a zero is one
+-- the square of a zero is a zero
 pub square-zero : (z : Float) → Zero z → Zero (mul binary64 z z)
 square-zero z h = sym (by-zeros (λ v. canonical (mul binary64 v v)) (λ s e. zero-squared false (pos zero) ∙ sym (zero-squared s e)) z) ∙ ap (λ (v : Float). canonical (mul binary64 v v)) h ∙ zero-squared false (pos zero)
   where

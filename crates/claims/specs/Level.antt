@@ -17,7 +17,7 @@ use Rattle.root.specs.Distance.{squareRoot, distance}
 use Rattle.world.specs.Boxes.{minus}
 use Rattle.world.specs.Space.{pointAt}
 use Rattle.lengths.specs.declared.Stop.{Stop}
-use Rattle.lengths.specs.Length.{across, settling, edgeLength, onward, through, stopAt, stopsFrom, lengthOf}
+use Rattle.lengths.specs.Length.{crossingLength, settleLength, edgeLength, sumOnward, sumThrough, stopAt, stopsFrom, lengthOf}
 use Rattle.arrival.specs.Alike.{Alike, Zero, zero-alike, finite-alike, add-alike, sub-alike, no-difference, with-zero, zero-with, square-zero, absolute-alike}
 
 -- ---- 01's length
@@ -26,15 +26,9 @@ use Rattle.arrival.specs.Alike.{Alike, Zero, zero-alike, finite-alike, add-alik
 abbrev pub straight : Stop → Stop → Float
 straight from to = let d = minus (to .feet) (from .feet) in distance (d .x) (d .y) (d .z)
 
--- "the f64 sum .. in list order"
-abbrev pub straightOnward : Float → Stop → List Stop → Float
-straightOnward total p [] = total
-straightOnward total p (q ∷ qs) = straightOnward (add binary64 total (straight p q)) q qs
-
--- "from 0.0"
-abbrev pub straightThrough : List Stop → Float
-straightThrough [] = nought
-straightThrough (p ∷ ps) = straightOnward nought p ps
+-- "the f64 sum, from 0.0 in list order", of these: of the stops of a list's whole records
+abbrev pub straightOf : List ℕ → Float
+straightOf list = sumThrough straight (stopsFrom list 0 (length list / 48))
 
 -- ---- a level way
 
@@ -72,19 +66,19 @@ module _ (from to : Stop) (held : T (fits binary64 (from .feet .y))) (flat : Fla
   no-rise : Zero (sub binary64 (to .feet .y) y)
   no-rise = no-difference (to .feet .y) y (flat .1) (finite-alike (to .feet .y) y (flat .1) ∙ flat .0)
 
-  no-settling : Zero (settling (from .feet) (to .feet) (to .lift))
+  no-settling : Zero (settleLength (from .feet) (to .feet) (to .lift))
   no-settling =
       absolute-alike (sub binary64 (to .feet .y) (add binary64 y (to .lift))) nought
       (zero-alike (sub binary64 (to .feet .y) (add binary64 y (to .lift))) (sub-alike (to .feet .y) (add binary64 y (to .lift)) (to .feet .y) y refl (with-zero y (to .lift) held (flat .2)) ∙ no-rise))
       ∙ (unfold absolute lt ofBits canonical in refl)
 
   abbrev way : Float
-  way = across (from .feet) (to .feet)
+  way = crossingLength (from .feet) (to .feet)
 
   way-alone : Alike (edgeLength from to) way
   unfolding edgeLength
   way-alone =
-      with-zero (add binary64 (to .lift) way) (settling (from .feet) (to .feet) (to .lift)) (add-fits binary64 (to .lift) way) no-settling
+      with-zero (add binary64 (to .lift) way) (settleLength (from .feet) (to .feet) (to .lift)) (add-fits binary64 (to .lift) way) no-settling
       ∙ zero-with (to .lift) way (root-held _ (add-fits binary64 _ _)) (flat .2)
 
   pub edge-is-straight : Alike (edgeLength from to) (straight from to)
@@ -103,19 +97,18 @@ stop-held : (list : List ℕ) (at : ℕ) → T (fits binary64 (stopAt list at .f
 unfolding stopAt pointAt floatField
 stop-held list at = ofBits-fits binary64 _
 
-along : (list : List ℕ) (n k : ℕ) (t u : Float) → Alike t u → Level (stopAt list (48 * k) ∷ stopsFrom list (suc k) n) →
-    Alike (onward t (stopAt list (48 * k)) (stopsFrom list (suc k) n)) (straightOnward u (stopAt list (48 * k)) (stopsFrom list (suc k) n))
-along list zero k t u e h = e
-along list (suc n) k t u e h =
+level-along : (list : List ℕ) (n k : ℕ) (t u : Float) → Alike t u → Level (stopAt list (48 * k) ∷ stopsFrom list (suc k) n) →
+    Alike (sumOnward edgeLength t (stopAt list (48 * k)) (stopsFrom list (suc k) n)) (sumOnward straight u (stopAt list (48 * k)) (stopsFrom list (suc k) n))
+level-along list zero k t u e h = e
+level-along list (suc n) k t u e h =
     let p = stopAt list (48 * k) in
     let q = stopAt list (48 * suc k) in
-    along list n (suc k) _ _ (add-alike t (edgeLength p q) u (straight p q) e (edge-is-straight p q (stop-held list (48 * k)) (h .0))) (h .1)
+    level-along list n (suc k) _ _ (add-alike t (edgeLength p q) u (straight p q) e (edge-is-straight p q (stop-held list (48 * k)) (h .0))) (h .1)
 
--- of the stops of a list's whole records
-pub level-is-straight : (list : List ℕ) → Level (stopsFrom list 0 (length list / 48)) → Alike (lengthOf list) (straightThrough (stopsFrom list 0 (length list / 48)))
+pub level-is-straight : (list : List ℕ) → Level (stopsFrom list 0 (length list / 48)) → Alike (lengthOf list) (straightOf list)
 unfolding lengthOf
 level-is-straight list = go (length list / 48)
   where
-    go : (n : ℕ) → Level (stopsFrom list 0 n) → Alike (through (stopsFrom list 0 n)) (straightThrough (stopsFrom list 0 n))
+    go : (n : ℕ) → Level (stopsFrom list 0 n) → Alike (sumThrough edgeLength (stopsFrom list 0 n)) (sumThrough straight (stopsFrom list 0 n))
     go zero h = refl
-    go (suc n) h = along list n 0 nought nought refl h
+    go (suc n) h = level-along list n 0 nought nought refl h

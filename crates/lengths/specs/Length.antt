@@ -16,30 +16,30 @@ use Rattle.lengths.specs.declared.Stop.{Stop}
 -- ---- an edge
 
 -- "the root of dx² + dz²": the way across
-abbrev pub across : Point → Point → Float
-across from to =
+abbrev pub crossingLength : Point → Point → Float
+crossingLength from to =
     let dx = sub binary64 (to .x) (from .x) in
     let dz = sub binary64 (to .z) (from .z) in squareRoot (add binary64 (mul binary64 dx dx) (mul binary64 dz dz))
 
 -- "the size of to.y - (from.y + lift)": the way up or down from the raised height to the target
-abbrev pub settling : Point → Point → Float → Float
-settling from to lift = absolute (sub binary64 (to .y) (add binary64 (from .y) lift))
+abbrev pub settleLength : Point → Point → Float → Float
+settleLength from to lift = absolute (sub binary64 (to .y) (add binary64 (from .y) lift))
 
 -- "lift, plus .., plus .., added in that order": of an edge from one stop to another, which has the lift of the later one
 unfoldable pub edgeLength : Stop → Stop → Float
-edgeLength from to = add binary64 (add binary64 (to .lift) (across (from .feet) (to .feet))) (settling (from .feet) (to .feet) (to .lift))
+edgeLength from to = add binary64 (add binary64 (to .lift) (crossingLength (from .feet) (to .feet))) (settleLength (from .feet) (to .feet) (to .lift))
 
 -- ---- a list
 
--- "then added to the sum", "in list order": a sum so far at a stop, and the edges through the stops that follow
-abbrev pub onward : Float → Stop → List Stop → Float
-onward total p [] = total
-onward total p (q ∷ qs) = onward (add binary64 total (edgeLength p q)) q qs
+-- "then added to the sum", "in list order": a sum so far at a stop, and the edges through the stops that follow, each as long as `edge` says
+abbrev pub sumOnward : (Stop → Stop → Float) → Float → Stop → List Stop → Float
+sumOnward edge total p [] = total
+sumOnward edge total p (q ∷ qs) = sumOnward edge (add binary64 total (edge p q)) q qs
 
 -- "from 0.0"
-abbrev pub through : List Stop → Float
-through [] = nought
-through (p ∷ ps) = onward nought p ps
+abbrev pub sumThrough : (Stop → Stop → Float) → List Stop → Float
+sumThrough edge [] = nought
+sumThrough edge (p ∷ ps) = sumOnward edge nought p ps
 
 -- "Waypoint record .. bytes: feet x, y, z, lift, ..": of the record that begins at an offset its feet and its lift
 unfoldable pub stopAt : List ℕ → ℕ → Stop
@@ -52,4 +52,4 @@ stopsFrom list k (suc n) = stopAt list (48 * k) ∷ stopsFrom list (suc k) n
 
 -- the length of the whole records of a list: a partial one at its end is not read
 unfoldable pub lengthOf : List ℕ → Float
-lengthOf list = through (stopsFrom list 0 (length list / 48))
+lengthOf list = sumThrough edgeLength (stopsFrom list 0 (length list / 48))

@@ -7,7 +7,7 @@ use scene::{NO_DOOR, WAYPOINT, Waypoint};
 
 use crate::chance::Chance;
 
-/// The most records of a list.
+/// The most records of a list, before a walk is spoilt.
 const MOST: usize = 40;
 
 /// Makes the bytes of a list.

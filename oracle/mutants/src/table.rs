@@ -99,14 +99,20 @@ fn directed(folder: &Path) -> Vec<Judged> {
         .collect()
 }
 
-/// The variants that no directed scene tells from the reading by its own name.
+/// The variants that no directed scene of their name tells from the reading. One
+/// stair shows several variants of lengths, so for these any scene does.
 pub fn survivors(folder: &Path) -> Vec<Variant> {
     let scenes = directed(folder);
-    let own = |variant: Variant| scenes.iter().find(|judged| judged.name == variant.name());
+    let told = |variant: Variant| {
+        let mut own = scenes
+            .iter()
+            .filter(|judged| variant.is_of_lengths() || judged.name == variant.name());
+        own.any(|judged| judged.tells(variant))
+    };
     VARIANTS
         .iter()
         .copied()
-        .filter(|&variant| !own(variant).is_some_and(|judged| judged.tells(variant)))
+        .filter(|&variant| !told(variant))
         .collect()
 }
 

@@ -586,7 +586,7 @@ variants! {
             "A partial record at the end is not read" {
                 LengthOfAPartialRecord: "it is read as if zeros followed",
             }
-            "nor [is] the first one's lift [read]" {
+            "nor are .. the first record's lift" {
                 LengthWithTheFirstLift: "the sum begins at the first record's lift",
             }
         }
