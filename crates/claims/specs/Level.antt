@@ -1,24 +1,28 @@
--- What 02, No. 2 leaves of 01's length: where a way is level, its length is the sum of straight distances as before, but for the sign of a zero.
+-- What 02, No. 2 leaves of 01's length: where a way is level, its length is the sum of straight distances as before, to the bit.
 use Prim.Native.Nat.{ℕ, zero, suc, _*_, _/_}
-use mathlib.Core.Path.{_≡_, refl, sym, ap, _∙_}
+use mathlib.Core.Path.{_≡_, refl, sym, ap, _∙_, subst}
 use mathlib.Core.Bool.{true, false}
 use mathlib.Core.List.{List, [], _∷_}
+use mathlib.Core.Logic.{_⊎_, inl, inr}
 use lib.Dec.{T}
+use lib.IntN.{ℤ}
 use lib.ListN.{length}
-use lib.Ieee.{Float, nan, inf, fin, binary64, fits, add, sub, mul, lt, ofBits}
+use lib.Ieee.{Float, nan, inf, fin, binary64, fits, isNan, add, sub, mul, lt, ofBits}
 use lib.Ieee.Bits.{ofBits-fits}
 use lib.Ieee.Fits.{nan-fits, inf-fits, add-fits, mul-fits}
 use lib.Ieee.Scale.{finite}
 use Rattle.fields.specs.Little.{floatField}
 use Rattle.floats.specs.Floats.{nought, absolute, canonical}
-use Rattle.floats.specs.Zeros.{by-zeros}
+use Rattle.floats.specs.Zeros.{nil, by-zeros}
 use Rattle.root.specs.Method.{rootOf, answer}
 use Rattle.root.specs.Distance.{squareRoot, distance}
 use Rattle.world.specs.Boxes.{minus}
 use Rattle.world.specs.Space.{pointAt}
 use Rattle.lengths.specs.declared.Stop.{Stop}
 use Rattle.lengths.specs.Length.{crossingLength, settleLength, edgeLength, sumOnward, sumThrough, stopAt, stopsFrom, lengthOf}
-use Rattle.arrival.specs.Alike.{Alike, Zero, zero-alike, finite-alike, add-alike, sub-alike, no-difference, with-zero, zero-with, square-zero, absolute-alike}
+use Rattle.arrival.specs.Exact.{unit-exponent}
+use Rattle.arrival.specs.Alike.{Alike, Zero, zero-alike, finite-alike, zero-or-same, add-alike, sub-alike, no-difference, with-zero, zero-with, square-zero, absolute-alike}
+use Rattle.claims.specs.Laws.NotNegative.{NotNegative, endless, sized, nonzero, sum-not-negative, square-not-negative, root-not-negative, zero-plus, plus-zero}
 
 -- ---- 01's length
 
@@ -40,6 +44,46 @@ abbrev pub Level : List Stop → Type 0
 Level [] = Unit {0}
 Level (p ∷ []) = Unit {0}
 Level (p ∷ q ∷ qs) = (Flat p q) × (Level (q ∷ qs))
+
+-- ---- numbers that are told apart by their size alone
+
+-- a NaN, or a number that is not below 0 and not -0.0
+abbrev Plain : Float → Type 0
+Plain x = (NotNegative x) ⊎ (x ≡ nan)
+
+add-nan : (x : Float) → add binary64 x nan ≡ nan
+unfolding add
+add-nan nan = refl
+add-nan (inf s) = refl
+add-nan (fin s m e) = refl
+
+plain-sum : {x y : Float} → Plain x → Plain y → Plain (add binary64 x y)
+plain-sum (inl m) (inl n) = inl (sum-not-negative m n)
+plain-sum {x} p (inr e) = inr (rw e (add-nan x))
+plain-sum (inr e) (inl n) = inr (rw e (unfold add in refl))
+
+plain-square : (x : Float) → Plain (mul binary64 x x)
+plain-square nan = inr (unfold mul in refl)
+plain-square (inf s) = inl (square-not-negative (inf s) (unfold isNan in refl))
+plain-square (fin s m e) = inl (square-not-negative (fin s m e) (unfold isNan in refl))
+
+plain-root : (x : Float) → T (fits binary64 x) → Plain x → Plain (squareRoot x)
+plain-root x h (inl n) = inl (root-not-negative h n)
+plain-root x h (inr e) = inr (rw e (unfold squareRoot in refl))
+
+zero-is-one : {x : Float} → Zero x → Plain x → T (fits binary64 x) → x ≡ nil
+unfolding canonical fits
+zero-is-one z (inl endless) f = absurd (subst (λ v. T (nonzero v)) z tt)
+zero-is-one z (inl (sized zero e)) f = ap (λ (d : ℤ). fin false zero d) (unit-exponent e f)
+zero-is-one z (inl (sized (suc m) e)) f = absurd (subst (λ v. T (nonzero v)) z tt)
+zero-is-one {x} z (inr e) f = absurd (subst (λ v. T (nonzero v)) (ap canonical (sym e) ∙ z) tt)
+
+one : (x y : Float) → Alike x y → Plain x → Plain y → T (fits binary64 x) → T (fits binary64 y) → x ≡ y
+one x y a p q f g = go (zero-or-same x y a)
+  where
+    go : ((Zero x) × (Zero y)) ⊎ (x ≡ y) → x ≡ y
+    go (inl z) = zero-is-one (z .0) p f ∙ sym (zero-is-one (z .1) q g)
+    go (inr e) = e
 
 -- ---- one edge
 
@@ -81,9 +125,9 @@ module _ (from to : Stop) (held : T (fits binary64 (from .feet .y))) (flat : Fla
       with-zero (add binary64 (to .lift) way) (settleLength (from .feet) (to .feet) (to .lift)) (add-fits binary64 (to .lift) way) no-settling
       ∙ zero-with (to .lift) way (root-held _ (add-fits binary64 _ _)) (flat .2)
 
-  pub edge-is-straight : Alike (edgeLength from to) (straight from to)
+  straight-alike : Alike (edgeLength from to) (straight from to)
   unfolding distance minus
-  edge-is-straight =
+  straight-alike =
       let dx = sub binary64 (to .feet .x) (from .feet .x) in
       let dy = sub binary64 (to .feet .y) y in
       let dz = sub binary64 (to .feet .z) (from .feet .z) in
@@ -91,24 +135,43 @@ module _ (from to : Stop) (held : T (fits binary64 (from .feet .y))) (flat : Fla
       ∙ sym (root-alike _ _ (add-alike (add binary64 (mul binary64 dx dx) (mul binary64 dy dy)) (mul binary64 dz dz) (mul binary64 dx dx) (mul binary64 dz dz)
       (with-zero (mul binary64 dx dx) (mul binary64 dy dy) (mul-fits binary64 dx dx) (square-zero dy no-rise)) refl))
 
+  edge-plain : Plain (edgeLength from to)
+  unfolding edgeLength
+  edge-plain = go (plain-root _ (add-fits binary64 _ _) (plain-sum (plain-square (sub binary64 (to .feet .x) (from .feet .x))) (plain-square (sub binary64 (to .feet .z) (from .feet .z)))))
+    where
+      go : Plain way → Plain (add binary64 (add binary64 (to .lift) way) (settleLength (from .feet) (to .feet) (to .lift)))
+      go (inl n) = inl (plus-zero (settleLength (from .feet) (to .feet) (to .lift)) (zero-plus (to .lift) (flat .2) n) no-settling)
+      go (inr e) = inr (rw (e, add-nan (to .lift)) (unfold add in refl))
+
+  straight-plain : Plain (straight from to)
+  unfolding distance
+  straight-plain =
+      let d = minus (to .feet) (from .feet) in
+      plain-root _ (add-fits binary64 _ _) (plain-sum (plain-sum (plain-square (d .x)) (plain-square (d .y))) (plain-square (d .z)))
+
+  pub edge-is-straight : edgeLength from to ≡ straight from to
+  unfolding edgeLength distance
+  edge-is-straight = one _ _ straight-alike edge-plain straight-plain (add-fits binary64 _ _) (root-held _ (add-fits binary64 _ _))
+
 -- ---- a list
 
 stop-held : (list : List ℕ) (at : ℕ) → T (fits binary64 (stopAt list at .feet .y))
 unfolding stopAt pointAt floatField
 stop-held list at = ofBits-fits binary64 _
 
-level-along : (list : List ℕ) (n k : ℕ) (t u : Float) → Alike t u → Level (stopAt list (48 * k) ∷ stopsFrom list (suc k) n) →
-    Alike (sumOnward edgeLength t (stopAt list (48 * k)) (stopsFrom list (suc k) n)) (sumOnward straight u (stopAt list (48 * k)) (stopsFrom list (suc k) n))
-level-along list zero k t u e h = e
-level-along list (suc n) k t u e h =
+level-along : (list : List ℕ) (n k : ℕ) (t : Float) → Level (stopAt list (48 * k) ∷ stopsFrom list (suc k) n) →
+    sumOnward edgeLength t (stopAt list (48 * k)) (stopsFrom list (suc k) n) ≡ sumOnward straight t (stopAt list (48 * k)) (stopsFrom list (suc k) n)
+level-along list zero k t h = refl
+level-along list (suc n) k t h =
     let p = stopAt list (48 * k) in
     let q = stopAt list (48 * suc k) in
-    level-along list n (suc k) _ _ (add-alike t (edgeLength p q) u (straight p q) e (edge-is-straight p q (stop-held list (48 * k)) (h .0))) (h .1)
+    ap (λ (l : Float). sumOnward edgeLength (add binary64 t l) q (stopsFrom list (suc (suc k)) n)) (edge-is-straight p q (stop-held list (48 * k)) (h .0))
+    ∙ level-along list n (suc k) (add binary64 t (straight p q)) (h .1)
 
-pub level-is-straight : (list : List ℕ) → Level (stopsFrom list 0 (length list / 48)) → Alike (lengthOf list) (straightOf list)
+pub level-is-straight : (list : List ℕ) → Level (stopsFrom list 0 (length list / 48)) → lengthOf list ≡ straightOf list
 unfolding lengthOf
 level-is-straight list = go (length list / 48)
   where
-    go : (n : ℕ) → Level (stopsFrom list 0 n) → Alike (sumThrough edgeLength (stopsFrom list 0 n)) (sumThrough straight (stopsFrom list 0 n))
+    go : (n : ℕ) → Level (stopsFrom list 0 n) → sumThrough edgeLength (stopsFrom list 0 n) ≡ sumThrough straight (stopsFrom list 0 n)
     go zero h = refl
-    go (suc n) h = level-along list n 0 nought nought refl h
+    go (suc n) h = level-along list n 0 nought h

@@ -1,8 +1,10 @@
 -- Numbers that are not negative, and the operations that give one: costs and estimates are made by these alone.
 use Prim.Native.Nat.{ℕ, zero, suc, _+_, _-_, _*_, _^_}
-use native.Mathlib.Nat.{zero-lt-suc}
+use native.Mathlib.Omega.{arith}
+use native.Mathlib.Nat.{zero-lt-suc, zero-mul}
 use mathlib.Core.Path.{_≡_, refl, sym, subst}
 use mathlib.Core.Bool.{Bool, true, false, not, cond}
+use borrow.Author.Tests.{le-ltb}
 use lib.Dec.{T, ltb, lt→ltb}
 use lib.IntN.{ℤ}
 use lib.Ieee.{Float, nan, inf, fin, binary64, fits, low, emax, isNan, up, down, neg, add, sub, mul, sum, round, units, odd, ofBits}
@@ -12,6 +14,8 @@ use lib.Ieee.Scale.{finite}
 use Rattle.root.specs.Method.{answer}
 use Rattle.root.specs.Distance.{squareRoot, distance}
 use Rattle.root.specs.Laws.{square-root-right}
+use Rattle.floats.specs.Floats.{canonical}
+use Rattle.arrival.specs.Alike.{Zero}
 
 -- no NaN, and with the sign of 0.0
 pub data NotNegative : Float → Type 0 where
@@ -61,13 +65,51 @@ sum-not-negative endless (sized n d) = endless
 sum-not-negative (sized m e) endless = endless
 sum-not-negative (sized m e) (sized n d) = rounded (m * up e * down d + n * up d * down e) (down e * down d)
 
-square-not-negative : (x : Float) → isNan x ≡ false → NotNegative (mul binary64 x x)
+pub square-not-negative : (x : Float) → isNan x ≡ false → NotNegative (mul binary64 x x)
 unfolding mul isNan
 square-not-negative nan h = absurd (subst T h tt)
 square-not-negative (inf true) h = endless
 square-not-negative (inf false) h = endless
 square-not-negative (fin true m e) h = rounded (m * up e * (m * up e)) (down e * down e)
 square-not-negative (fin false m e) h = rounded (m * up e * (m * up e)) (down e * down e)
+
+-- a zero of either sign, added on either side
+zero-sum : (s : Bool) (a b c : ℕ) → a ≡ 0 → NotNegative (sum binary64 s a false b c)
+unfolding sum
+zero-sum false a b c e = rounded (a + b) c
+zero-sum true a b c e = rw (e, le-ltb b 0 (omega arith)) (go (ltb 0 b))
+  where
+    go : (q : Bool) → NotNegative (cond q (round binary64 false (b - 0) c) (round binary64 false (0 - b) c))
+    go true = rounded (b - 0) c
+    go false = rounded (0 - b) c
+
+sum-zero : (s : Bool) (a b c : ℕ) → b ≡ 0 → NotNegative (sum binary64 false a s b c)
+unfolding sum
+sum-zero false a b c e = rounded (a + b) c
+sum-zero true a b c e = rw (e, le-ltb a 0 (omega arith)) (rounded (a - 0) c)
+
+-- tells a zero from the rest
+abbrev pub nonzero : Float → Bool
+nonzero nan = true
+nonzero (inf s) = true
+nonzero (fin s zero e) = false
+nonzero (fin s (suc m) e) = true
+
+pub zero-plus : (z : Float) {x : Float} → Zero z → NotNegative x → NotNegative (add binary64 z x)
+unfolding add canonical
+zero-plus nan h n = absurd (subst (λ v. T (nonzero v)) h tt)
+zero-plus (inf s) h n = absurd (subst (λ v. T (nonzero v)) h tt)
+zero-plus (fin s (suc m) e) h n = absurd (subst (λ v. T (nonzero v)) h tt)
+zero-plus (fin s zero e) h endless = endless
+zero-plus (fin s zero e) h (sized n d) = zero-sum s (0 * up e * down d) (n * up d * down e) (down e * down d) (simp zero-mul)
+
+pub plus-zero : {x : Float} (z : Float) → NotNegative x → Zero z → NotNegative (add binary64 x z)
+unfolding add canonical
+plus-zero nan n h = absurd (subst (λ v. T (nonzero v)) h tt)
+plus-zero (inf s) n h = absurd (subst (λ v. T (nonzero v)) h tt)
+plus-zero (fin s (suc m) e) n h = absurd (subst (λ v. T (nonzero v)) h tt)
+plus-zero (fin s zero e) endless h = endless
+plus-zero (fin s zero e) (sized m d) h = sum-zero s (m * up d * down e) (0 * up e * down d) (down d * down e) (simp zero-mul)
 
 -- 1.5 times as much
 pub half-more-not-negative : {x : Float} → NotNegative x → NotNegative (mul binary64 (ofBits binary64 0x3ff8_0000_0000_0000) x)
@@ -81,7 +123,7 @@ positive-not-negative (inf s) p = absurd p
 positive-not-negative (fin true m e) p = absurd p
 positive-not-negative (fin false m e) p = sized m e
 
-root-not-negative : {x : Float} → T (fits binary64 x) → NotNegative x → NotNegative (squareRoot x)
+pub root-not-negative : {x : Float} → T (fits binary64 x) → NotNegative x → NotNegative (squareRoot x)
 unfolding squareRoot answer
 root-not-negative t endless = endless
 root-not-negative t (sized zero e) = sized zero e
