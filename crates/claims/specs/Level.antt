@@ -22,7 +22,7 @@ use Rattle.lengths.specs.declared.Stop.{Stop}
 use Rattle.lengths.specs.Length.{crossingLength, settleLength, edgeLength, sumOnward, sumThrough, stopAt, stopsFrom, lengthOf}
 use Rattle.arrival.specs.Exact.{unit-exponent}
 use Rattle.arrival.specs.Alike.{Alike, Zero, zero-alike, finite-alike, zero-or-same, add-alike, sub-alike, no-difference, with-zero, zero-with, square-zero, absolute-alike}
-use Rattle.claims.specs.Laws.NotNegative.{NotNegative, endless, sized, nonzero, sum-not-negative, square-not-negative, root-not-negative, zero-plus, plus-zero}
+use Rattle.claims.specs.Laws.NotNegative.{NotNegative, endless, sized, isNoZero, sum-not-negative, square-not-negative, root-not-negative, zero-plus, plus-zero}
 
 -- ---- 01's length
 
@@ -48,8 +48,8 @@ Level (p ∷ q ∷ qs) = (Flat p q) × (Level (q ∷ qs))
 -- ---- numbers that are told apart by their size alone
 
 -- a NaN, or a number that is not below 0 and not -0.0
-abbrev Plain : Float → Type 0
-Plain x = (NotNegative x) ⊎ (x ≡ nan)
+abbrev SignFree : Float → Type 0
+SignFree x = (NotNegative x) ⊎ (x ≡ nan)
 
 add-nan : (x : Float) → add binary64 x nan ≡ nan
 unfolding add
@@ -57,32 +57,32 @@ add-nan nan = refl
 add-nan (inf s) = refl
 add-nan (fin s m e) = refl
 
-plain-sum : {x y : Float} → Plain x → Plain y → Plain (add binary64 x y)
-plain-sum (inl m) (inl n) = inl (sum-not-negative m n)
-plain-sum {x} p (inr e) = inr (rw e (add-nan x))
-plain-sum (inr e) (inl n) = inr (rw e (unfold add in refl))
+sign-free-sum : {x y : Float} → SignFree x → SignFree y → SignFree (add binary64 x y)
+sign-free-sum (inl m) (inl n) = inl (sum-not-negative m n)
+sign-free-sum {x} p (inr e) = inr (rw e (add-nan x))
+sign-free-sum (inr e) (inl n) = inr (rw e (unfold add in refl))
 
-plain-square : (x : Float) → Plain (mul binary64 x x)
-plain-square nan = inr (unfold mul in refl)
-plain-square (inf s) = inl (square-not-negative (inf s) (unfold isNan in refl))
-plain-square (fin s m e) = inl (square-not-negative (fin s m e) (unfold isNan in refl))
+sign-free-square : (x : Float) → SignFree (mul binary64 x x)
+sign-free-square nan = inr (unfold mul in refl)
+sign-free-square (inf s) = inl (square-not-negative (inf s) (unfold isNan in refl))
+sign-free-square (fin s m e) = inl (square-not-negative (fin s m e) (unfold isNan in refl))
 
-plain-root : (x : Float) → T (fits binary64 x) → Plain x → Plain (squareRoot x)
-plain-root x h (inl n) = inl (root-not-negative h n)
-plain-root x h (inr e) = inr (rw e (unfold squareRoot in refl))
+sign-free-root : (x : Float) → T (fits binary64 x) → SignFree x → SignFree (squareRoot x)
+sign-free-root x h (inl n) = inl (root-not-negative h n)
+sign-free-root x h (inr e) = inr (rw e (unfold squareRoot in refl))
 
-zero-is-one : {x : Float} → Zero x → Plain x → T (fits binary64 x) → x ≡ nil
+zero-is-nil : {x : Float} → Zero x → SignFree x → T (fits binary64 x) → x ≡ nil
 unfolding canonical fits
-zero-is-one z (inl endless) f = absurd (subst (λ v. T (nonzero v)) z tt)
-zero-is-one z (inl (sized zero e)) f = ap (λ (d : ℤ). fin false zero d) (unit-exponent e f)
-zero-is-one z (inl (sized (suc m) e)) f = absurd (subst (λ v. T (nonzero v)) z tt)
-zero-is-one {x} z (inr e) f = absurd (subst (λ v. T (nonzero v)) (ap canonical (sym e) ∙ z) tt)
+zero-is-nil z (inl endless) f = absurd (subst (λ v. T (isNoZero v)) z tt)
+zero-is-nil z (inl (sized zero e)) f = ap (λ (d : ℤ). fin false zero d) (unit-exponent e f)
+zero-is-nil z (inl (sized (suc m) e)) f = absurd (subst (λ v. T (isNoZero v)) z tt)
+zero-is-nil {x} z (inr e) f = absurd (subst (λ v. T (isNoZero v)) (ap canonical (sym e) ∙ z) tt)
 
-one : (x y : Float) → Alike x y → Plain x → Plain y → T (fits binary64 x) → T (fits binary64 y) → x ≡ y
-one x y a p q f g = go (zero-or-same x y a)
+alike-is-same : (x y : Float) → Alike x y → SignFree x → SignFree y → T (fits binary64 x) → T (fits binary64 y) → x ≡ y
+alike-is-same x y a p q f g = go (zero-or-same x y a)
   where
     go : ((Zero x) × (Zero y)) ⊎ (x ≡ y) → x ≡ y
-    go (inl z) = zero-is-one (z .0) p f ∙ sym (zero-is-one (z .1) q g)
+    go (inl z) = zero-is-nil (z .0) p f ∙ sym (zero-is-nil (z .1) q g)
     go (inr e) = e
 
 -- ---- one edge
@@ -135,23 +135,23 @@ module _ (from to : Stop) (held : T (fits binary64 (from .feet .y))) (flat : Fla
       ∙ sym (root-alike _ _ (add-alike (add binary64 (mul binary64 dx dx) (mul binary64 dy dy)) (mul binary64 dz dz) (mul binary64 dx dx) (mul binary64 dz dz)
       (with-zero (mul binary64 dx dx) (mul binary64 dy dy) (mul-fits binary64 dx dx) (square-zero dy no-rise)) refl))
 
-  edge-plain : Plain (edgeLength from to)
+  edge-sign-free : SignFree (edgeLength from to)
   unfolding edgeLength
-  edge-plain = go (plain-root _ (add-fits binary64 _ _) (plain-sum (plain-square (sub binary64 (to .feet .x) (from .feet .x))) (plain-square (sub binary64 (to .feet .z) (from .feet .z)))))
+  edge-sign-free = go (sign-free-root _ (add-fits binary64 _ _) (sign-free-sum (sign-free-square (sub binary64 (to .feet .x) (from .feet .x))) (sign-free-square (sub binary64 (to .feet .z) (from .feet .z)))))
     where
-      go : Plain way → Plain (add binary64 (add binary64 (to .lift) way) (settleLength (from .feet) (to .feet) (to .lift)))
+      go : SignFree way → SignFree (add binary64 (add binary64 (to .lift) way) (settleLength (from .feet) (to .feet) (to .lift)))
       go (inl n) = inl (plus-zero (settleLength (from .feet) (to .feet) (to .lift)) (zero-plus (to .lift) (flat .2) n) no-settling)
       go (inr e) = inr (rw (e, add-nan (to .lift)) (unfold add in refl))
 
-  straight-plain : Plain (straight from to)
+  straight-sign-free : SignFree (straight from to)
   unfolding distance
-  straight-plain =
+  straight-sign-free =
       let d = minus (to .feet) (from .feet) in
-      plain-root _ (add-fits binary64 _ _) (plain-sum (plain-sum (plain-square (d .x)) (plain-square (d .y))) (plain-square (d .z)))
+      sign-free-root _ (add-fits binary64 _ _) (sign-free-sum (sign-free-sum (sign-free-square (d .x)) (sign-free-square (d .y))) (sign-free-square (d .z)))
 
   pub edge-is-straight : edgeLength from to ≡ straight from to
   unfolding edgeLength distance
-  edge-is-straight = one _ _ straight-alike edge-plain straight-plain (add-fits binary64 _ _) (root-held _ (add-fits binary64 _ _))
+  edge-is-straight = alike-is-same _ _ straight-alike edge-sign-free straight-sign-free (add-fits binary64 _ _) (root-held _ (add-fits binary64 _ _))
 
 -- ---- a list
 

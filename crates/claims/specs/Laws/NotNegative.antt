@@ -89,25 +89,25 @@ sum-zero false a b c e = rounded (a + b) c
 sum-zero true a b c e = rw (e, le-ltb a 0 (omega arith)) (rounded (a - 0) c)
 
 -- tells a zero from the rest
-abbrev pub nonzero : Float → Bool
-nonzero nan = true
-nonzero (inf s) = true
-nonzero (fin s zero e) = false
-nonzero (fin s (suc m) e) = true
+abbrev pub isNoZero : Float → Bool
+isNoZero nan = true
+isNoZero (inf s) = true
+isNoZero (fin s zero e) = false
+isNoZero (fin s (suc m) e) = true
 
 pub zero-plus : (z : Float) {x : Float} → Zero z → NotNegative x → NotNegative (add binary64 z x)
 unfolding add canonical
-zero-plus nan h n = absurd (subst (λ v. T (nonzero v)) h tt)
-zero-plus (inf s) h n = absurd (subst (λ v. T (nonzero v)) h tt)
-zero-plus (fin s (suc m) e) h n = absurd (subst (λ v. T (nonzero v)) h tt)
+zero-plus nan h n = absurd (subst (λ v. T (isNoZero v)) h tt)
+zero-plus (inf s) h n = absurd (subst (λ v. T (isNoZero v)) h tt)
+zero-plus (fin s (suc m) e) h n = absurd (subst (λ v. T (isNoZero v)) h tt)
 zero-plus (fin s zero e) h endless = endless
 zero-plus (fin s zero e) h (sized n d) = zero-sum s (0 * up e * down d) (n * up d * down e) (down e * down d) (simp zero-mul)
 
 pub plus-zero : {x : Float} (z : Float) → NotNegative x → Zero z → NotNegative (add binary64 x z)
 unfolding add canonical
-plus-zero nan n h = absurd (subst (λ v. T (nonzero v)) h tt)
-plus-zero (inf s) n h = absurd (subst (λ v. T (nonzero v)) h tt)
-plus-zero (fin s (suc m) e) n h = absurd (subst (λ v. T (nonzero v)) h tt)
+plus-zero nan n h = absurd (subst (λ v. T (isNoZero v)) h tt)
+plus-zero (inf s) n h = absurd (subst (λ v. T (isNoZero v)) h tt)
+plus-zero (fin s (suc m) e) n h = absurd (subst (λ v. T (isNoZero v)) h tt)
 plus-zero (fin s zero e) endless h = endless
 plus-zero (fin s zero e) (sized m d) h = sum-zero s (m * up d * down e) (0 * up e * down d) (down d * down e) (simp zero-mul)
 
