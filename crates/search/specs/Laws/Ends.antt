@@ -10,7 +10,6 @@ use Rattle.exploration.specs.Policy.{Policy}
 use Rattle.exploration.specs.Explore as explore
 use Rattle.exploration.specs.Explore.{arrive, outcome, outcomeBy}
 use Rattle.exploration.specs.Laws.Endings.{found-outcome}
-use Rattle.fields.specs.RecordLaws.{length-firsts}
 use Rattle.world.specs.declared.Body.{Body}
 use Rattle.world.specs.declared.Request.{Request}
 use Rattle.world.specs.Space.{Space}
@@ -20,8 +19,9 @@ use Rattle.rooms.specs.declared.Feet.{Feet}
 use Rattle.rooms.specs.declared.Label.{Label}
 use Rattle.rooms.specs.declared.Counts.{Counts}
 use Rattle.rooms.specs.Lists.{listOf}
-use Rattle.rooms.specs.Rooms.{Note, nobody, nodeIn, nodesOf, stateOf, countsIn}
+use Rattle.rooms.specs.Rooms.{Note, nobody, nodesOf, stateOf, countsIn}
 use Rattle.rooms.specs.Laws.Lists.{arrive-list}
+use Rattle.rooms.specs.Laws.Rooms.{counts-back}
 use Rattle.visits.specs.declared.Aim.{Aim}
 use Rattle.visits.specs.Best.{best}
 use Rattle.outcomes.specs.declared.Turn.{Turn}
@@ -41,16 +41,12 @@ nodes-after r goal (Going c) b g = refl
 nodes-after r goal (At c k) b g = refl
 nodes-after r goal (By c k l) b g = refl
 
-counted : (c : Counts) (b g : List ℕ) → countsIn (stateOf b g c) ≡ c
-unfolding stateOf
-counted c b g = let n = length-firsts (c .retained) (nodeIn b g) in λ i. record { retained = n i; closed = c .closed; pushed = c .pushed; dropped = c .dropped }
-
 pub counts-after : (r : Request) (goal : Feet) (t : Turn) (b g : List ℕ) → countsIn (after (aimTo r goal) t b g) ≡ countsOf t
 unfolding stateOf
-counts-after r goal (Rest c) b g = counted c b g
-counts-after r goal (Going c) b g = counted c b g
-counts-after r goal (At c k) b g = counted c b g
-counts-after r goal (By c k l) b g = counted c b g
+counts-after r goal (Rest c) b g = counts-back b g c
+counts-after r goal (Going c) b g = counts-back b g c
+counts-after r goal (At c k) b g = counts-back b g c
+counts-after r goal (By c k l) b g = counts-back b g c
 
 -- ---- the outcome
 
