@@ -12,6 +12,9 @@ ghost use mathlib.Core.Path.{_≡_};
 ghost use Rattle.outcomes.specs.Ticks.{Holds, GoesFrom};
 ghost use Rattle.search.specs.Ticks.{continued, reached};
 
+// The bytes of an index for as many nodes as a search can have.
+const INDEX: usize = 32768;
+
 // At most so many expansions, 1 to 4,096, of the search that the rooms and the counts hold; lookups scan, for there is no index.
 pub fn continue_search(
     w: Window, cells: &[u8], perms: &[u8], shapes: &[u8], boxes: &[u8], r: Request, body: Body,
@@ -32,7 +35,7 @@ pub fn continue_search(
     let goal = words::feet_of(r.goal);
     let aim = Aim { budget, goal };
     let task = Task { w, r, body, aim };
-    let mut index = [0u8; 0];
+    let mut index = [0u8; INDEX];
     let turn = spin(task, cells, perms, shapes, boxes, nodes, front, &mut index, c, expansions as usize);
     let counts = outcomes::counts_of(turn);
     if conclusion::goes_on(front, turn) {

@@ -75,7 +75,7 @@ spin-requires c κs =
     let p = passed (c .before .before .before .before) in
     (ready-on (a .w) (now (a .cells)) (now (a .perms)) (now (a .shapes)) (now (a .boxes)) (a .r) (a .body) (now (a .nodes)) (now (a .front)) (now (a .out)) (a .c) (a .expansions) p (bounds (c .before .before .before .before)),
     ((c .before .before .before .feet-of .ensures, steps-bounded _ _ _ _ _ _ _ (p .world)),
-    indexed-none (now (a .nodes)) (zero-slots 0)))
+    indexed-none (now (a .nodes)) (zero-slots 32768)))
 
 counts-of-requires : tie.Need-counts-of-requires
 counts-of-requires c κs = tt
