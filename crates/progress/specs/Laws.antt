@@ -1,19 +1,22 @@
 -- What a continued search may rely on.
-use Prim.Native.Nat.{ℕ, _/_, _≤_, _<_}
+use Prim.Native.Nat.{ℕ, zero, suc, _-_, _/_, _≤_, _<_}
 use native.Mathlib.Omega.{arith}
-use mathlib.Core.Path.{_≡_, sym, ap, _∙_}
-use mathlib.Core.Bool.{Bool, true, false, _&&_}
+use mathlib.Core.Path.{_≡_, refl, ap}
+use mathlib.Core.Bool.{Bool, true, false, not, _&&_, cond}
 use mathlib.Core.List.{List}
-use mathlib.Core.Logic.{_≢_}
+use mathlib.Core.Logic.{⊎-elim}
 use lib.Dec.{leb, ltb}
 use lib.ListN.{length}
-use borrow.Author.Tests.{eq-eqb, ne-eqb, leb-true, ltb-true}
+use borrow.Author.Tests.{leb-true, ltb-true, ltb-false}
 use Rattle.exploration.specs.Laws.Lists.{and-first, and-second}
 use Rattle.world.specs.declared.Request.{Request}
 use Rattle.rooms.specs.declared.Counts.{Counts}
 use Rattle.rooms.specs.Records.{entryAt}
+use Rattle.rooms.specs.Scans.{firstOf, waits}
+use Rattle.rooms.specs.Laws.Scans.{First, first-is}
+use Rattle.rooms.specs.Laws.Lists.{in-or-out}
 use Rattle.chains.specs.Chains.{eachBelow, goodChains}
-use Rattle.chains.specs.Laws.{each-not}
+use Rattle.chains.specs.Laws.{each-all, each-at, each-not}
 use Rattle.progress.specs.Progress.{goodAsked, goodRetained, goodClosed, goodPushed, goodDropped, goodCounts, goodNode, goodWait, isIdle, someWaits, goodProgress}
 
 -- the bounds that keep every count from wrapping: one call makes at most 4,096 expansions
@@ -47,19 +50,41 @@ pub progress-bounds : (r : Request) (a f : List ℕ) (c : Counts) (n : ℕ) → 
 unfolding goodProgress
 progress-bounds r a f c n e = counts-bound (r .«node_budget») c n (and-first (goodCounts (r .«node_budget») c n) _ e)
 
--- ---- whether a node waits, as the code asks it
+-- ---- the first that waits, as the code asks for it
 
-module _ (f : List ℕ) (n k : ℕ) where
-  pub idle-at : entryAt f k .waiting ≢ 1 → isIdle f k ≡ true
-  idle-at e = let z = ne-eqb (entryAt f k .waiting) 1 e in rw z
+abbrev waitsAt : List ℕ → ℕ → Bool
+waitsAt f k = waits (entryAt f k)
 
-  pub waits-at : k < n → entryAt f k .waiting ≡ 1 → true ≡ someWaits f n
-  unfolding someWaits
-  waits-at h e = let z = eq-eqb (entryAt f k .waiting) 1 e in let y = each-not (isIdle f) n k h (rw z) in rw y
-
-pub waits-none : (f : List ℕ) (n : ℕ) → eachBelow (isIdle f) n ≡ true → false ≡ someWaits f n
+-- each of those before it is idle, so some node waits where it is one of them
+pub waits-first : (f : List ℕ) (n r : ℕ) → r ≡ firstOf (waitsAt f) 0 (n - 0) → ltb r n ≡ someWaits f n
 unfolding someWaits
-waits-none f n e = rw e
+waits-first f n r e = go (ltb r n) refl
+  where
+    first : First (waitsAt f) 0 (n - 0) r
+    first = rw e (first-is (waitsAt f) 0 (n - 0))
+
+    go : (b : Bool) → ltb r n ≡ b → b ≡ not (eachBelow (isIdle f) n)
+    go true h = let l = ltb-true r n h in let y = each-not (isIdle f) n r l (ap not (first .passes (omega arith))) in rw y
+    go false h = let y = each-all (isIdle f) n (λ j l. ap not (first .missed j (omega arith) (omega (arith, ltb-false r n h)))) in rw y
+
+first-least : (p : ℕ → Bool) (n k : ℕ) → k ≤ firstOf p k n
+first-least p zero k = omega arith
+first-least p (suc n) k = go (p k) (first-least p n (suc k))
+  where
+    go : (b : Bool) → suc k ≤ firstOf p (suc k) n → k ≤ cond b k (firstOf p (suc k) n)
+    go true h = omega arith
+    go false h = omega arith
+
+-- and idle records are good ones
+pub waits-skip : (a f : List ℕ) (n m k r : ℕ) → r ≡ firstOf (waitsAt f) k (m - k) → k ≤ m → eachBelow (goodWait a f n) k ≡ true → (k ≤ r) × (r ≤ m) × (eachBelow (goodWait a f n) r ≡ true)
+unfolding goodWait
+waits-skip a f n m k r e l h = (rw e (first-least (waitsAt f) (m - k) k), omega (arith, first .within), each-all (goodWait a f n) r (λ j i. ⊎-elim (λ b. each-at (goodWait a f n) k j b h) (λ b. idle j b i) (in-or-out j k)))
+  where
+    first : First (waitsAt f) k (m - k) r
+    first = rw e (first-is (waitsAt f) k (m - k))
+
+    idle : (j : ℕ) → k ≤ j → j < r → goodWait a f n j ≡ true
+    idle j b i = let z = first .missed j b i in rw z
 
 -- ---- the ways out of `good_progress`
 

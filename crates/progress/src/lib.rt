@@ -12,7 +12,7 @@ ghost use mathlib.Core.Path.{_≡_};
 ghost use Prim.Native.Nat.{_/_};
 ghost use lib.ListN.{length};
 ghost use Rattle.chains.specs.Chains.{eachBelow};
-ghost use Rattle.progress.specs.Progress.{goodCounts, goodNode, goodWait, someWaits, goodProgress};
+ghost use Rattle.progress.specs.Progress.{goodCounts, goodNode, goodWait, goodProgress};
 
 // Whether the expansions and the counts are within their bounds.
 fn counts_good(budget: u64, c: Counts, expansions: u64) -> bool
@@ -53,20 +53,6 @@ fn nodes_good(r: Request, nodes: &[u8], front: &[u8], n: usize) -> bool
     true
 }
 
-// Whether one of n nodes waits.
-fn some_waits(front: &[u8], n: usize) -> bool
-    ensures { λ a. ⌜ a ≡ someWaits (now (front .entry)) n ⌝ }
-{
-    let mut k: usize = 0;
-    while k < n {
-        if get_entry(front, k).waiting == 1 {
-            return true;
-        }
-        k += 1;
-    }
-    false
-}
-
 // Whether frontier record k does not wait, or is that of one of n nodes, which is open, and has a finite estimate.
 fn wait_good(nodes: &[u8], front: &[u8], n: usize, k: usize) -> bool
     ensures { λ a. ⌜ a ≡ goodWait (now (nodes .entry)) (now (front .entry)) n k ⌝ }
@@ -77,16 +63,17 @@ fn wait_good(nodes: &[u8], front: &[u8], n: usize, k: usize) -> bool
     (entry.waiting != 1) | ((k < n) & (node.closed == 0) & estimate)
 }
 
-// Every whole record of the room is asked: begin zeroes all of it, and so does the end.
+// Every whole record of the room is asked: begin zeroes all of it, and so does the end. Those that do not wait are passed over, for most do not.
 fn waits_good(nodes: &[u8], front: &[u8], n: usize) -> bool
     ensures { λ a. ⌜ a ≡ eachBelow (goodWait (now (nodes .entry)) (now (front .entry)) n) (length (now (front .entry)) / 24) ⌝ }
 {
-    let mut k: usize = 0;
-    while k < front.len() / 24 {
+    let m = front.len() / 24;
+    let mut k = scans::first_waiting(front, 0, m);
+    while k < m {
         if !wait_good(nodes, front, n, k) {
             return false;
         }
-        k += 1;
+        k = scans::first_waiting(front, k + 1, m);
     }
     true
 }
@@ -100,7 +87,7 @@ pub fn good_progress(r: Request, nodes: &[u8], front: &[u8], c: Counts, expansio
     }
     let placed = nodes_good(r, nodes, front, n);
     let linked = chains::chains_end(nodes, n);
-    let some = some_waits(front, n);
+    let some = scans::first_waiting(front, 0, n) < n;
     let waiting = waits_good(nodes, front, n);
     placed & linked & some & waiting
 }

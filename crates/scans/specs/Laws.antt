@@ -36,6 +36,15 @@ module _ (p : ℕ → Bool) where
   pub first-end : (k n : ℕ) → n ≡ 0 → firstOf p k n ≡ k
   first-end k n e = rw e
 
+  -- over those that do not pass
+  pub first-past : (d k n : ℕ) → k + d ≤ n → ((j : ℕ) → k ≤ j → j < k + d → p j ≡ false) → firstOf p k (n - k) ≡ firstOf p (k + d) (n - (k + d))
+  first-past zero k n l h = let e : k + 0 ≡ k = omega arith in rw e
+  first-past (suc d) k n l h =
+      let e : n - k - 1 ≡ n - (k + 1) = omega arith in
+      let i : k + 1 + d ≡ k + suc d = omega arith in
+      first-later k (n - k) (h k (omega arith) (omega arith)) (omega arith) ∙ ap (firstOf p (k + 1)) e
+      ∙ first-past d (k + 1) n (omega arith) (λ j a b. h j (omega arith) (omega arith)) ∙ ap (λ (m : ℕ). firstOf p m (n - m)) i
+
 -- a node with another x is not at the point
 pub apart : (a : List ℕ) (q : Feet) (k : ℕ) → sameWord (field 8 a (64 * k)) (q .x) ≡ false → isAt a q k ≡ false
 unfolding nodeAt samePoint

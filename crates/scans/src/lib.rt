@@ -9,7 +9,7 @@ ghost use mathlib.Core.Path.{_≡_};
 ghost use Prim.Native.Nat.{_-_, _≤_};
 ghost use Rattle.scans.specs.Laws.{Idle};
 ghost use Rattle.rooms.specs.Records.{entryAt};
-ghost use Rattle.rooms.specs.Scans.{firstOf, isAt, sooner, nextFrom, busy};
+ghost use Rattle.rooms.specs.Scans.{firstOf, isAt, waits, sooner, nextFrom, busy};
 
 // More nodes than a room can tell apart: a parent's number is a u32.
 const NODES: usize = 4294967296;
@@ -64,6 +64,20 @@ fn next_waiting(front: &[u8], from: usize, n: usize) -> usize
         while i < border && fields::u64_at(front, 24 * i + 16) != 1 {
             i += 1;
         }
+    }
+    i
+}
+
+// The first node that waits among the nodes `from` to n - 1; if none does, n; if `from` is past n, `from`.
+pub fn first_waiting(front: &[u8], from: usize, n: usize) -> usize
+    ensures { λ r. ⌜ r ≡ firstOf (λ k. waits (entryAt (now (front .entry)) k)) from (n - from) ⌝ }
+{
+    if n <= from {
+        return from;
+    }
+    let mut i = next_waiting(front, from, n);
+    while i < n && get_entry(front, i).waiting != 1 {
+        i += 1;
     }
     i
 }

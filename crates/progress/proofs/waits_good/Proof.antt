@@ -1,49 +1,65 @@
--- `progress::waits_good` meets its contract. Assumes nothing.
+-- `progress::waits_good` meets its contract. The loop's invariant: the records before `k` are good. Assumes nothing.
 use native.Mathlib.Omega.{arith}
-use Prim.Native.Nat.{ℕ, _≤_, _-_, _/_}
+use Prim.Native.Nat.{ℕ, _+_, _≤_, _-_, _/_}
 use lib.ListN.{length}
 use mathlib.Core.Path.{_≡_, refl, sym, ap, _∙_}
 use mathlib.Core.Bool.{true}
 use borrow.Author.Tests.{not-true, not-false}
 use denote.Ref.{now}
 use Rattle.chains.specs.Chains.{eachBelow}
-use Rattle.progress.specs.Progress.{goodWait}
 use Rattle.chains.specs.Laws.{each-more, each-not}
+use Rattle.progress.specs.Progress.{goodWait}
+use Rattle.progress.specs.Laws.{waits-skip}
 use Rattle.progress.proofs.waits_good.Statement.{statement}
 use Rattle.progress.proofs.waits_good.Tie as tie
 
 abbrev Inv-loop : tie.InvT-loop
-Inv-loop nodes front n k₀ k = (k ≤ length front / 24) × (eachBelow (goodWait nodes front n) k ≡ true)
+Inv-loop nodes front n m k₀ k = (k ≤ length front / 24) × (eachBelow (goodWait nodes front n) k ≡ true)
 
 abbrev μ-loop : tie.MeasureT-loop
-μ-loop nodes front n k₀ k = length front / 24 - k
+μ-loop nodes front n m k₀ k = length front / 24 - k
+
+first-waiting-requires : tie.Need-first-waiting-requires Inv-loop μ-loop
+first-waiting-requires c κs = tt
 
 loop-holds : tie.Need-loop-holds Inv-loop μ-loop
-loop-holds c = (omega arith, refl)
+loop-holds c =
+    let a = c .before .before .before .args in
+    let s = waits-skip (now (a .nodes)) (now (a .front)) (a .n) (length (now (a .front)) / 24) 0 (c .first-waiting .result) (c .first-waiting .ensures) (omega arith) refl in
+    (s .1, s .2)
 
 wait-good-requires : tie.Need-wait-good-requires Inv-loop μ-loop
 wait-good-requires c κs = tt
 
 returns : tie.Need-returns Inv-loop μ-loop
 returns c =
-    let a = c .before .before .before .before .before .before .args in
+    let a = c .before .before .before .before .before .before .before .args in
     sym (each-not (goodWait (now (a .nodes)) (now (a .front)) (a .n)) (length (now (a .front)) / 24) (c .before .before .before .loop .k) (c .before .before .loop-test .taken) (sym (c .before .wait-good .ensures) ∙ not-true _ (c .if1 .taken)))
 
-add-k : tie.Need-add-k Inv-loop μ-loop
-add-k c = omega arith
+add-first-waiting : tie.Need-add-first-waiting Inv-loop μ-loop
+add-first-waiting c = omega (arith, c .before .before .loop-test .taken)
+
+first-waiting-requires-2 : tie.Need-first-waiting-requires-2 Inv-loop μ-loop
+first-waiting-requires-2 c κs = tt
+
+-- one good record more, and those that do not wait
+skipped : (c : tie.After-first-waiting2 Inv-loop μ-loop) → let a = c .before .before .before .before .before .before .before .before .args in (c .before .before .before .before .loop .k + 1 ≤ c .first-waiting2 .result) × (c .first-waiting2 .result ≤ length (now (a .front)) / 24) × (eachBelow (goodWait (now (a .nodes)) (now (a .front)) (a .n)) (c .first-waiting2 .result) ≡ true)
+skipped c =
+    let a = c .before .before .before .before .before .before .before .before .args in
+    let l = c .before .before .before .before .loop in
+    waits-skip (now (a .nodes)) (now (a .front)) (a .n) (length (now (a .front)) / 24) (l .k + 1) (c .first-waiting2 .result) (c .first-waiting2 .ensures) (omega (arith, c .before .before .before .loop-test .taken))
+    (each-more (goodWait (now (a .nodes)) (now (a .front)) (a .n)) (l .k) (l .inv .1) (sym (c .before .before .wait-good .ensures) ∙ not-false _ (c .before .if1 .left)))
 
 loop-less : tie.Need-loop-less Inv-loop μ-loop
-loop-less c = omega arith
+loop-less c = omega (arith, skipped c .0, c .before .before .before .loop-test .taken)
 
 loop-again : tie.Need-loop-again Inv-loop μ-loop
-loop-again c =
-    let a = c .before .before .before .before .before .before .args in
-    (omega arith, each-more (goodWait (now (a .nodes)) (now (a .front)) (a .n)) (c .before .before .before .loop .k) (c .before .before .before .loop .inv .1) (sym (c .before .wait-good .ensures) ∙ not-false _ (c .if1 .left)))
+loop-again c = (skipped c .1, skipped c .2)
 
 returns-2 : tie.Need-returns-2 Inv-loop μ-loop
 returns-2 c =
-    let a = c .before .before .before .before .args in
-    let e : c .before .loop .k ≡ length (now (a .front)) / 24 = omega arith in
+    let a = c .before .before .before .before .before .args in
+    let e : c .before .loop .k ≡ length (now (a .front)) / 24 = omega (arith, c .before .loop .inv .0, c .loop-test .left) in
     sym (ap (eachBelow (goodWait (now (a .nodes)) (now (a .front)) (a .n))) (sym e) ∙ c .before .loop .inv .1)
 
 pub waits-good-spec : {M : Type 1} → statement M
@@ -52,10 +68,12 @@ waits-good-spec =
     (tie.spec
     Inv-loop
     μ-loop
+    first-waiting-requires
     loop-holds
     wait-good-requires
     returns
-    add-k
+    add-first-waiting
+    first-waiting-requires-2
     loop-less
     loop-again
     returns-2)
