@@ -9,7 +9,7 @@ use lib.ListN.{getD, set, replicate}
 use lib.Seq.{getD-set-other}
 use borrow.Author.Tests.{eqb-true, eqb-false}
 use lib.Dec.{eqb}
-use Rattle.exploration.specs.Laws.Lists.{true-or-false}
+use Rattle.exploration.specs.Laws.Lists.{true-or-false, true-false}
 use Rattle.chains.specs.Chains.{eachBelow, goodParent, parentBack, parentsBack, endsAtStart, goodChains}
 use Rattle.chains.specs.Laws as laws
 pub use Rattle.chains.specs.Laws.{Inside}
@@ -27,6 +27,12 @@ pub record Climbed (a done : List ℕ) (n k m : ℕ) : Type 0 where
   pub within : m ≤ n + 1
   pub reaches : MarksSound a done → m ≤ n → Reaches a k
   pub none : n < m → parentsBack a n k ≢ 0
+
+-- what comes of a chain that is followed: it ends, or n parents back it has not; and each marked node reaches node 0
+pub record ChainMarked (a : List ℕ) (n k : ℕ) (done : List ℕ) (r : Bool) : Type 0 where
+  pub sound : MarksSound a done
+  pub ends : r ≡ true → Reaches a k
+  pub not-ended : r ≡ false → parentsBack a n k ≢ 0
 
 module _ {a done : List ℕ} {n k : ℕ} (m at : ℕ) where
   pub climbed-first : m ≤ n → at ≡ parentsBack a m k → at ≡ 0 → Climbed a done n k m
@@ -58,3 +64,16 @@ sound-none a n k d = absurd (d (blank n k))
 -- one node more is marked
 pub sound-more : (a done : List ℕ) (at : ℕ) → Reaches a at → MarksSound a done → MarksSound a (set done at 1)
 sound-more a done at r s k d = ⊎-elim (λ e. rw (eqb-true k at e) r) (λ e. s k (rw (getD-set-other done at k 1 0 (eqb-false k at e)) at d)) (true-or-false (eqb k at))
+
+-- ---- the ways out of `settle`
+
+module _ {a done : List ℕ} {n k : ℕ} where
+  pub marked-end : MarksSound a done → Reaches a k → ChainMarked a n k done true
+  marked-end s r = record { sound = s; ends = λ e. r; not-ended = λ e. absurd (true-false refl e) }
+
+  pub marked-not : MarksSound a done → parentsBack a n k ≢ 0 → ChainMarked a n k done false
+  marked-not s h = record { sound = s; ends = λ e. absurd (true-false e refl); not-ended = λ e. h }
+
+-- a node whose parent reaches node 0 reaches it
+pub reaches-on : (a : List ℕ) (k : ℕ) → Reaches a (parentBack a k) → Reaches a k
+reaches-on a k r = (suc (r .0), r .1)

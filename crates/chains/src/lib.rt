@@ -6,7 +6,7 @@ use rooms::get_node;
 ghost use mathlib.Core.Path.{_≡_};
 ghost use Prim.Native.Nat.{_≤_, _<_};
 ghost use Rattle.chains.specs.Chains.{goodParent, parentBack, eachBelow, endsAtStart, goodChains};
-ghost use Rattle.chains.specs.Marks.{Inside, MarksSound, Climbed, Reaches};
+ghost use Rattle.chains.specs.Marks.{Inside, MarksSound, Climbed, Reaches, ChainMarked};
 
 // The most nodes that a search can have.
 const MOST: usize = 4096;
@@ -88,6 +88,24 @@ fn mark(nodes: &[u8], done: &mut [u8; 4096], n: usize, k: usize, m: usize)
     }
 }
 
+// Whether node k's chain ends; if so, its nodes are marked. Most often its parent is marked already.
+fn settle(nodes: &[u8], done: &mut [u8; 4096], n: usize, k: usize) -> bool
+    requires { ⌜ Inside (now nodes) n × (k < n) × (n ≤ 4096) × MarksSound (now nodes) (now done) ⌝ }
+    ensures { λ r. ⌜ ChainMarked (now (nodes .entry)) n k (now (done .exit)) r ⌝ }
+{
+    let parent = up(nodes, k);
+    if done[parent] != 0 {
+        done[k] = 1;
+        return true;
+    }
+    let m = climb(nodes, done, n, k);
+    if n < m {
+        return false;
+    }
+    mark(nodes, done, n, k, m);
+    true
+}
+
 // Whether the parents of n nodes are as 02 says, and each chain of them ends at node 0.
 pub fn chains_end(nodes: &[u8], n: usize) -> bool
     ensures { λ r. ⌜ r ≡ goodChains (now (nodes .entry)) n ⌝ }
@@ -101,11 +119,9 @@ pub fn chains_end(nodes: &[u8], n: usize) -> bool
     let mut done = [0u8; 4096];
     let mut k: usize = 0;
     while k < n {
-        let m = climb(nodes, &done, n, k);
-        if n < m {
+        if !settle(nodes, &mut done, n, k) {
             return false;
         }
-        mark(nodes, &mut done, n, k, m);
         k += 1;
     }
     true

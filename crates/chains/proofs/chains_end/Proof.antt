@@ -35,23 +35,15 @@ linked c = sym (c .before .all-linked .ensures) ∙ not-false _ (c .if2 .left)
 loop-holds : tie.Need-loop-holds Inv-loop μ-loop
 loop-holds c = (omega arith, sound-none (now (c .before .before .before .before .args .nodes)) 4096, refl)
 
-climb-requires : tie.Need-climb-requires Inv-loop μ-loop
-climb-requires c κs =
+settle-requires : tie.Need-settle-requires Inv-loop μ-loop
+settle-requires c κs =
     let a = c .before .before .before .before .before .before .before .args in
-    (linked-closed (now (a .nodes)) (a .n) (linked (c .before .before .before)), c .before .loop-test .taken, c .before .before .before .before .before .if1 .left)
+    (linked-closed (now (a .nodes)) (a .n) (linked (c .before .before .before)), c .before .loop-test .taken, c .before .before .before .before .before .if1 .left, c .before .before .loop .inv .1)
 
 returns-3 : tie.Need-returns-3 Inv-loop μ-loop
 returns-3 c =
     let a = c .before .before .before .before .before .before .before .before .before .args in
-    good-not (now (a .nodes)) (a .n) (c .before .before .before .before .before .before .before .if1 .left) (linked (c .before .before .before .before .before))
-    (c .before .before .before .before .loop .k) (c .before .before .before .loop-test .taken) (c .before .climb .ensures .none (c .if3 .taken))
-
-mark-requires : tie.Need-mark-requires Inv-loop μ-loop
-mark-requires c κs =
-    let a = c .before .before .before .before .before .before .before .before .before .before .args in
-    let l = c .before .before .before .before .before .loop in
-    (linked-closed (now (a .nodes)) (a .n) (linked (c .before .before .before .before .before .before)), c .before .before .before .before .loop-test .taken, c .before .before .before .before .before .before .before .before .if1 .left, l .inv .1,
-    c .before .before .climb .ensures .reaches (l .inv .1) (c .before .if3 .left))
+    good-not (now (a .nodes)) (a .n) (c .before .before .before .before .before .before .before .if1 .left) (linked (c .before .before .before .before .before)) (c .before .before .before .before .loop .k) (c .before .before .before .loop-test .taken) (c .before .settle .ensures .not-ended (not-true _ (c .if3 .taken)))
 
 add-k : tie.Need-add-k Inv-loop μ-loop
 add-k c = omega arith
@@ -61,11 +53,10 @@ loop-less c = omega arith
 
 loop-again : tie.Need-loop-again Inv-loop μ-loop
 loop-again c =
-    let a = c .before .before .before .before .before .before .before .before .before .before .before .args in
-    let l = c .before .before .before .before .before .before .loop in
-    let r = c .before .before .before .climb .ensures .reaches (l .inv .1) (c .before .before .if3 .left) in
-    (omega arith, c .mark .ensures,
-    ends-more (now (a .nodes)) (a .n) (c .before .before .before .before .before .before .before .before .before .if1 .left) (linked (c .before .before .before .before .before .before .before)) (l .k) (r .0) (c .before .before .before .before .before .loop-test .taken) (r .1) (l .inv .2))
+    let a = c .before .before .before .before .before .before .before .before .before .args in
+    let l = c .before .before .before .before .loop in
+    let r = c .before .settle .ensures .ends (not-false _ (c .if3 .left)) in
+    (omega arith, c .before .settle .ensures .sound, ends-more (now (a .nodes)) (a .n) (c .before .before .before .before .before .before .before .if1 .left) (linked (c .before .before .before .before .before)) (l .k) (r .0) (c .before .before .before .loop-test .taken) (r .1) (l .inv .2))
 
 returns-4 : tie.Need-returns-4 Inv-loop μ-loop
 returns-4 c =
@@ -83,9 +74,8 @@ chains-end-spec =
     all-linked-requires
     returns-2
     loop-holds
-    climb-requires
+    settle-requires
     returns-3
-    mark-requires
     add-k
     loop-less
     loop-again
