@@ -2,7 +2,7 @@
 -- not too large, each of its coordinates is in size at most 2 ^ 32.
 use Prim.Native.Nat.{ℕ, _+_, _-_, _*_}
 use native.Mathlib.Omega.{arith}
-use mathlib.Core.Path.{_≡_, refl, sym, _∙_, subst}
+use mathlib.Core.Path.{_≡_, refl, sym, ap, _∙_, subst}
 use mathlib.Core.Bool.{Bool, true, false, _&&_, _||_}
 use borrow.Author.Tests.{lt-ltb, leb-true}
 use lib.IntN.{ℤ, pos}
@@ -15,12 +15,14 @@ use Rattle.exploration.specs.Laws.Lists.{and-first, and-second, or-false}
 use Rattle.floats.specs.Floats.{E, nought, absolute}
 use Rattle.floats.specs.Order.{false-true, le-fin, le-right, le-trans, lt-le, not-le}
 use Rattle.floats.specs.Sums.{sum-grows, within-grows}
+use Rattle.floats.specs.Zeros.{le-canonical}
 use Rattle.world.specs.declared.Point.{Point}
 use Rattle.world.specs.declared.Body.{Body}
 use Rattle.world.specs.declared.Request.{Request}
 use Rattle.request.specs.Request.{number, allFinite, sized, notNegative, limit, within, placed, validRequest, sizesTooLarge}
 use Rattle.request.specs.Laws.{FinitePoint, valid-finite}
 use Rattle.places.specs.Places.{near, inRange}
+use Rattle.arrival.specs.Alike.{zero-alike, no-difference, absolute-alike}
 use Rattle.claims.specs.Laws.NotNegative.{of-rounding}
 use Rattle.claims.specs.Laws.Bounds.{UpTo, whole-f64, int-up-to, sum-up-to, difference-up-to, difference-back, size-up-to, from-nought-up-to}
 
@@ -149,6 +151,28 @@ module _ (r : Request) (body : Body) (valid : validRequest r body ≡ true) wher
         y = near-finite (p .y) (r .start .y) (s .y) (and-second (near most (p .x) (r .start .x)) (near most (p .y) (r .start .y)) two);
         z = near-finite (p .z) (r .start .z) (s .z) (and-second (near most (p .x) (r .start .x) && near most (p .y) (r .start .y)) (near most (p .z) (r .start .z)) h);
       }
+
+  -- the start itself, which differs from itself by a zero
+  reach-not-negative : le nought (add binary64 (r .«max_range») E) ≡ true
+  unfolding ofBits
+  reach-not-negative =
+      le-trans nought (add binary64 nought E) (add binary64 (r .«max_range») E) (unfold add le lt eq in refl)
+      (within-grows nought (r .«max_range») (unfold le lt eq in refl) range-not-negative)
+
+  near-itself : (a : Float) → finite a ≡ true → near (add binary64 (r .«max_range») E) a a ≡ true
+  near-itself a h =
+      let most = add binary64 (r .«max_range») E in
+      let none = absolute-alike (sub binary64 a a) nought (zero-alike (sub binary64 a a) (no-difference a a refl h)) in
+      sym (le-canonical (absolute (sub binary64 a a)) most) ∙ ap (λ (x : Float). le x most) none ∙ le-canonical (absolute nought) most ∙ (unfold absolute lt ofBits in reach-not-negative)
+
+  pub start-in-range : inRange r (r .start) ≡ true
+  unfolding inRange
+  start-in-range =
+      let s = valid-finite r body valid .start in
+      let x = near-itself (r .start .x) (s .x) in
+      let y = near-itself (r .start .y) (s .y) in
+      let z = near-itself (r .start .z) (s .z) in
+      rw (x, y, z)
 
 -- ---- and bounded, where the request is not too large
 

@@ -1,4 +1,4 @@
--- The closed word of a node record is 1 for a closed node and else 0, in every state that a search comes to.
+-- The closed word of a node record is 1 for a closed node and else 0, in every state that a search comes to: the word that the search notes, and the four bytes of it.
 use Prim.Native.Nat.{ℕ, suc, _+_, _%_, _^_}
 use mathlib.Core.Path.{_≡_, refl, ap}
 use mathlib.Core.Bool.{Bool, true, false, cond}
@@ -19,7 +19,7 @@ use Rattle.visits.specs.Laws.Policy.{best-laws, given-is}
 use Rattle.claims.specs.Laws.Nodes.{AllOf, none-there, one-more, in-place}
 use Rattle.claims.specs.Laws.ReadBack.{held}
 
-abbrev Marked : Node Feet Label Note → Type 0
+abbrev pub Marked : Node Feet Label Note → Type 0
 Marked x = x .note .mark ≡ cond (x .closed) 1 0
 
 -- which four bytes hold
@@ -58,5 +58,8 @@ module _ (𝓖 : Graph Feet Label) (goal : Feet) where
   }
 
   -- in every state that a search comes to
+  pub nodes-marked : (b n : ℕ) → AllOf Marked (run 𝓖 (best goal) b n (begin 𝓖 (best goal) b) .nodes)
+  nodes-marked b n = run-kept 𝓖 (best goal) (λ c ns g. AllOf Marked ns) (λ c f. Unit {0}) (λ w. Unit {0}) (best-laws goal) kept b n
+
   pub marks-held : (b n : ℕ) → AllOf (λ x. held x .closed ≡ cond (x .closed) 1 0) (run 𝓖 (best goal) b n (begin 𝓖 (best goal) b) .nodes)
-  marks-held b n k x e = marked-held x (run-kept 𝓖 (best goal) (λ c ns g. AllOf Marked ns) (λ c f. Unit {0}) (λ w. Unit {0}) (best-laws goal) kept b n k x e)
+  marks-held b n k x e = marked-held x (nodes-marked b n k x e)

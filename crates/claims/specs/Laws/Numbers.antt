@@ -143,7 +143,7 @@ module _ (sp : Space) (topped : ToppedSpace sp) (r : Request) (body : Body) (f :
 
   steps-finite : (p : Feet) → lists.Each Reached (graph sp r body .steps p)
   unfolding graph
-  steps-finite p = worded FiniteFeet (steps-each sp r body topped (pointOf p) (λ w. FiniteFeet (feetOf (w .feet))) (step-finite (pointOf p)))
+  steps-finite p = worded Reached (steps-each sp r body topped (pointOf p) (λ w. FiniteFeet (feetOf (w .feet))) (step-finite (pointOf p)))
 
   pub estimates-are-numbers : (b n : ℕ) →
       let s = run (graph sp r body) (best (feetOf (r .goal))) b n (begin (graph sp r body) (best (feetOf (r .goal))) b) in

@@ -51,7 +51,7 @@ module _ (sp : Space) (topped : ToppedSpace sp) (r : Request) (body : Body) (f :
 
   steps-small : (p : Feet) → lists.Each Reached (graph sp r body .steps p)
   unfolding graph
-  steps-small p = worded Point64 (steps-each sp r body topped (pointOf p) (λ w. Point64 (feetOf (w .feet))) (step-small (pointOf p)))
+  steps-small p = worded Reached (steps-each sp r body topped (pointOf p) (λ w. Point64 (feetOf (w .feet))) (step-small (pointOf p)))
 
   pub points-small : (b n : ℕ) → AllOf Small (run (graph sp r body) (best (feetOf (r .goal))) b n (begin (graph sp r body) (best (feetOf (r .goal))) b) .nodes)
   unfolding graph
