@@ -22,6 +22,10 @@ use Rattle.chains.specs.Chains.{eachBelow, goodParent, parentBack, paren
 pub each-more : (p : ℕ → Bool) (n : ℕ) → eachBelow p n ≡ true → p n ≡ true → eachBelow p (n + 1) ≡ true
 each-more p n e h = let z : n + 1 ≡ suc n = omega arith in rw z (and-both (eachBelow p n) (p n) e h)
 
+pub each-all : (p : ℕ → Bool) (n : ℕ) → ((k : ℕ) → k < n → p k ≡ true) → eachBelow p n ≡ true
+each-all p zero h = refl
+each-all p (suc n) h = and-both (eachBelow p n) (p n) (each-all p n (λ k l. h k (omega arith))) (h n (omega arith))
+
 pub each-at : (p : ℕ → Bool) (n k : ℕ) → k < n → eachBelow p n ≡ true → p k ≡ true
 each-at p zero k h e = absurd (omega arith)
 each-at p (suc n) k h e = ⊎-elim (λ l. each-at p n k l (and-first (eachBelow p n) (p n) e)) (λ i. rw i (and-second (eachBelow p n) (p n) e)) (last-or k n h)

@@ -46,7 +46,7 @@ use Rattle.claims.specs.Laws.Nodes.{AllOf, none-there, one-more, in-place}
 
 -- ---- points as words
 
-pub stands-as : (p : Point) → F64 (p .x) → F64 (p .y) → F64 (p .z) → standsAt (feetOf p) ≡ p
+stands-as : (p : Point) → F64 (p .x) → F64 (p .y) → F64 (p .z) → standsAt (feetOf p) ≡ p
 unfolding feetOf
 stands-as p x y z = let a = float-of-bits (p .x) x in let b = float-of-bits (p .y) y in let c = float-of-bits (p .z) z in rw (a, b, c)
 
