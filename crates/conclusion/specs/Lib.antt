@@ -1,2 +1,3 @@
--- How the end of a run is told. The definitions are those of `outcomes`. What is proved of them: Laws.
+-- How the end of a run is told, and whether there is one. The definitions are those of `outcomes`, and GoesOn. What is proved of them: Laws.
+pub mod GoesOn
 pub mod Laws

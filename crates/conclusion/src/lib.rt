@@ -3,6 +3,7 @@ ghost use mathlib.Core.Path.{_≡_};
 ghost use lib.ListN.{length, replicate};
 ghost use Rattle.rooms.specs.Lists.{written};
 ghost use Rattle.outcomes.specs.Outcomes.{answerGiven, countsOf, listIn, endAt, answerOf};
+ghost use Rattle.conclusion.specs.GoesOn.{goesOn};
 use outcomes::Answer;
 use outcomes::Outcome;
 use outcomes::Turn;
@@ -27,4 +28,15 @@ pub fn conclude(nodes: &[u8], front: &mut [u8], goal: Feet, turn: Turn, out: &mu
             Answer { outcome: Outcome::Found, count, retained: c.retained, closed: c.closed }
         }
     }
+}
+
+// Whether a search goes on after an expansion: it has not ended, and a node waits. `Going` alone says only that this expansion did not end it.
+pub fn goes_on(front: &[u8], turn: Turn) -> bool
+    ensures { λ r. ⌜ r ≡ goesOn (now (front .entry)) turn ⌝ }
+{
+    let Turn::Going(c) = turn else {
+        return false;
+    };
+    let n = c.retained;
+    scans::pick(front, 0, n) < n
 }

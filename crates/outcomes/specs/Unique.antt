@@ -1,16 +1,19 @@
 -- What a search's answers give tells them apart, because each can be read back: a contract that says it allows one answer. Assumes nothing.
 use mathlib.Core.Path.{_≡_, refl, sym, ap, _∙_}
 use mathlib.Core.Bool.{false, cond}
-use mathlib.Core.List.{List}
+use mathlib.Core.List.{List, [], _∷_}
 use Prim.Native.Nat.{ℕ}
 use lib.Dec.{eqb}
 use lib.ListN.{getD}
+use Rattle.rooms.specs.declared.Counts.{Counts}
 use Rattle.outcomes.specs.declared.Outcome.{Outcome}
 use Rattle.outcomes.specs.declared.Outcome.the-variants.{Found, Unreachable, BudgetExceeded, BadWorld, TooLarge, NoRoom}
 use Rattle.outcomes.specs.declared.Answer.{Answer}
 use Rattle.outcomes.specs.declared.Path.{Path}
 use Rattle.outcomes.specs.declared.Path.the-variants.{Searched, BadTable}
-use Rattle.outcomes.specs.Outcomes.{outcomeNumber, pathNumber, answerGiven, pathGiven}
+use Rattle.outcomes.specs.declared.Tick.{Tick}
+use Rattle.outcomes.specs.declared.Tick.the-variants.{Refused, BadProgress, Searching, Ended}
+use Rattle.outcomes.specs.Outcomes.{outcomeNumber, pathNumber, tickNumber, answerGiven, pathGiven, tickGiven}
 
 -- ---- an outcome, by its number
 
@@ -66,3 +69,41 @@ path-back BadTable = refl
 
 pub one-path : (a b : Path) → pathGiven a ≡ pathGiven b → a ≡ b
 one-path a b e = sym (path-back a) ∙ ap path e ∙ path-back b
+
+-- ---- of a search in slices: a refusal has no values
+
+abbrev countsFrom : List ℕ → Counts
+countsFrom values = record { retained = getD values 1 0; closed = getD values 2 0; pushed = getD values 3 0; dropped = getD values 4 0 }
+
+abbrev tickFrom : ℕ → List ℕ → Tick
+tickFrom n [] = cond (eqb n (tickNumber BadProgress)) BadProgress (Refused (outcome n))
+tickFrom n (count ∷ counts) = cond (eqb n 100) (Searching (countsFrom (count ∷ counts))) (Ended (outcome n) count (countsFrom (count ∷ counts)))
+
+abbrev tick : ℕ × List ℕ → Tick
+tick (n, values) = tickFrom n values
+
+not-progress : (o : Outcome) → eqb (outcomeNumber o) (tickNumber BadProgress) ≡ false
+not-progress Found = refl
+not-progress Unreachable = refl
+not-progress BudgetExceeded = refl
+not-progress BadWorld = refl
+not-progress TooLarge = refl
+not-progress NoRoom = refl
+
+not-searching : (o : Outcome) → eqb (outcomeNumber o) 100 ≡ false
+not-searching Found = refl
+not-searching Unreachable = refl
+not-searching BudgetExceeded = refl
+not-searching BadWorld = refl
+not-searching TooLarge = refl
+not-searching NoRoom = refl
+
+tick-back : (t : Tick) → tick (tickGiven t) ≡ t
+unfolding tickGiven
+tick-back (Refused o) = rw (not-progress o) (ap Refused (outcome-back o))
+tick-back BadProgress = refl
+tick-back (Searching c) = refl
+tick-back (Ended o n c) = rw (not-searching o) (ap (λ (p : Outcome). Ended p n c) (outcome-back o))
+
+pub one-tick : (a b : Tick) → tickGiven a ≡ tickGiven b → a ≡ b
+one-tick a b e = sym (tick-back a) ∙ ap tick e ∙ tick-back b

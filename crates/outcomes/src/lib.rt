@@ -1,6 +1,6 @@
 // What a search answers (01, "Numbers given back"): without a search, or where it found no list. How a list is told is the crate `conclusion`.
 ghost use mathlib.Core.Path.{_≡_};
-ghost use Rattle.outcomes.specs.Outcomes.{outcomeNumber, answerGiven, unsearched, endQuiet, answerOf};
+ghost use Rattle.outcomes.specs.Outcomes.{outcomeNumber, answerGiven, unsearched, countsOf, endQuiet, answerOf};
 use rooms::Counts;
 use rooms::Label;
 
@@ -36,6 +36,15 @@ pub enum Turn {
     By(Counts, usize, Label),
 }
 
+// What a search in slices answers (02, No. 10): a refusal of 01's; 12 BadProgress; still searching, with the counts; or its end: the outcome, how many points
+// the list has that was written, and the counts.
+pub enum Tick {
+    Refused(Outcome),
+    BadProgress,
+    Searching(Counts),
+    Ended(Outcome, usize, Counts),
+}
+
 // 01's number of an outcome.
 pub fn number_of(outcome: Outcome) -> u64
     ensures { λ r. ⌜ r ≡ outcomeNumber outcome ⌝ }
@@ -63,4 +72,15 @@ pub fn verdict(c: Counts) -> Answer
 {
     let outcome = if c.dropped == 0 { Outcome::Unreachable } else { Outcome::BudgetExceeded };
     Answer { outcome, count: 0, retained: c.retained, closed: c.closed }
+}
+
+// The counts that an expansion ends with.
+pub fn counts_of(turn: Turn) -> Counts
+    ensures { λ c. ⌜ c ≡ countsOf turn ⌝ }
+{
+    match turn {
+        Turn::Rest(c) | Turn::Going(c) => c,
+        Turn::At(c, _) => c,
+        Turn::By(c, _, _) => c,
+    }
 }

@@ -1,5 +1,5 @@
--- The ways out of `judge`, and what a search that begins may rely on.
-use mathlib.Core.Path.{_≡_, refl, sym, _∙_}
+-- The ways out of `judge_call` and `judge`, and what a call that passed them may rely on.
+use mathlib.Core.Path.{_≡_, refl, sym, ap, _∙_}
 use mathlib.Core.Bool.{Bool, true, false, not, _||_, cond}
 use mathlib.Core.Option.{Option, none, some}
 use mathlib.Core.List.{List}
@@ -18,7 +18,7 @@ use Rattle.request.specs.Request.{validRequest, sizesTooLarge, tooLarge}
 use Rattle.ends.specs.Ends.{endsGood}
 use Rattle.outcomes.specs.declared.Outcome.{Outcome}
 use Rattle.outcomes.specs.declared.Outcome.the-variants.{Unreachable, BudgetExceeded, BadWorld, TooLarge, NoRoom}
-use Rattle.refusals.specs.Refusals.{noRoom, withoutSearch}
+use Rattle.refusals.specs.Refusals.{noRoom, callJudged, withoutCall, withoutSearch}
 
 -- ---- rooms: the code divides, 01's numbers multiply
 
@@ -43,7 +43,7 @@ unfolding noRoom
 room-divided n nodes front out wrongIndex =
     rw (few 64 n nodes (omega arith), few 24 n front (omega arith), le-as-lt (out / 48) n ∙ few 48 (n + 1) out (omega arith))
 
-module _ (w : Window) (cells perms shapes boxes : List ℕ) (r : Request) (body : Body) (nodes front out : ℕ) (wrongIndex : Bool) where
+module _ (w : Window) (cells shapes boxes : List ℕ) (r : Request) (body : Body) (nodes front out : ℕ) (wrongIndex : Bool) where
   abbrev bad : Bool
   bad = badWorld w cells shapes boxes
 
@@ -56,41 +56,63 @@ module _ (w : Window) (cells perms shapes boxes : List ℕ) (r : Request) (body 
   abbrev short : Bool
   short = noRoom (r .«node_budget») nodes front out || wrongIndex
 
-  abbrev good : Bool
-  good = endsGood (space w cells perms shapes boxes) r body
+  abbrev call : Option Outcome
+  call = withoutCall w cells shapes boxes r body nodes front out wrongIndex
 
-  abbrev way : Option Outcome
-  way = withoutSearch w cells perms shapes boxes r body nodes front out wrongIndex
+  -- ---- the ways out of `judge_call`, in 01's order, each under the tests so far
 
-  -- ---- the ways out, in 01's order, each under the tests so far
-
-  pub out-bad-world : bad ≡ true → some BadWorld ≡ way
-  unfolding withoutSearch
+  pub out-bad-world : bad ≡ true → some BadWorld ≡ call
+  unfolding withoutCall
   out-bad-world b = rw b
 
-  pub out-invalid : bad ≡ false → valid ≡ false → some Unreachable ≡ way
-  unfolding withoutSearch
+  pub out-invalid : bad ≡ false → valid ≡ false → some Unreachable ≡ call
+  unfolding withoutCall
   out-invalid b v = rw (b, v)
 
-  pub out-too-large : bad ≡ false → valid ≡ true → large ≡ true → some TooLarge ≡ way
-  unfolding withoutSearch
+  pub out-too-large : bad ≡ false → valid ≡ true → large ≡ true → some TooLarge ≡ call
+  unfolding withoutCall
   out-too-large b v l = rw (b, v, l)
 
-  pub out-no-room : bad ≡ false → valid ≡ true → large ≡ false → short ≡ true → some NoRoom ≡ way
-  unfolding withoutSearch
-  out-no-room b v l s = rw (b, v, l, s)
+  pub out-room : bad ≡ false → valid ≡ true → large ≡ false → (none-left : Bool) → short ≡ none-left → cond none-left (some NoRoom) none ≡ call
+  unfolding withoutCall
+  out-room b v l none-left s = rw (b, v, l, s)
 
-  pub out-bad-end : bad ≡ false → valid ≡ true → large ≡ false → short ≡ false → good ≡ false → some Unreachable ≡ way
-  unfolding withoutSearch
-  out-bad-end b v l s g = rw (b, v, l, s, g)
+  -- ---- a refusal goes before what comes after, and without one that is said
 
-  pub out-last : bad ≡ false → valid ≡ true → large ≡ false → short ≡ false → good ≡ true → (nothing : Bool) → eqb (r .«node_budget») 0 ≡ nothing → cond nothing (some BudgetExceeded) none ≡ way
-  unfolding withoutSearch
-  out-last b v l s g nothing z = rw (b, v, l, s, g, z)
+  module _ {A : Type 0} (says : Outcome → A) (after : A) where
+    abbrev judged : A
+    judged = callJudged w cells shapes boxes r body nodes front out wrongIndex says after
 
-  -- ---- and back: a search that begins
+    said : (o p : Outcome) → some o ≡ some p → says o ≡ says p
+    said o p e = let z : o ≡ p = cc in ap says z
 
-  pub record Begun : Type 0 where
+    pub call-refused : (o : Outcome) → some o ≡ call → says o ≡ judged
+    unfolding withoutCall
+    call-refused o = go bad (not valid) large short
+      where
+        go : (b v l s : Bool) → some o ≡ cond b (some BadWorld) (cond v (some Unreachable) (cond l (some TooLarge) (cond s (some NoRoom) none))) →
+            says o ≡ cond b (says BadWorld) (cond v (says Unreachable) (cond l (says TooLarge) (cond s (says NoRoom) after)))
+        go true v l s e = said o BadWorld e
+        go false true l s e = said o Unreachable e
+        go false false true s e = said o TooLarge e
+        go false false false true e = said o NoRoom e
+        go false false false false e = absurd (none-some (sym e))
+
+    pub call-passed : none ≡ call → after ≡ judged
+    unfolding withoutCall
+    call-passed = go bad (not valid) large short
+      where
+        go : (b v l s : Bool) → none ≡ cond b (some BadWorld) (cond v (some Unreachable) (cond l (some TooLarge) (cond s (some NoRoom) none))) →
+            after ≡ cond b (says BadWorld) (cond v (says Unreachable) (cond l (says TooLarge) (cond s (says NoRoom) after)))
+        go true v l s e = absurd (none-some e)
+        go false true l s e = absurd (none-some e)
+        go false false true s e = absurd (none-some e)
+        go false false false true e = absurd (none-some e)
+        go false false false false e = refl
+
+  -- ---- and back: what a call that passed them may rely on
+
+  pub record Passed : Type 0 where
     pub world : bad ≡ false
     pub few-nodes : r .«node_budget» ≤ 4096
     pub node-room : 64 * r .«node_budget» ≤ nodes
@@ -101,7 +123,7 @@ module _ (w : Window) (cells perms shapes boxes : List ℕ) (r : Request) (body 
   unfolding tooLarge
   small e = ltb-false 4096 (r .«node_budget») (or-false (sizesTooLarge r body) (ltb 4096 (r .«node_budget»)) e .1)
 
-  has-room : bad ≡ false → large ≡ false → short ≡ false → Begun
+  has-room : bad ≡ false → large ≡ false → short ≡ false → Passed
   unfolding noRoom
   has-room b l e′ =
       let n = r .«node_budget» in
@@ -114,16 +136,47 @@ module _ (w : Window) (cells perms shapes boxes : List ℕ) (r : Request) (body 
         front-room = ltb-false front (24 * n) (or-false (ltb nodes (64 * n)) (ltb front (24 * n)) f .1);
         out-room = ltb-false out (48 * (n + 1)) (or-false (ltb nodes (64 * n) || ltb front (24 * n)) (ltb out (48 * (n + 1))) e .1) }
 
-  -- a test that a search passed was not met
+  -- a test that a call passed was not met
   passed : (b : Bool) (o : Outcome) (x : Option Outcome) → cond b (some o) x ≡ none → (b ≡ false) × (x ≡ none)
   passed true o x e = absurd (none-some (sym e))
   passed false o x e = (refl, e)
 
-  pub begins : way ≡ none → Begun
-  unfolding withoutSearch
-  begins e =
+  passed-to : (after : Option Outcome) → callJudged w cells shapes boxes r body nodes front out wrongIndex some after ≡ none → Passed × (after ≡ none)
+  passed-to after e =
       let b = passed bad BadWorld _ e in
       let v = passed (not valid) Unreachable _ (b .1) in
       let l = passed large TooLarge _ (v .1) in
       let s = passed short NoRoom _ (l .1) in
-      has-room (b .0) (l .0) (s .0)
+      (has-room (b .0) (l .0) (s .0), s .1)
+
+  pub passes : call ≡ none → Passed
+  unfolding withoutCall
+  passes e = passed-to none e .0
+
+  -- ---- `judge`: the ends and the budget come after
+
+  module _ (perms : List ℕ) where
+    abbrev good : Bool
+    good = endsGood (space w cells perms shapes boxes) r body
+
+    abbrev way : Option Outcome
+    way = withoutSearch w cells perms shapes boxes r body nodes front out wrongIndex
+
+    abbrev ends : Option Outcome
+    ends = cond (not good) (some Unreachable) (cond (eqb (r .«node_budget») 0) (some BudgetExceeded) none)
+
+    pub search-refused : (o : Outcome) → some o ≡ call → some o ≡ way
+    unfolding withoutSearch
+    search-refused o e = call-refused some ends o e
+
+    pub out-bad-end : none ≡ call → good ≡ false → some Unreachable ≡ way
+    unfolding withoutSearch
+    out-bad-end e g = let z : some Unreachable ≡ ends = rw g in z ∙ call-passed some ends e
+
+    pub out-last : none ≡ call → good ≡ true → (nothing : Bool) → eqb (r .«node_budget») 0 ≡ nothing → cond nothing (some BudgetExceeded) none ≡ way
+    unfolding withoutSearch
+    out-last e g nothing z = let y : cond nothing (some BudgetExceeded) none ≡ ends = rw (g, z) in y ∙ call-passed some ends e
+
+    pub begins : way ≡ none → Passed
+    unfolding withoutSearch
+    begins e = passed-to ends e .0

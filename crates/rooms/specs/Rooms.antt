@@ -16,7 +16,7 @@ use Rattle.rooms.specs.declared.Label.{Label}
 use Rattle.rooms.specs.declared.NodeRecord.{NodeRecord}
 use Rattle.rooms.specs.declared.Entry.{Entry}
 use Rattle.rooms.specs.declared.Counts.{Counts}
-use Rattle.rooms.specs.Records.{nodeLayout, nodeWords, nodeAt, entryAt}
+use Rattle.rooms.specs.Records.{nodeLayout, nodeWords, nodeAt, entryLayout, entryWords, entryAt}
 use Rattle.rooms.specs.Scans.{waits, estimateOf}
 
 -- what the search notes of a node: the pattern of its cost, its closed mark, and its frontier record
@@ -69,3 +69,14 @@ nodeBytes n = recordBytes nodeLayout (nodeWords (recordOf n))
 -- "the node room holds the retained nodes in discovery order, then its old bytes"
 abbrev pub nodeRoom : List ℕ → List (Node Feet Label Note) → List ℕ
 nodeRoom old ns = recordsBytes nodeBytes ns ++ drop (64 * length ns) old
+
+abbrev pub entryBytes : Node Feet Label Note → List ℕ
+entryBytes n = recordBytes entryLayout (entryWords (n .note .entry))
+
+-- the frontier records of the retained nodes, then the room's old bytes
+abbrev pub frontRoom : List ℕ → List (Node Feet Label Note) → List ℕ
+frontRoom old ns = recordsBytes entryBytes ns ++ drop (24 * length ns) old
+
+-- 02, No. 10: "the counts (retained, closed, pushed, dropped)"
+abbrev pub countsIn : State Feet Label Note ℕ → Counts
+countsIn s = record { retained = length (s .nodes); closed = s .closings; pushed = s .book; dropped = s .dropped }

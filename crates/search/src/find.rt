@@ -1,8 +1,7 @@
 // The public call (01, "Numbers given back": "Search order"): the start, as many expansions as the budget, the list, and the frontier and index rooms all zero.
 use crate::Task;
-use crate::turns::expand;
+use crate::turns::spin;
 use outcomes::Answer;
-use outcomes::Turn;
 use refusals::Judged;
 use visits::Aim;
 use world::Body;
@@ -12,9 +11,6 @@ ghost use mathlib.Core.Path.{_≡_};
 ghost use lib.ListN.{length};
 ghost use Rattle.outcomes.specs.Outcomes.{answerGiven};
 ghost use Rattle.search.specs.FindWalkPath.{found, nodesAfter, frontAfter, indexAfter, outAfter};
-
-// How many tops one pass over a column finds. A column of a good world has at most some two thousand (131 layers of 16 boxes), most have one or two.
-const TOPS: usize = 256;
 
 // A way from the request's start to its goal, through the world of the tables: the list is written to `out`; `nodes`, `front` and `index` are the search's
 // rooms.
@@ -37,20 +33,8 @@ pub fn find_walk_path(
     let aim = Aim { budget, goal };
     let task = Task { w, r, body, aim };
     writes::zero(index); // what it held decides nothing
-    let mut known: usize = 0;
-    let mut low: usize = 0; // the nodes before it are at rest
-    let mut room = [0.0; TOPS];
-    let mut turn = Turn::Going(visits::begin(nodes, front, budget, words::feet_of(r.start)));
-    let mut t: usize = 0;
-    while t < budget {
-        let Turn::Going(c) = turn else {
-            break;
-        };
-        known = index::extend(index, nodes, known, c.retained);
-        low = scans::first_busy(nodes, front, low, c.retained);
-        turn = expand(task, cells, perms, shapes, boxes, nodes, front, index, known, low, &mut room, c);
-        t += 1;
-    }
+    let c = visits::begin(nodes, front, budget, words::feet_of(r.start));
+    let turn = spin(task, cells, perms, shapes, boxes, nodes, front, index, c, budget);
     writes::zero(index);
     conclusion::conclude(nodes, front, task.aim.goal, turn, out)
 }

@@ -3,26 +3,23 @@
 use mathlib.Core.Path.{_≡_, refl, sym, ap, _∙_}
 use mathlib.Core.Bool.{Bool, true, false}
 use mathlib.Core.Option.{none}
-use mathlib.Core.List.{List, [], _++_}
+use mathlib.Core.List.{List, []}
 use Prim.Native.Nat.{ℕ, zero, suc, _+_, _*_, _≤_}
 use native.Mathlib.Omega.{arith}
-use lib.ListN.{length, take, drop}
+use lib.ListN.{length}
 use Rattle.exploration.specs.Graph.{Graph}
-use Rattle.exploration.specs.Policy.{Node}
 use Rattle.exploration.specs.Explore.{State, apply, effectAt, close}
 use Rattle.exploration.specs.Laws.Lists.{true-false}
 use Rattle.fields.specs.Pieces.{Bytes}
-use Rattle.fields.specs.Records.{recordBytes, recordsBytes}
-use Rattle.fields.specs.RecordLaws.{length-firsts, record-bytes, room-is}
+use Rattle.fields.specs.RecordLaws.{length-firsts}
 use Rattle.rooms.specs.declared.Feet.{Feet}
 use Rattle.rooms.specs.declared.Label.{Label}
 use Rattle.rooms.specs.declared.NodeRecord.{NodeRecord}
 use Rattle.rooms.specs.declared.Counts.{Counts}
 use Rattle.rooms.specs.Waypoints.{samePoint, alike, standing}
-use Rattle.rooms.specs.Records.{entryLayout, entryWords, entryAt}
 use Rattle.rooms.specs.Scans.{idle}
-use Rattle.rooms.specs.Rooms.{Note, nodeOf, nodeIn, nodesOf, stateOf, nodeRoom}
-use Rattle.rooms.specs.Laws.Rooms.{node-room}
+use Rattle.rooms.specs.Rooms.{Note, nodeOf, nodeIn, nodesOf, stateOf, nodeRoom, frontRoom}
+use Rattle.rooms.specs.Laws.Rooms.{node-room, front-room}
 use Rattle.visits.specs.declared.Aim.{Aim}
 use Rattle.visits.specs.declared.Closing.{Closing}
 use Rattle.visits.specs.declared.Visit.{Visit}
@@ -38,23 +35,6 @@ pub record Lent (a f b g : List ℕ) : Type 0 where
   pub front-length : length g ≡ length f
   pub nodes-bytes : Bytes b
   pub front-bytes : Bytes g
-
--- ---- the frontier room in bytes, as `node-room` has the node room
-
-abbrev entryBytes : Node Feet Label Note → List ℕ
-entryBytes n = recordBytes entryLayout (entryWords (n .note .entry))
-
-abbrev frontRoom : List ℕ → List (Node Feet Label Note) → List ℕ
-frontRoom old ns = recordsBytes entryBytes ns ++ drop (24 * length ns) old
-
-entry-bytes : (a f : List ℕ) (k : ℕ) → Bytes f → 24 * k + 24 ≤ length f → entryBytes (nodeIn a f k) ≡ take 24 (drop (24 * k) f)
-unfolding nodeOf entryAt
-entry-bytes a f k h l = let z : 24 * k + 0 ≡ 24 * k = omega arith in record-bytes entryLayout f (24 * k) 0 h (omega arith) ∙ rw z
-
-front-room : (old a f : List ℕ) (n : ℕ) → Bytes f → 24 * n ≤ length f → drop (24 * n) f ≡ drop (24 * n) old → f ≡ frontRoom old (nodesOf n a f)
-front-room old a f n h l d =
-    room-is entryBytes 24 (nodeIn a f) f old n (λ k i. entry-bytes a f k h (omega arith)) d
-    ∙ ap (λ (k : ℕ). recordsBytes entryBytes (nodesOf n a f) ++ drop (24 * k) old) (sym (length-firsts n (nodeIn a f)))
 
 -- ---- one state, one content
 

@@ -25,10 +25,10 @@ use Rattle.rooms.specs.declared.Label.{Label}
 use Rattle.rooms.specs.declared.NodeRecord.{NodeRecord}
 use Rattle.rooms.specs.declared.Entry.{Entry}
 use Rattle.rooms.specs.Waypoints.{samePoint}
-use Rattle.rooms.specs.Records.{nodeLayout, nodeAt}
+use Rattle.rooms.specs.Records.{nodeLayout, nodeAt, entryLayout, entryAt}
 use Rattle.rooms.specs.Scans as scans
 use Rattle.rooms.specs.Scans.{waits, isAt, firstAt, indexOr, nextOf}
-use Rattle.rooms.specs.Rooms.{Note, nobody, parentOf, nodeOf, nodeIn, nodesOf, nodeWaits, nodeSooner, parentWord, nodeBytes, nodeRoom}
+use Rattle.rooms.specs.Rooms.{Note, nobody, parentOf, nodeOf, nodeIn, nodesOf, nodeWaits, nodeSooner, parentWord, nodeBytes, nodeRoom, entryBytes, frontRoom}
 use Rattle.rooms.specs.Laws.Writes.{WroteNode, WroteEntry}
 use Rattle.rooms.specs.Laws.Scans.{First, first-is}
 
@@ -182,6 +182,10 @@ node-bytes : (a f : List ℕ) (k : ℕ) → Bytes a → 64 * k + 64 ≤ length a
 unfolding nodeOf nodeAt
 node-bytes a f k h l = let e = parent-word (nodeAt a k .parent) in let z : 64 * k + 0 ≡ 64 * k = omega arith in rw e (record-bytes nodeLayout a (64 * k) 0 h (omega arith) ∙ rw z)
 
+entry-bytes : (a f : List ℕ) (k : ℕ) → Bytes f → 24 * k + 24 ≤ length f → entryBytes (nodeIn a f k) ≡ take 24 (drop (24 * k) f)
+unfolding nodeOf entryAt
+entry-bytes a f k h l = let z : 24 * k + 0 ≡ 24 * k = omega arith in record-bytes entryLayout f (24 * k) 0 h (omega arith) ∙ rw z
+
 -- rooms whose bytes past n records are as they were are those records in bytes, and their old bytes
 module _ (old a f : List ℕ) (n : ℕ) where
   long : length (nodesOf n a f) ≡ n
@@ -189,3 +193,6 @@ module _ (old a f : List ℕ) (n : ℕ) where
 
   pub node-room : Bytes a → 64 * n ≤ length a → drop (64 * n) a ≡ drop (64 * n) old → a ≡ nodeRoom old (nodesOf n a f)
   node-room h l d = room-is nodeBytes 64 (nodeIn a f) a old n (λ k i. node-bytes a f k h (omega arith)) d ∙ ap (λ (k : ℕ). recordsBytes nodeBytes (nodesOf n a f) ++ drop (64 * k) old) (sym long)
+
+  pub front-room : Bytes f → 24 * n ≤ length f → drop (24 * n) f ≡ drop (24 * n) old → f ≡ frontRoom old (nodesOf n a f)
+  front-room h l d = room-is entryBytes 24 (nodeIn a f) f old n (λ k i. entry-bytes a f k h (omega arith)) d ∙ ap (λ (k : ℕ). recordsBytes entryBytes (nodesOf n a f) ++ drop (24 * k) old) (sym long)
