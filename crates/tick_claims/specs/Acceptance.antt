@@ -1,128 +1,50 @@
--- No call of an untouched search draws 12 BadProgress (02, No. 10): every state that the search of a valid request comes to and that is still searching, written to rooms, passes
--- 12's clauses. First the clauses of the search's own nodes, then of the records that hold them.
-use Prim.Native.Nat.{ℕ, zero, suc, _+_, _-_, _*_, _/_, _≤_, _<_}
+-- No call of an untouched search draws 12 BadProgress (02, No. 10): rooms and counts that hold a state that is still searching pass each of 12's clauses.
+use Prim.Native.Nat.{ℕ, suc, _+_, _-_, _*_, _/_, _≤_, _<_}
 use native.Mathlib.Omega.{arith}
-use mathlib.Core.Path.{_≡_, refl, sym, ap, subst, _∙_}
-use mathlib.Core.Bool.{Bool, true, false, not, _&&_, _||_, cond}
+use mathlib.Core.Path.{_≡_, sym, ap, subst, _∙_}
+use mathlib.Core.Bool.{Bool, true, false, cond}
 use mathlib.Core.Option.{none, some}
 use mathlib.Core.List.{List}
 use mathlib.Core.Logic.{_⊎_, inl, inr, ⊎-elim, _≢_}
 use lib.Dec.{eqb, leb, ltb}
-use lib.ListN.{length, getD, drop, replicate}
+use lib.ListN.{length, drop, replicate}
 use lib.Ieee.Scale.{finite}
 use borrow.Author.Tests.{eqb-true, eqb-false, eq-eqb, le-leb, lt-ltb, ltb-true, ltb-false}
 use Rattle.exploration.specs.Lists.{nth}
 use Rattle.exploration.specs.Graph.{Graph}
-use Rattle.exploration.specs.Policy.{Node, Policy, PolicyLaws}
-use Rattle.exploration.specs.Explore.{State, Searching, begin, outcome}
-use Rattle.exploration.specs.Laws.Counts.{run-counts}
-use Rattle.exploration.specs.Laws.Endings.{wait-of, inv-going}
-use Rattle.exploration.specs.Laws.Expansions.{Sound, sound-room, sound-counted, open-of, ran, begin-sound}
-use Rattle.exploration.specs.Laws.Invariant.{Link, first-link, next-link, Trail, first-trail, next-trail, Inv}
-use Rattle.exploration.specs.Laws.Lists.{true-or-false, true-false, none-some, and-both, or-left, or-right, or-false, nth-lt, nth-one, count-le}
-use Rattle.exploration.specs.Laws.Roots.{start-alone}
-use Rattle.fields.specs.Little.{leAt, fitsAt, field}
+use Rattle.exploration.specs.Policy.{Node, Policy}
+use Rattle.exploration.specs.Explore.{Searching, outcome}
+use Rattle.exploration.specs.Laws.Invariant.{Link, first-link, next-link, Trail, first-trail, next-trail}
+use Rattle.exploration.specs.Laws.Lists.{true-or-false, true-false, none-some, nth-lt, nth-one}
+use Rattle.fields.specs.Little.{field}
+use Rattle.fields.specs.Laws.{field-zeros}
 use Rattle.fields.specs.Pieces.{field-drop}
 use Rattle.fields.specs.RecordLaws.{length-firsts}
 use Rattle.world.specs.declared.Window.{Window}
 use Rattle.world.specs.declared.Body.{Body}
 use Rattle.world.specs.declared.Request.{Request}
-use Rattle.world.specs.Space.{Space, space}
+use Rattle.world.specs.Space.{space}
 use Rattle.tables.specs.BadWorld.{badWorld}
-use Rattle.request.specs.Request.{validRequest, sizesTooLarge, tooLarge}
+use Rattle.request.specs.Request.{validRequest, tooLarge}
 use Rattle.rooms.specs.declared.Feet.{Feet}
 use Rattle.rooms.specs.declared.Label.{Label}
 use Rattle.rooms.specs.declared.Counts.{Counts}
 use Rattle.rooms.specs.Records.{nodeAt, entryAt}
 use Rattle.rooms.specs.Scans.{waits, estimateOf}
-use Rattle.rooms.specs.Rooms.{Note, nobody, parentOf, parentWord, nodeOf, nodeIn, nodesOf, stateOf}
+use Rattle.rooms.specs.Rooms.{Note, nobody, parentOf, parentWord, nodeOf, nodeIn, stateOf}
 use Rattle.rooms.specs.Laws.Rooms.{nth-firsts, parent-word}
 use Rattle.words.specs.Words.{feetOf}
 use Rattle.steps.specs.Graph.{graph}
-use Rattle.steps.specs.GraphLaws.{graph-laws}
-use Rattle.steps.specs.Bounds.{graph-bounded}
 use Rattle.visits.specs.Best.{best}
-use Rattle.visits.specs.Laws.Policy.{best-laws, best-pushes}
-use Rattle.chains.specs.Chains.{eachBelow, goodParent, parentBack, parentsBack, endsAtStart, goodChains}
+use Rattle.chains.specs.Chains.{eachBelow, goodParent, parentsBack, endsAtStart, goodChains}
 use Rattle.chains.specs.Laws.{each-all, back-zero, step-on, linked-first, linked-in, linked-closed, ends-within, good-all}
-use Rattle.progress.specs.Progress.{goodAsked, goodRetained, goodClosed, goodPushed, goodDropped, goodCounts, goodPoint, goodCost, goodMovement, goodMarks, goodNode, isIdle, someWaits, goodWait, goodProgress}
+use Rattle.progress.specs.Progress.{goodCounts, goodPoint, goodCost, goodMovement, goodNode, someWaits, goodWait, goodProgress}
 use Rattle.progress.specs.Laws.{waits-at, progress-by}
 use Rattle.claims.specs.Words.{InF64, after}
 use Rattle.claims.specs.Laws.Bounds.{up-to-finite}
-use Rattle.claims.specs.Laws.Fits.{space-tops}
-use Rattle.claims.specs.Laws.Marks.{Marked, nodes-marked}
-use Rattle.claims.specs.Laws.Nodes.{AllOf}
-use Rattle.tick_claims.specs.Retained.{Fit, nodes-fit}
+use Rattle.tick_claims.specs.UnderWay.{UnderWay, limits, under-way}
 
--- ---- the search's own nodes
-
--- what a state has that is still searching
-record UnderWay (r : Request) (𝓖 : Graph Feet Label) (𝓟 : Policy Feet Label Note ℕ) (s : State Feet Label Note ℕ) : Type 0 where
-  pub retained : length (s .nodes) ≤ r .«node_budget»
-  pub closed : s .closings ≤ length (s .nodes)
-  pub pushed : s .book < 4294967296
-  pub dropped : s .dropped < 4294967296
-  pub fit : AllOf (Fit r (s .closings)) (s .nodes)
-  pub marked : AllOf Marked (s .nodes)
-  pub alone : (k : ℕ) (x : Node Feet Label Note) → nth (s .nodes) k ≡ some x → (k ≡ 0 → x .parent ≡ none) × (k ≢ 0 → x .parent ≢ none)
-  pub invariant : Inv 𝓖 𝓟 (r .«node_budget») none s
-  pub opens : (k : ℕ) (x : Node Feet Label Note) → nth (s .nodes) k ≡ some x → waits (x .note .entry) ≡ true → x .closed ≡ false
-  pub next : ℕ
-  pub next-node : Node Feet Label Note
-  pub next-there : nth (s .nodes) next ≡ some next-node
-  pub next-waits : waits (next-node .note .entry) ≡ true
-
-module _ (w : Window) (cells perms shapes boxes : List ℕ) (r : Request) (body : Body) (f : InF64 r) (valid : validRequest r body ≡ true) (small : tooLarge r body ≡ false)
-    (good : badWorld w cells shapes boxes ≡ false) (m : ℕ) where
-  abbrev sp : Space
-  sp = space w cells perms shapes boxes
-
-  abbrev 𝓖 : Graph Feet Label
-  𝓖 = graph sp r body
-
-  abbrev 𝓟 : Policy Feet Label Note ℕ
-  𝓟 = best (feetOf (r .goal))
-
-  abbrev s : State Feet Label Note ℕ
-  s = after sp r body m
-
-  sizes-small : (sizesTooLarge r body ≡ false) × (r .«node_budget» ≤ 4096)
-  unfolding tooLarge
-  sizes-small = let z = or-false (sizesTooLarge r body) (ltb 4096 (r .«node_budget»)) small in (z .0, ltb-false 4096 (r .«node_budget») (z .1))
-
-  sound : Sound 𝓖 𝓟 (r .«node_budget») s
-  sound =
-      let 𝓛 = graph-laws sp r body in
-      let 𝓠 = best-laws (feetOf (r .goal)) in
-      ran 𝓖 𝓟 𝓛 𝓠 (r .«node_budget») m (begin 𝓖 𝓟 (r .«node_budget»)) (begin-sound 𝓖 𝓟 𝓛 𝓠 (r .«node_budget»)) .0
-
-  under-way : outcome 𝓖 𝓟 s ≡ Searching → UnderWay r 𝓖 𝓟 s
-  under-way e =
-      let wait = wait-of 𝓖 𝓟 s e in
-      let chosen = best-laws (feetOf (r .goal)) .pick-some (s .nodes) (s .book) (wait .1 .0) (wait .1 .1) in
-      let room = sound-room 𝓖 𝓟 sound in
-      let closes : s .closings ≤ length (s .nodes) = omega (arith, sound-counted 𝓖 𝓟 sound, count-le (λ n. n .closed) (s .nodes)) in
-      let counts = run-counts 𝓖 𝓟 (λ g. g) (best-pushes 𝓖 (feetOf (r .goal))) (r .«node_budget») 36864 (graph-bounded w cells perms shapes boxes r body good) m in
-      record {
-        retained = room;
-        closed = closes;
-        pushed = omega (arith, counts .0, sizes-small .1, first);
-        dropped = omega (arith, counts .1, sizes-small .1);
-        fit = nodes-fit sp (space-tops w cells perms shapes boxes) r body f valid (sizes-small .0) (r .«node_budget») m (omega (arith, sizes-small .1));
-        marked = nodes-marked 𝓖 (feetOf (r .goal)) (r .«node_budget») m;
-        alone = start-alone 𝓖 𝓟 (best-laws (feetOf (r .goal))) (r .«node_budget») m;
-        invariant = inv-going 𝓖 𝓟 sound (wait .0);
-        opens = unfold best in open-of 𝓖 𝓟 (inv-going 𝓖 𝓟 sound (wait .0));
-        next = wait .1 .0 .0;
-        next-node = wait .1 .0 .1;
-        next-there = chosen .0;
-        next-waits = unfold best in chosen .1;
-      }
-    where
-      first : 𝓟 .opening .1 ≡ 1
-      first = unfold best in refl
-
--- ---- the records that hold them
+-- ---- the words of a record
 
 parent-is : (p j : ℕ) → parentOf p ≡ some j → p ≡ j
 parent-is p j e = sym (parent-word p) ∙ ap parentWord e
@@ -280,25 +202,6 @@ module _ (r : Request) (𝓖 : Graph Feet Label) (𝓟 : Policy Feet Label Note 
       let waiting = each-all (goodWait a f n) (length f / 24) (λ k h. wait-good blank k) in
       sym (progress-by r a f c x (counts-good x one most)) ∙ rw (nodes, chains, some-good, waiting)
 
--- TEMP
-zero-at : (n at : ℕ) → _≡_ {A = ℕ} (getD (replicate n 0) at 0) 0
-zero-at zero at = refl
-zero-at (suc n) zero = refl
-zero-at (suc n) (suc at) = zero-at n at
-
-zeros-at : (m n at : ℕ) → leAt m (replicate n 0) at ≡ 0
-zeros-at zero n at = refl
-zeros-at (suc m) n at = let e = zeros-at m n (suc at) in let z = zero-at n at in rw (z, e)
-
-field-zeros : (m n at : ℕ) → field m (replicate n 0) at ≡ 0
-unfolding field
-field-zeros m n at = go (fitsAt m (replicate n 0) at)
-  where
-    go : (b : Bool) → cond b (leAt m (replicate n 0) at) 0 ≡ 0
-    go true = zeros-at m n at
-    go false = refl
--- TEMP END
-
 -- past the records that hold nodes the frontier room is zero
 module _ (f : List ℕ) (n : ℕ) (zero-past : drop (24 * n) f ≡ drop (24 * n) (replicate (length f) 0)) where
   idle-past : (k : ℕ) → n ≤ k → waits (entryAt f k) ≡ false
@@ -325,4 +228,4 @@ untouched-accepted w cells perms shapes boxes r body f valid small good m e node
     let 𝓖 = graph sp r body in
     let 𝓟 = best (feetOf (r .goal)) in
     let g = under-way w cells perms shapes boxes r body f valid small good m e in
-    progress-good r 𝓖 𝓟 nodes front c (subst (UnderWay r 𝓖 𝓟) (sym held) g) n one most (sizes-small w cells perms shapes boxes r body f valid small good m .1) (idle-past front (c .retained) zero-past)
+    progress-good r 𝓖 𝓟 nodes front c (subst (UnderWay r 𝓖 𝓟) (sym held) g) n one most (limits r body small .1) (idle-past front (c .retained) zero-past)

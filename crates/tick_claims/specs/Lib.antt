@@ -1,3 +1,5 @@
--- What a search that nobody touches between its calls comes to (02, No. 10). Retained: what each node that it keeps has. Acceptance: its rooms and counts pass 12's clauses.
+-- What a search that nobody touches between its calls comes to (02, No. 10). What a reader must believe: of Acceptance the claim `untouched-accepted`. Retained has what each
+-- node that it keeps is, UnderWay what a state is that is still searching.
 pub mod Retained
+pub mod UnderWay
 pub mod Acceptance

@@ -2,14 +2,13 @@
 -- estimate that are finite. No distance is above 2 ^ 34, and so no cost is above as many of them as nodes were closed.
 use Prim.Native.Nat.{ℕ, suc, _+_, _*_, _^_, _≤_, _<_}
 use native.Mathlib.Omega.{arith}
-use mathlib.Core.Path.{_≡_, refl, sym, ap, _∙_}
+use mathlib.Core.Path.{_≡_}
 use mathlib.Core.Bool.{Bool, true, false}
 use mathlib.Core.Option.{some}
 use mathlib.Core.List.{List, []}
 use lib.IntN.{pos}
 use lib.Ieee.{binary64, add, mul, lt, ofBits}
 use lib.Ieee.Fits.{add-fits}
-use Rattle.exploration.specs.Lists.{nth}
 use Rattle.exploration.specs.Graph.{Graph}
 use Rattle.exploration.specs.Policy.{Node}
 use Rattle.exploration.specs.Explore.{child, closedNode, run, begin}

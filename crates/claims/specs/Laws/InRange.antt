@@ -26,6 +26,9 @@ use Rattle.arrival.specs.Alike.{zero-alike, no-difference, absolute-alike}
 use Rattle.claims.specs.Laws.NotNegative.{of-rounding}
 use Rattle.claims.specs.Laws.Bounds.{UpTo, whole-f64, int-up-to, sum-up-to, difference-up-to, difference-back, size-up-to, from-nought-up-to}
 
+of-three : (a b c : Bool) → (a && b && c) ≡ true → (a ≡ true) × (b ≡ true) × (c ≡ true)
+of-three a b c h = let two = and-first (a && b) c h in (and-first a b two, and-second a b two, and-second (a && b) c h)
+
 -- 2 ^ 32
 abbrev big : Float
 big = fin false 1 (pos 32)
@@ -145,11 +148,11 @@ module _ (r : Request) (body : Body) (valid : validRequest r body ≡ true) wher
   in-range-finite p h =
       let most = add binary64 (r .«max_range») E in
       let s = valid-finite r body valid .start in
-      let two = and-first (near most (p .x) (r .start .x) && near most (p .y) (r .start .y)) (near most (p .z) (r .start .z)) h in
+      let t = of-three (near most (p .x) (r .start .x)) (near most (p .y) (r .start .y)) (near most (p .z) (r .start .z)) h in
       record {
-        x = near-finite (p .x) (r .start .x) (s .x) (and-first (near most (p .x) (r .start .x)) (near most (p .y) (r .start .y)) two);
-        y = near-finite (p .y) (r .start .y) (s .y) (and-second (near most (p .x) (r .start .x)) (near most (p .y) (r .start .y)) two);
-        z = near-finite (p .z) (r .start .z) (s .z) (and-second (near most (p .x) (r .start .x) && near most (p .y) (r .start .y)) (near most (p .z) (r .start .z)) h);
+        x = near-finite (p .x) (r .start .x) (s .x) (t .0);
+        y = near-finite (p .y) (r .start .y) (s .y) (t .1);
+        z = near-finite (p .z) (r .start .z) (s .z) (t .2);
       }
 
   -- the start itself, which differs from itself by a zero
@@ -212,24 +215,24 @@ module _ (r : Request) (body : Body) (valid : validRequest r body ≡ true) (sma
   within-up-to : (p : Point) → within (limit r body) p ≡ true → UpToPoint 2147483739 p
   unfolding within
   within-up-to p h =
-      let two = and-first (lt (absolute (p .x)) (limit r body) && lt (absolute (p .y)) (limit r body)) (lt (absolute (p .z)) (limit r body)) h in
-      record {
-        x = each (p .x) (and-first (lt (absolute (p .x)) (limit r body)) (lt (absolute (p .y)) (limit r body)) two);
-        y = each (p .y) (and-second (lt (absolute (p .x)) (limit r body)) (lt (absolute (p .y)) (limit r body)) two);
-        z = each (p .z) (and-second (lt (absolute (p .x)) (limit r body) && lt (absolute (p .y)) (limit r body)) (lt (absolute (p .z)) (limit r body)) h);
-      }
+      let most = limit r body in
+      let t = of-three (lt (absolute (p .x)) most) (lt (absolute (p .y)) most) (lt (absolute (p .z)) most) h in
+      record { x = each (p .x) (t .0); y = each (p .y) (t .1); z = each (p .z) (t .2) }
     where
       each : (a : Float) → lt (absolute a) (limit r body) ≡ true → UpTo 2147483739 a
       each a h = size-up-to 2147483739 a limit-up-to (lt-le (absolute a) (limit r body) h)
 
-  pub start-up-to : UpToPoint 2147483739 (r .start)
+  ends-placed : (lt nought (limit r body) ≡ true) × (within (limit r body) (r .start) ≡ true) × (within (limit r body) (r .goal) ≡ true)
   unfolding placed
-  start-up-to = within-up-to (r .start) (and-second (lt nought (limit r body)) (within (limit r body) (r .start)) (and-first (lt nought (limit r body) && within (limit r body) (r .start)) (within (limit r body) (r .goal)) (tested r body valid .2)))
+  ends-placed = of-three (lt nought (limit r body)) (within (limit r body) (r .start)) (within (limit r body) (r .goal)) (tested r body valid .2)
+
+  start-up-to : UpToPoint 2147483739 (r .start)
+  start-up-to = within-up-to (r .start) (ends-placed .1)
 
   pub goal-up-to : UpToPoint 2147483739 (r .goal)
-  unfolding placed
-  goal-up-to = within-up-to (r .goal) (and-second (lt nought (limit r body) && within (limit r body) (r .start)) (within (limit r body) (r .goal)) (tested r body valid .2))
+  goal-up-to = within-up-to (r .goal) (ends-placed .2)
 
+  -- 66 more: max_range + E is at most 65, and what differs by 66 has a difference of at least 66 when it is rounded
   near-up-to : (a b : Float) → UpTo 2147483739 b → near (add binary64 (r .«max_range») E) a b ≡ true → UpTo 2147483805 a
   near-up-to a b u h =
       difference-back 65 2147483739 (whole-f64 66 (omega arith)) a b u
@@ -240,9 +243,5 @@ module _ (r : Request) (body : Body) (valid : validRequest r body ≡ true) (sma
   in-range-up-to p h =
       let most = add binary64 (r .«max_range») E in
       let s = start-up-to in
-      let two = and-first (near most (p .x) (r .start .x) && near most (p .y) (r .start .y)) (near most (p .z) (r .start .z)) h in
-      record {
-        x = near-up-to (p .x) (r .start .x) (s .x) (and-first (near most (p .x) (r .start .x)) (near most (p .y) (r .start .y)) two);
-        y = near-up-to (p .y) (r .start .y) (s .y) (and-second (near most (p .x) (r .start .x)) (near most (p .y) (r .start .y)) two);
-        z = near-up-to (p .z) (r .start .z) (s .z) (and-second (near most (p .x) (r .start .x) && near most (p .y) (r .start .y)) (near most (p .z) (r .start .z)) h);
-      }
+      let t = of-three (near most (p .x) (r .start .x)) (near most (p .y) (r .start .y)) (near most (p .z) (r .start .z)) h in
+      record { x = near-up-to (p .x) (r .start .x) (s .x) (t .0); y = near-up-to (p .y) (r .start .y) (s .y) (t .1); z = near-up-to (p .z) (r .start .z) (s .z) (t .2) }

@@ -1,5 +1,5 @@
--- How far the counts of a run go: an expansion closes one node, and each of its steps drops at most one point and adds at most one to the book. Assumes nothing of the
--- graph but how many steps a point has, and nothing of the policy but that.
+-- How far the counts of a run go: an expansion closes one node, and each of its steps drops at most one point and adds at most one to what the policy counts in its book. So
+-- both are bounded by the closings, where the number of steps from a point is.
 use mathlib.Core.Path.{_≡_, refl, _∙_}
 use mathlib.Core.Bool.{Bool, true, false}
 use mathlib.Core.Option.{Option, none, some}
@@ -31,7 +31,7 @@ module _ {P L A B : Type 0} (𝓖 : Graph P L) (𝓟 : Policy P L A B) where
   visits-closings b k f s [] = refl
   visits-closings b k f s (w ∷ ws) = visits-closings b k f (visit 𝓖 𝓟 b k f s w) ws ∙ apply-closings b s (effect 𝓖 𝓟 k f (s .nodes) (s .book) w)
 
-  -- `size` counts what the policy has written into its book
+  -- `size` is what the policy counts in its book, as pushes
   module _ (size : B → ℕ) where
     pub record OneByOne : Type 0 where
       pub admits : (f : Node P L A) (w : P × L) (g : B) → size (admit f w g .1) ≤ suc (size g)

@@ -1,11 +1,10 @@
 -- Once the start is closed it alone is without a parent: before that there is no other node, and a closed node is not re-parented.
 use mathlib.Core.Path.{_≡_, refl, sym, ap, subst, _∙_}
-use mathlib.Core.Bool.{Bool, true, false}
-use mathlib.Core.Option.{Option, none, some}
+use mathlib.Core.Bool.{true, false}
+use mathlib.Core.Option.{none, some}
 use mathlib.Core.List.{List, [], _∷_, _++_}
 use mathlib.Core.Logic.{_⊎_, inl, inr, ⊎-elim, _≢_}
 use Prim.Native.Nat.{ℕ, zero, suc}
-use native.Mathlib.Omega.{arith}
 use lib.Dec.{eqb}
 use lib.ListN.{set}
 use borrow.Author.Tests.{eqb-true, eqb-false}
@@ -54,9 +53,10 @@ module _ {P L A : Type 0} where
 module _ {P L A B : Type 0} (𝓖 : Graph P L) (𝓟 : Policy P L A B) where
   shut-first : (c : ℕ) (ns : List (Node P L A)) (k : ℕ) (n : Node P L A) → Rooted c ns → nth ns k ≡ some n → Rooted (suc c) (set ns k (closedNode 𝓖 𝓟 n))
   shut-first zero ns k n i e =
-      let at = i k n e in
-      (record { node = closedNode 𝓖 𝓟 n; there = subst (λ (j : ℕ). nth (set ns k (closedNode 𝓖 𝓟 n)) j ≡ some (closedNode 𝓖 𝓟 n)) (at .0) (nth-set-same ns k (closedNode 𝓖 𝓟 n) n e); shut = refl; none-before = at .1 },
-      λ j m h z. ⊎-elim (λ q. absurd (z (q .0 ∙ at .0))) (λ q. absurd (z (i j m (q .1) .0))) (nth-set ns k (closedNode 𝓖 𝓟 n) j m h))
+      let at = i k n e in (
+        record { node = closedNode 𝓖 𝓟 n; there = subst (λ (j : ℕ). nth (set ns k (closedNode 𝓖 𝓟 n)) j ≡ some (closedNode 𝓖 𝓟 n)) (at .0) (nth-set-same ns k (closedNode 𝓖 𝓟 n) n e); shut = refl; none-before = at .1 },
+        λ j m h z. ⊎-elim (λ q. absurd (z (q .0 ∙ at .0))) (λ q. absurd (z (i j m (q .1) .0))) (nth-set ns k (closedNode 𝓖 𝓟 n) j m h),
+      )
   shut-first (suc c) ns k n i e = (first-set ns k n (closedNode 𝓖 𝓟 n) (i .0) e refl refl, others-set ns k (closedNode 𝓖 𝓟 n) (i .1) (λ z. i .1 k n e z))
 
   -- an open node is not the first
@@ -69,12 +69,14 @@ module _ {P L A B : Type 0} (𝓖 : Graph P L) (𝓟 : Policy P L A B) where
     begins = λ k n e. ⊎-elim (λ q. absurd (none-some q)) (λ q. (q .0, ap (λ m. m .parent) (q .1))) (nth-snoc [] (startNode 𝓖 𝓟) k n e);
     steps = λ c f j. each-any (𝓖 .steps (f .point));
     closes = λ c ns g k n i e w. (shut-first c ns k n i e, tt);
-    retains = λ c ns g k f w j t i.
-        (record { node = i .0 .node; there = nth-left ns _ 0 (i .0 .node) (i .0 .there); shut = i .0 .shut; none-before = i .0 .none-before },
-        others-more ns (child k (w .0) (w .1) (𝓟 .admit f w g .0)) (i .1) some-none);
-    reparents = λ c ns g k f w j m a _ _ i e s o x.
-        (record { node = i .0 .node; there = nth-set-other ns j _ 0 (open-later ns j m (i .0) e o) ∙ i .0 .there; shut = i .0 .shut; none-before = i .0 .none-before },
-        others-set ns j (child k (m .point) (w .1) (a .0)) (i .1) (λ z. some-none));
+    retains = λ c ns g k f w j t i. (
+      record { node = i .0 .node; there = nth-left ns _ 0 (i .0 .node) (i .0 .there); shut = i .0 .shut; none-before = i .0 .none-before },
+      others-more ns (child k (w .0) (w .1) (𝓟 .admit f w g .0)) (i .1) some-none,
+    );
+    reparents = λ c ns g k f w j m a _ _ i e s o x. (
+      record { node = i .0 .node; there = nth-set-other ns j _ 0 (open-later ns j m (i .0) e o) ∙ i .0 .there; shut = i .0 .shut; none-before = i .0 .none-before },
+      others-set ns j (child k (m .point) (w .1) (a .0)) (i .1) (λ z. some-none),
+    );
   }
 
   rooted-alone : (c : ℕ) (ns : List (Node P L A)) → Rooted c ns → (k : ℕ) (n : Node P L A) → nth ns k ≡ some n → (k ≡ 0 → n .parent ≡ none) × (k ≢ 0 → n .parent ≢ none)
