@@ -223,9 +223,9 @@ pub untouched-accepted : (w : Window) (cells perms shapes boxes : List ℕ) (r :
     (m : ℕ) → outcome (graph sp r body) (best (feetOf (r .goal))) (after sp r body m) ≡ Searching →
     (nodes front : List ℕ) (c : Counts) → stateOf nodes front c ≡ after sp r body m → drop (24 * c .retained) front ≡ drop (24 * c .retained) (replicate (length front) 0) →
     (n : ℕ) → 1 ≤ n → n ≤ 4096 → goodProgress r nodes front c n ≡ true
-untouched-accepted w cells perms shapes boxes r body f valid small good m e nodes front c held zero-past n one most =
+untouched-accepted w cells perms shapes boxes r body f valid small good m e nodes front c held zero-past x one most =
     let sp = space w cells perms shapes boxes in
     let 𝓖 = graph sp r body in
     let 𝓟 = best (feetOf (r .goal)) in
     let g = under-way w cells perms shapes boxes r body f valid small good m e in
-    progress-good r 𝓖 𝓟 nodes front c (subst (UnderWay r 𝓖 𝓟) (sym held) g) n one most (limits r body small .1) (idle-past front (c .retained) zero-past)
+    progress-good r 𝓖 𝓟 nodes front c (subst (UnderWay r 𝓖 𝓟) (sym held) g) x one most (limits r body small .1) (idle-past front (c .retained) zero-past)
