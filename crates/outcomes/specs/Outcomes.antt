@@ -12,8 +12,6 @@ use Rattle.outcomes.specs.declared.Outcome.the-variants.{Found, Unreacha
 use Rattle.outcomes.specs.declared.Answer.{Answer}
 use Rattle.outcomes.specs.declared.Path.{Path}
 use Rattle.outcomes.specs.declared.Path.the-variants.{Searched, BadTable}
-use Rattle.outcomes.specs.declared.Tick.{Tick}
-use Rattle.outcomes.specs.declared.Tick.the-variants.{Refused, BadProgress, Searching, Ended}
 use Rattle.outcomes.specs.declared.Turn.{Turn}
 use Rattle.outcomes.specs.declared.Turn.the-variants.{Rest, Going, At, By}
 
@@ -61,24 +59,6 @@ unfoldable pub pathGiven : Path → ℕ × List ℕ
 pathGiven (Searched a) = answerGiven a
 pathGiven BadTable = (pathNumber BadTable, [])
 
--- of a search in slices: 01's numbers, 02's 12 BadProgress, and for "still searching" a number of our own
-abbrev pub tickNumber : Tick → ℕ
-tickNumber (Refused o) = outcomeNumber o
-tickNumber BadProgress = 12
-tickNumber (Searching c) = 100
-tickNumber (Ended o n c) = outcomeNumber o
-
--- 02, No. 10: "the counts (retained, closed, pushed, dropped)"
-abbrev pub countsGiven : Counts → List ℕ
-countsGiven c = c .retained ∷ c .closed ∷ c .pushed ∷ c .dropped ∷ []
-
--- A refusal has no values; else they are the list's count, which is 0 while it goes on, and the counts.
-unfoldable pub tickGiven : Tick → ℕ × List ℕ
-tickGiven (Refused o) = (tickNumber (Refused o), [])
-tickGiven BadProgress = (tickNumber BadProgress, [])
-tickGiven (Searching c) = (tickNumber (Searching c), 0 ∷ countsGiven c)
-tickGiven (Ended o n c) = (tickNumber (Ended o n c), n ∷ countsGiven c)
-
 -- ---- the end of a run
 
 abbrev pub countsOf : Turn → Counts
@@ -102,10 +82,3 @@ endAt a goal (By c k l) = explore.Found (listOf a (c .retained) k ((goal, l) ∷
 -- an outcome with the counts of its run
 abbrev pub answerOf : Counts → explore.Outcome (Feet × Label) → Answer
 answerOf c e = record { outcome = toldBy e; count = length (listIn e); retained = c .retained; closed = c .closed }
-
--- 02, No. 10: "it answers the outcome or 'still searching'", with the counts
-abbrev pub tickBy : explore.Outcome (Feet × Label) → Counts → Tick
-tickBy (explore.Found t) c = Ended Found (length t) c
-tickBy explore.Unreachable c = Ended Unreachable 0 c
-tickBy explore.BudgetExceeded c = Ended BudgetExceeded 0 c
-tickBy explore.Searching c = Searching c

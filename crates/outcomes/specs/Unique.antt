@@ -13,7 +13,8 @@ use Rattle.outcomes.specs.declared.Path.{Path}
 use Rattle.outcomes.specs.declared.Path.the-variants.{Searched, BadTable}
 use Rattle.outcomes.specs.declared.Tick.{Tick}
 use Rattle.outcomes.specs.declared.Tick.the-variants.{Refused, BadProgress, Searching, Ended}
-use Rattle.outcomes.specs.Outcomes.{outcomeNumber, pathNumber, tickNumber, answerGiven, pathGiven, tickGiven}
+use Rattle.outcomes.specs.Outcomes.{outcomeNumber, pathNumber, answerGiven, pathGiven}
+use Rattle.outcomes.specs.Ticks.{tickNumber, tickGiven}
 
 -- ---- an outcome, by its number
 

@@ -2,5 +2,7 @@
 pub mod Steps
 pub mod Turns
 pub mod Runs
+pub mod Ends
 pub mod Whole
 pub mod Find
+pub mod Ticks

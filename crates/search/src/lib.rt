@@ -1,13 +1,15 @@
 // The search (01, "Search"): one expansion of a node on the rooms, as the theory's run of 01's graph under 01's policy.
 //
 // `columns` goes through the columns around the node's point, in 01's order, and visits the steps of each, upwards (`strides`). `turns` has the whole expansion: pick,
-// close, try the connector, then the columns. `find` is the public call: as many expansions as the budget, or fewer where the search ends. What it answers is
-// the crate `outcomes`, whether it begins `refusals`.
+// close, try the connector, then the columns; and so many of them. `find` is the whole search: as many expansions as the budget, or fewer where it ends; `ticks`
+// goes on with one by so many. What they answer is the crate `outcomes`, whether they begin `refusals` and `progress`.
 pub(crate) mod columns;
 mod find;
+mod ticks;
 pub(crate) mod turns;
 
 pub use find::find_walk_path;
+pub use ticks::continue_search;
 use rooms::Counts;
 use sides::Sides;
 use visits::Aim;

@@ -24,11 +24,12 @@ use Rattle.rooms.specs.declared.Feet.{Feet}
 use Rattle.rooms.specs.declared.Label.{Label}
 use Rattle.rooms.specs.declared.NodeRecord.{NodeRecord}
 use Rattle.rooms.specs.declared.Entry.{Entry}
+use Rattle.rooms.specs.declared.Counts.{Counts}
 use Rattle.rooms.specs.Waypoints.{samePoint}
 use Rattle.rooms.specs.Records.{nodeLayout, nodeAt, entryLayout, entryAt}
 use Rattle.rooms.specs.Scans as scans
 use Rattle.rooms.specs.Scans.{waits, isAt, firstAt, indexOr, nextOf}
-use Rattle.rooms.specs.Rooms.{Note, nobody, parentOf, nodeOf, nodeIn, nodesOf, nodeWaits, nodeSooner, parentWord, nodeBytes, nodeRoom, entryBytes, frontRoom}
+use Rattle.rooms.specs.Rooms.{Note, nobody, parentOf, nodeOf, nodeIn, nodesOf, stateOf, nodeWaits, nodeSooner, parentWord, nodeBytes, nodeRoom, entryBytes, frontRoom, countsIn}
 use Rattle.rooms.specs.Laws.Writes.{WroteNode, WroteEntry}
 use Rattle.rooms.specs.Laws.Scans.{First, first-is}
 
@@ -196,3 +197,8 @@ module _ (old a f : List ℕ) (n : ℕ) where
 
   pub front-room : Bytes f → 24 * n ≤ length f → drop (24 * n) f ≡ drop (24 * n) old → f ≡ frontRoom old (nodesOf n a f)
   front-room h l d = room-is entryBytes 24 (nodeIn a f) f old n (λ k i. entry-bytes a f k h (omega arith)) d ∙ ap (λ (k : ℕ). recordsBytes entryBytes (nodesOf n a f) ++ drop (24 * k) old) (sym long)
+
+-- the counts of a state that rooms hold
+pub counts-back : (a f : List ℕ) (c : Counts) → countsIn (stateOf a f c) ≡ c
+unfolding stateOf
+counts-back a f c = let n = length-firsts (c .retained) (nodeIn a f) in λ i. record { retained = n i; closed = c .closed; pushed = c .pushed; dropped = c .dropped }

@@ -1,20 +1,18 @@
 -- What the end of a run makes of a search: its outcome and its list are those of the theory's final state, and the node room holds that state's nodes.
 use mathlib.Core.Path.{_≡_, refl, sym, ap, subst, _∙_}
 use mathlib.Core.Option.{none}
-use mathlib.Core.List.{List, [], _∷_, _++_}
-use Prim.Native.Nat.{ℕ, zero, suc, _+_, _*_, _≤_}
+use mathlib.Core.List.{List, _++_}
+use Prim.Native.Nat.{ℕ, _+_, _*_, _≤_}
 use native.Mathlib.Omega.{arith}
 use lib.ListN.{length, drop}
 use Rattle.exploration.specs.Graph.{Graph}
 use Rattle.exploration.specs.Policy.{Policy}
 use Rattle.exploration.specs.Explore as explore
-use Rattle.exploration.specs.Explore.{State, arrive, run, outcome, outcomeBy}
+use Rattle.exploration.specs.Explore.{State, run, outcome}
 use Rattle.exploration.specs.Claims.{found-is-route}
 use Rattle.exploration.specs.Laws.Lists.{none-some}
-use Rattle.exploration.specs.Laws.Endings.{found-outcome}
 use Rattle.exploration.specs.Laws.Expansions.{Done, at-found, at-end, final-done}
 use Rattle.fields.specs.Pieces.{Bytes}
-use Rattle.fields.specs.RecordLaws.{length-firsts}
 use Rattle.world.specs.declared.Body.{Body}
 use Rattle.world.specs.declared.Request.{Request}
 use Rattle.world.specs.declared.Window.{Window}
@@ -25,9 +23,8 @@ use Rattle.steps.specs.GraphLaws.{graph-laws}
 use Rattle.rooms.specs.declared.Feet.{Feet}
 use Rattle.rooms.specs.declared.Label.{Label}
 use Rattle.rooms.specs.declared.Counts.{Counts}
-use Rattle.rooms.specs.Lists.{listOf, listBytes, written}
-use Rattle.rooms.specs.Rooms.{Note, nobody, nodesOf, stateOf, nodeRoom}
-use Rattle.rooms.specs.Laws.Lists.{arrive-list}
+use Rattle.rooms.specs.Lists.{listBytes, written}
+use Rattle.rooms.specs.Rooms.{Note, nobody, nodesOf, stateOf, nodeRoom, countsIn}
 use Rattle.rooms.specs.Laws.Rooms.{node-room}
 use Rattle.visits.specs.declared.Aim.{Aim}
 use Rattle.visits.specs.Best.{best}
@@ -37,16 +34,14 @@ use Rattle.visits.specs.Laws.Visits.{kept-trans, begun}
 use Rattle.outcomes.specs.declared.Turn.{Turn}
 use Rattle.outcomes.specs.declared.Turn.the-variants.{Rest, Going, At, By}
 use Rattle.outcomes.specs.declared.Answer.{Answer}
-use Rattle.outcomes.specs.Outcomes.{toldBy, listIn, countsOf, endQuiet, endAt, answerOf}
+use Rattle.outcomes.specs.Outcomes.{toldBy, listIn, countsOf, endAt, answerOf}
 use Rattle.conclusion.specs.Laws.{written-is, Concludes}
 use Rattle.search.specs.FindWalkPath.{ended, endOf, answerBy, nodesBy, outBy}
 use Rattle.search.specs.Turns.{mostSteps, after, Quiet}
 use Rattle.search.specs.Runs.{Spun}
+use Rattle.search.specs.Laws.Ends.{aimTo, nodes-after, counts-after, Silent, silent-end}
 
 -- ---- it is what the theory says of the final state
-
-abbrev pub aimTo : Request → Feet → Aim
-aimTo r goal = record { budget = r .«node_budget»; goal = goal }
 
 module _ (sp : Space) (r : Request) (body : Body) where
   abbrev 𝓖 : Graph Feet Label
@@ -58,14 +53,6 @@ module _ (sp : Space) (r : Request) (body : Body) where
   abbrev aim : Aim
   aim = aimTo r (feetOf (r .goal))
 
-  quiet-end : (d : ℕ) → outcomeBy 𝓖 𝓟 none none d ≡ endQuiet d
-  quiet-end zero = refl
-  quiet-end (suc d) = refl
-
-  rest-end : (c : Counts) (b g : List ℕ) → Quiet aim b g (Rest c) → stateOf b g c ≡ ended sp r body → endOf sp r body ≡ endQuiet (c .dropped)
-  unfolding endOf outcome stateOf
-  rest-end c b g q e = ap (outcome 𝓖 𝓟) (sym e) ∙ rw q (quiet-end (c .dropped))
-
   -- a run that is not seen to have ended has ended all the same
   going-quiet : (c : Counts) (b g : List ℕ) → stateOf b g c ≡ ended sp r body → Quiet aim b g (Rest c)
   unfolding stateOf ended
@@ -75,31 +62,16 @@ module _ (sp : Space) (r : Request) (body : Body) where
       go (at-found t h) = absurd (none-some h)
       go (at-end h p) = p
 
-  found-end : (c : Counts) (k : ℕ) (t : List (Feet × Label)) (b g : List ℕ) → c .retained ≤ nobody → 64 * c .retained ≤ length b
-      → arrive (stateOf b g c) k t ≡ ended sp r body → endOf sp r body ≡ explore.Found (listOf b (c .retained) k t)
-  unfolding endOf
-  found-end c k t b g small room e = ap (outcome 𝓖 𝓟) (sym e) ∙ found-outcome 𝓖 𝓟 (arrive (stateOf b g c) k t) _ (arrive-list b g c k t small room)
+  silent : (t : Turn) (b g : List ℕ) → Quiet aim b g t → after aim t b g ≡ ended sp r body → Silent aim b g t
+  silent (Rest c) b g q e = q
+  silent (Going c) b g q e = going-quiet c b g e
+  silent (At c k) b g q e = tt
+  silent (By c k l) b g q e = tt
 
   end-is : (t : Turn) (b g : List ℕ) → countsOf t .retained ≤ nobody → 64 * countsOf t .retained ≤ length b → Quiet aim b g t
       → after aim t b g ≡ ended sp r body → endAt b (feetOf (r .goal)) t ≡ endOf sp r body
-  end-is (Rest c) b g small room q e = sym (rest-end c b g q e)
-  end-is (Going c) b g small room q e = sym (rest-end c b g (going-quiet c b g e) e)
-  end-is (At c k) b g small room q e = sym (found-end c k [] b g small room e)
-  end-is (By c k l) b g small room q e = sym (found-end c k ((feetOf (r .goal), l) ∷ []) b g small room e)
-
-  nodes-after : (goal : Feet) (t : Turn) (b g : List ℕ) → after (aimTo r goal) t b g .nodes ≡ nodesOf (countsOf t .retained) b g
-  unfolding stateOf
-  nodes-after goal (Rest c) b g = refl
-  nodes-after goal (Going c) b g = refl
-  nodes-after goal (At c k) b g = refl
-  nodes-after goal (By c k l) b g = refl
-
-  closed-after : (goal : Feet) (t : Turn) (b g : List ℕ) → after (aimTo r goal) t b g .closings ≡ countsOf t .closed
-  unfolding stateOf
-  closed-after goal (Rest c) b g = refl
-  closed-after goal (Going c) b g = refl
-  closed-after goal (At c k) b g = refl
-  closed-after goal (By c k l) b g = refl
+  unfolding endOf
+  end-is t b g small room q e = sym (silent-end sp r body t b g small room (silent t b g q e)) ∙ ap (outcome 𝓖 𝓟) e
 
   -- the list that is found has at most one point more than the budget
   list-room : length (listIn (endOf sp r body)) ≤ r .«node_budget» + 1
@@ -119,13 +91,10 @@ module _ (sp : Space) (r : Request) (body : Body) where
     state-last = spun .state ∙ ap (run 𝓖 𝓟 (r .«node_budget») (r .«node_budget»)) (begun .state 𝓖 refl refl (feetOf (r .goal)))
 
     nodes-last : nodesOf (countsOf t .retained) b g ≡ ended sp r body .nodes
-    nodes-last = sym (nodes-after (feetOf (r .goal)) t b g) ∙ ap (λ (s : State Feet Label Note ℕ). s .nodes) state-last
+    nodes-last = sym (nodes-after r (feetOf (r .goal)) t b g) ∙ ap (λ (s : State Feet Label Note ℕ). s .nodes) state-last
 
-    retained-last : countsOf t .retained ≡ length (ended sp r body .nodes)
-    retained-last = sym (length-firsts (countsOf t .retained) _) ∙ ap length nodes-last
-
-    closed-last : countsOf t .closed ≡ ended sp r body .closings
-    closed-last = sym (closed-after (feetOf (r .goal)) t b g) ∙ ap (λ (s : State Feet Label Note ℕ). s .closings) state-last
+    counts-last : countsOf t ≡ countsIn (ended sp r body)
+    counts-last = sym (counts-after r (feetOf (r .goal)) t b g) ∙ ap countsIn state-last
 
     module _ (small : r .«node_budget» ≤ 4096) (room : 64 * r .«node_budget» ≤ length b) where
       end-last : endAt b (feetOf (r .goal)) t ≡ endOf sp r body
@@ -138,8 +107,8 @@ module _ (sp : Space) (r : Request) (body : Body) where
             retained = length (ended sp r body .nodes);
             closed = ended sp r body .closings;
           }
-      answer-last = let e = end-last in let n = retained-last in let s = closed-last in
-          λ i. record { outcome = toldBy (e i); count = length (listIn (e i)); retained = n i; closed = s i }
+      answer-last = let e = end-last in let c = counts-last in
+          λ i. record { outcome = toldBy (e i); count = length (listIn (e i)); retained = c i .retained; closed = c i .closed }
 
       pub nodes-room-last : Bytes b → b ≡ nodeRoom a (ended sp r body .nodes)
       nodes-room-last h = node-room a b g (countsOf t .retained) h (omega (arith, spun .near .few))
