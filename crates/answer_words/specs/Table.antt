@@ -21,6 +21,9 @@ answerTable =
     ∷ (7, "bad scene")
     ∷ (8, "bad table")
     ∷ (9, "bad number")
+    -- 02, No. 10: of a search in slices
+    ∷ (12, "bad progress")
+    ∷ (100, "still searching")
     -- 02, No. 3: why there is no edge
     ∷ (101, "too high")
     ∷ (102, "too deep")

@@ -1,5 +1,5 @@
-// The words of a number that a call answers with, in a slice that the caller lends, so that no caller writes the table again. They are 01's names and the
-// reasons of 02, No. 3, in small letters.
+// The words of a number that a call answers with, in a slice that the caller lends, so that no caller writes the table again. They are 01's names, the
+// reasons of 02, No. 3, and what a search in slices is told by No. 10, in small letters.
 ghost use mathlib.Core.Path.{_≡_};
 ghost use lib.ListN.{length};
 ghost use Rattle.answer_words.specs.Table.{wordsOf, atStart};
@@ -43,17 +43,17 @@ pub fn put_words(number: u64, out: &mut [u8]) -> u64
     ensures { λ r. ⌜ r ≡ length (wordsOf number) ⌝ }
     ensures { λ _. ⌜ now (out .exit) ≡ atStart (wordsOf number) (now (out .entry)) ⌝ }
 {
-    if number < 101 {
+    if number < 100 {
         return put_kth(
-            b"found,unreachable,budget exceeded,bad world,too large,no room,endless jump,bad scene,bad table,bad number",
+            b"found,unreachable,budget exceeded,bad world,too large,no room,endless jump,bad scene,bad table,bad number,,,bad progress",
             number,
             out,
         );
     }
     if number < 111 {
         return put_kth(
-            b"too high,too deep,target out of range,raised point out of range,target not standable,lift blocked,crossing blocked,settle blocked,segment unsupported",
-            number - 101,
+            b"still searching,too high,too deep,target out of range,raised point out of range,target not standable,lift blocked,crossing blocked,settle blocked,segment unsupported",
+            number - 100,
             out,
         );
     }

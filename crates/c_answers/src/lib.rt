@@ -1,13 +1,16 @@
 // What a call from another language is answered: of a search its number (01, "Numbers given back"), and a record of 32 bytes in a slice that the caller lends;
-// the number of an edge check; and of a walk-back its number, and the place that goes with a pair's reason (02, No. 3). `walk_c` has the calls.
+// of one in slices its number, and a record of 48 bytes (02, No. 10); the number of an edge check; and of a walk-back its number, and the place that goes with a pair's reason (02, No. 3). `walk_c` has the calls.
 ghost use mathlib.Core.Path.{_≡_};
 ghost use Rattle.moves.specs.Moves.{checkNumber};
 ghost use Rattle.outcomes.specs.Outcomes.{outcomeNumber, pathNumber};
+ghost use Rattle.outcomes.specs.Ticks.{tickNumber};
 ghost use Rattle.walk_back.specs.WalkBack.{faultNumber, faultPlaces, walkedNumber, walkedPlaces};
-ghost use Rattle.c_answers.specs.Answers.{answerWritten, pathWritten, placeWritten};
+ghost use Rattle.c_answers.specs.Answers.{answerWritten, pathWritten, progressWritten, tickWritten, placeWritten};
 use moves::EdgeCheck;
 use outcomes::Answer;
 use outcomes::Path;
+use outcomes::Tick;
+use rooms::Counts;
 use walk_back::Fault;
 use walk_back::Walked;
 
@@ -31,6 +34,29 @@ pub fn put_path(p: Path, answer: &mut [u8]) -> u64
     match p {
         Path::Searched(a) => put_answer(a, answer),
         Path::BadTable => 8,
+    }
+}
+
+// The progress record of a search in slices, 48 bytes, where it fits: a number, the list's count, and the counts.
+fn put_progress(number: u64, count: u64, c: Counts, progress: &mut [u8]) -> u64
+    ensures { λ r. ⌜ r ≡ number ⌝ }
+    ensures { λ _. ⌜ now (progress .exit) ≡ progressWritten number count c (now (progress .entry)) ⌝ }
+{
+    let words = [number, count, c.retained as u64, c.closed, c.pushed, c.dropped];
+    records::put_record(progress, 0, &words);
+    number
+}
+
+// The number of a search in slices, and its progress record. A refusal writes none: a caller that keeps its counts in the record keeps its search.
+pub fn put_tick(t: Tick, progress: &mut [u8]) -> u64
+    ensures { λ r. ⌜ r ≡ tickNumber t ⌝ }
+    ensures { λ _. ⌜ now (progress .exit) ≡ tickWritten t (now (progress .entry)) ⌝ }
+{
+    match t {
+        Tick::Refused(outcome) => outcomes::number_of(outcome),
+        Tick::BadProgress => 12,
+        Tick::Searching(c) => put_progress(100, 0, c, progress),
+        Tick::Ended(outcome, count, c) => put_progress(outcomes::number_of(outcome), count as u64, c, progress),
     }
 }
 

@@ -16,10 +16,15 @@ use Rattle.policy.specs.Permission.{permissionTable}
 use Rattle.tables.specs.BadWorld.{badWorld}
 use Rattle.request.specs.Request.{validRequest}
 use Rattle.questions.specs.Questions.{judged}
+use Rattle.rooms.specs.declared.Counts.{Counts}
 use Rattle.outcomes.specs.declared.Outcome.the-variants as outcome
+use Rattle.outcomes.specs.declared.Tick.the-variants.{Refused}
+use Rattle.outcomes.specs.Ticks.{tickNumber, untouched}
 use Rattle.outcomes.specs.Outcomes.{outcomeNumber, pathNumber}
 use Rattle.refusals.specs.Refusals.{withoutSearch}
 use Rattle.search.specs.FindWalkPath.{answerBy, found}
+use Rattle.search.specs.Ticks.{continued}
+use Rattle.openings.specs.Openings.{begunBy, begun}
 use Rattle.mob_request.specs.Asked.{requestOf}
 use Rattle.find_path.specs.FindPath.{unlessBad, path}
 use Rattle.outcomes.specs.declared.Path.the-variants.{Searched, BadTable}
@@ -28,6 +33,7 @@ use Rattle.walk_back.specs.declared.Walked.the-variants.{BadWorld, No}
 use Rattle.walk_back.specs.WalkBack.{walked, walkedNumber}
 use Rattle.c_records.specs.Records.{windowIn, bodyIn}
 use Rattle.c_records.specs.Asked.{asked, startAsked, goalAsked}
+use Rattle.walk_c.specs.Slices.{begunIn, continuedIn}
 use Rattle.c_records.specs.Laws.{CutShort, cut-short-is-invalid, mob-cut-short-is-invalid}
 
 -- ---- what an invalid request is answered with
@@ -38,6 +44,22 @@ module _ (w : Window) (cells perms shapes boxes : List ℕ) (r : Request) (body 
   search-invalid nodes front index out = rw invalid (go (badWorld w cells shapes boxes))
     where
       go : (b : Bool) → outcomeNumber (answerBy w cells perms shapes boxes r body (cond b (some outcome.BadWorld) (some outcome.Unreachable)) .outcome) ≡ cond b 3 1
+      go true = refl
+      go false = refl
+
+  begin-invalid : (nodes front out : List ℕ) → tickNumber (begun w cells perms shapes boxes r body nodes front out .tick) ≡ cond (badWorld w cells shapes boxes) 3 1
+  unfolding begun withoutSearch
+  begin-invalid nodes front out = rw invalid (go (badWorld w cells shapes boxes))
+    where
+      go : (b : Bool) → tickNumber (begunBy w cells perms shapes boxes r body nodes front out (cond b (some outcome.BadWorld) (some outcome.Unreachable)) .tick) ≡ cond b 3 1
+      go true = refl
+      go false = refl
+
+  continue-invalid : (nodes front out : List ℕ) (c : Counts) (n : ℕ) → tickNumber (continued w cells perms shapes boxes r body nodes front out c n .tick) ≡ cond (badWorld w cells shapes boxes) 3 1
+  unfolding continued
+  continue-invalid nodes front out c n = rw invalid (go (badWorld w cells shapes boxes))
+    where
+      go : (b : Bool) → tickNumber (cond b (untouched (Refused outcome.BadWorld) nodes front out) (untouched (Refused outcome.Unreachable) nodes front out) .tick) ≡ cond b 3 1
       go true = refl
       go false = refl
 
@@ -54,6 +76,14 @@ module _ (w : Window) (cells perms shapes boxes : List ℕ) (r : Request) (body 
 module _ (window cells perms shapes boxes request body : List ℕ) (short : CutShort window request 88 body) where
   pub search-cut-short : (nodes front index out : ℕ) → outcomeNumber (found (windowIn window) cells perms shapes boxes (asked window request body) (bodyIn body) nodes front index out .outcome) ≡ cond (badWorld (windowIn window) cells shapes boxes) 3 1
   search-cut-short = search-invalid (windowIn window) cells perms shapes boxes (asked window request body) (bodyIn body) (cut-short-is-invalid window request body (bodyIn body) short)
+
+  pub begin-cut-short : (nodes front out : List ℕ) → tickNumber (begunIn window cells perms shapes boxes request body nodes front out .tick) ≡ cond (badWorld (windowIn window) cells shapes boxes) 3 1
+  unfolding begunIn
+  begin-cut-short = begin-invalid (windowIn window) cells perms shapes boxes (asked window request body) (bodyIn body) (cut-short-is-invalid window request body (bodyIn body) short)
+
+  pub continue-cut-short : (nodes front out : List ℕ) (c : Counts) (n : ℕ) → tickNumber (continuedIn window cells perms shapes boxes request body nodes front out c n .tick) ≡ cond (badWorld (windowIn window) cells shapes boxes) 3 1
+  unfolding continuedIn
+  continue-cut-short = continue-invalid (windowIn window) cells perms shapes boxes (asked window request body) (bodyIn body) (cut-short-is-invalid window request body (bodyIn body) short)
 
   pub walk-back-cut-short : (list : List ℕ) → walkedNumber (walked (windowIn window) cells perms shapes boxes (asked window request body) (bodyIn body) list) ≡ cond (badWorld (windowIn window) cells shapes boxes) 3 111
   walk-back-cut-short = walk-back-invalid (windowIn window) cells perms shapes boxes (asked window request body) (bodyIn body) (cut-short-is-invalid window request body (bodyIn body) short)

@@ -1,11 +1,11 @@
--- The version of the interface, 0.5.0, as one number.
+-- The version of the interface, 0.6.0, as one number.
 use Prim.Native.Nat.{ℕ, _+_, _*_}
 
 abbrev major : ℕ
 major = 0
 
 abbrev minor : ℕ
-minor = 5
+minor = 6
 
 abbrev patch : ℕ
 patch = 0

@@ -10,11 +10,11 @@ use Rattle.answer_words.proofs.put_words.Tie as tie
 
 given : tie.Need-returns
 unfolding beforeComma behindComma kth
-given c = let n = c .before .before .before .before .before .before .before .args .number in words-at _ n 0 101 (c .before .before .put-kth .ensures) refl (omega arith) n (omega arith)
+given c = let n = c .before .before .before .before .before .before .before .args .number in words-at _ n 0 100 (c .before .before .put-kth .ensures) refl (omega arith) n (omega arith)
 
 no-edge : tie.Need-returns-2
 unfolding beforeComma behindComma kth
-no-edge c = let n = c .before .before .before .before .before .before .before .before .args .number in words-at _ (n - 101) 101 10 (c .before .before .put-kth2 .ensures) refl (omega arith) n (omega arith)
+no-edge c = let n = c .before .before .before .before .before .before .before .before .args .number in words-at _ (n - 100) 100 11 (c .before .before .put-kth2 .ensures) refl (omega arith) n (omega arith)
 
 no-route : tie.Need-returns-3
 unfolding beforeComma behindComma kth
