@@ -1,5 +1,7 @@
--- What a search that nobody touches between its calls comes to (02, No. 10). What a reader must believe: of Acceptance the claim `untouched-accepted`. Retained has what each
--- node that it keeps is, UnderWay what a state is that is still searching.
+-- What a search that nobody touches between its calls comes to (02, No. 10). What a reader must believe: Calls, the statements of Claims, and of Acceptance the claim
+-- `untouched-accepted`. Retained has what each node that it keeps is, UnderWay what a state is that is still searching.
 pub mod Retained
 pub mod UnderWay
 pub mod Acceptance
+pub mod Calls
+pub mod Rewritten
