@@ -5,3 +5,4 @@ pub mod UnderWay
 pub mod Acceptance
 pub mod Calls
 pub mod Rewritten
+pub mod Divided
