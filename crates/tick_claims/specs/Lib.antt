@@ -6,3 +6,5 @@ pub mod Acceptance
 pub mod Calls
 pub mod Rewritten
 pub mod Divided
+pub mod Ended
+pub mod Claims
