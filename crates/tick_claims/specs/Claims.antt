@@ -24,8 +24,8 @@ use Rattle.refusals.specs.Refusals.{withoutSearch}
 use Rattle.search.specs.Ticks.{cameTo}
 use Rattle.claims.specs.Words.{InF64, after}
 use Rattle.tick_claims.specs.Calls.{Lots, LeftByBegin, LeftByContinue, Calls, EndsAlike}
-use Rattle.tick_claims.specs.Divided.{StandsAfter, stands}
-use Rattle.tick_claims.specs.Ended.{enough, ends-alike, closed-few, refused-after}
+use Rattle.tick_claims.specs.Divided.{StandsAfter, all-stand}
+use Rattle.tick_claims.specs.Ended.{budget-ends, ends-alike, closed-few, refused-after}
 
 -- A search that begins, of a request of f64s, as every caller's are; h is what begin left, and k what the calls after it left, each asked for one lot of expansions.
 module _ (w : Window) (cells perms shapes boxes : List ℕ) (r : Request) (body : Body) (f : InF64 r) (nodes front out : List ℕ)
@@ -39,7 +39,7 @@ module _ (w : Window) (cells perms shapes boxes : List ℕ) (r : Request) (body 
   came = cameTo sp r body (after sp r body (total lots))
 
   left : StandsAfter w cells perms shapes boxes r body f nodes front out goes (total lots) k
-  left = stands w cells perms shapes boxes r body f nodes front out goes begins each calls
+  left = all-stand w cells perms shapes boxes r body f nodes front out goes begins each calls
 
   told : (x : explore.Outcome (Feet × Label)) → came ≡ x → k .tick ≡ tickBy x (countsIn (after sp r body (total lots)))
   told x e = ap (λ (m : Ticked). m .tick) (left .is) ∙ ap (λ (y : explore.Outcome (Feet × Label)). tickBy y (countsIn (after sp r body (total lots)))) e
@@ -61,7 +61,7 @@ module _ (w : Window) (cells perms shapes boxes : List ℕ) (r : Request) (body 
   -- "and a search ends after at most budget closings": lots that are together as many as the budget have ended it, and no more nodes are closed.
   pub untouched-ends : r .«node_budget» ≤ total lots → (e : EndsAlike w cells perms shapes boxes r body nodes front out k) × (e .counts .closed ≤ r .«node_budget»)
   untouched-ends most =
-      let over = enough w cells perms shapes boxes r body f nodes front out goes (total lots) most in
+      let over = budget-ends sp r body (total lots) most in
       let e = ends-alike w cells perms shapes boxes r body f nodes front out goes (total lots) left over in
       (e, closed-few w cells perms shapes boxes r body f nodes front out goes (total lots) left over (e .outcome) (e .count) (e .counts) (e .ended))
 

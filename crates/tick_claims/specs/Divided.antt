@@ -1,13 +1,12 @@
 -- What a call of an untouched search left, after however many expansions and in whatever lots: the state of the whole search after as many, in the rooms as they were before
 -- begin, with the frontier room zeroed. By that a call is not refused, and an end is the whole search's.
-use Prim.Native.Nat.{ℕ, _+_, _*_, _≤_, _<_}
-use native.Mathlib.Nat.{add-zero, add-assoc}
+use Prim.Native.Nat.{ℕ, _+_, _*_, _≤_}
+use native.Mathlib.Nat.{add-zero}
 use native.Mathlib.Omega.{arith}
 use mathlib.Core.Path.{_≡_, refl, sym, ap, subst, _∙_}
-use mathlib.Core.Bool.{Bool, true, false}
+use mathlib.Core.Bool.{true, false}
 use mathlib.Core.Option.{none}
-use mathlib.Core.List.{List, [], _∷_, _++_, map}
-use mathlib.Core.Logic.{_≢_}
+use mathlib.Core.List.{List}
 use lib.Dec.{ltb}
 use lib.ListN.{length, drop, replicate, length-map, length-append, length-replicate}
 use borrow.Author.Tests.{lt-ltb}
@@ -201,6 +200,6 @@ module _ (w : Window) (cells perms shapes boxes : List ℕ) (r : Request) (body 
       let z : e + n + total lots ≡ e + (n + total lots) = omega arith in
       subst (λ (n : ℕ). StandsAfter n k) z (calls-stand (e + n) (next-stands e s on n (l .0) (l .1) m p) (l .2) more)
 
-  -- so many expansions as the lots are together, in whatever lots
-  pub stands : {h k : Ticked} {lots : List ℕ} → LeftByBegin w cells perms shapes boxes r body nodes front out h → Lots lots → Calls w cells perms shapes boxes r body h lots k → StandsAfter (total lots) k
-  stands {h} {k} {lots} b l p = let z : 0 + total lots ≡ total lots = omega arith in subst (λ (n : ℕ). StandsAfter n k) z (calls-stand 0 (begin-stands h b) l p)
+  -- so many expansions as the lots are together, however they are divided
+  pub all-stand : {h k : Ticked} {lots : List ℕ} → LeftByBegin w cells perms shapes boxes r body nodes front out h → Lots lots → Calls w cells perms shapes boxes r body h lots k → StandsAfter (total lots) k
+  all-stand {h} {k} {lots} b l p = let z : 0 + total lots ≡ total lots = omega arith in subst (λ (n : ℕ). StandsAfter n k) z (calls-stand 0 (begin-stands h b) l p)

@@ -1,10 +1,10 @@
 -- An untouched search that has ended: it is the whole search's end, and no call goes on from it.
 use Prim.Native.Nat.{ℕ, _+_, _*_, _/_, _≤_}
 use native.Mathlib.Omega.{arith}
-use mathlib.Core.Path.{_≡_, refl, sym, ap, subst, _∙_}
-use mathlib.Core.Bool.{Bool, true, false, _&&_}
+use mathlib.Core.Path.{_≡_, sym, ap, _∙_}
+use mathlib.Core.Bool.{true, false, _&&_}
 use mathlib.Core.Option.{none}
-use mathlib.Core.List.{List, [], _∷_, _++_}
+use mathlib.Core.List.{List, [], _∷_}
 use mathlib.Core.Logic.{⊎-elim, _≢_}
 use lib.ListN.{length, drop, replicate, length-append, length-drop, length-replicate}
 use Rattle.exploration.specs.Graph.{Graph}
@@ -23,7 +23,7 @@ use Rattle.rooms.specs.declared.Label.{Label}
 use Rattle.rooms.specs.declared.Counts.{Counts}
 use Rattle.rooms.specs.Lists.{listBytes}
 use Rattle.rooms.specs.Records.{entryAt}
-use Rattle.rooms.specs.Rooms.{Note, nodeRoom, countsIn}
+use Rattle.rooms.specs.Rooms.{Note, countsIn}
 use Rattle.words.specs.Words.{feetOf}
 use Rattle.steps.specs.Graph.{graph}
 use Rattle.steps.specs.GraphLaws.{graph-laws}
@@ -32,7 +32,7 @@ use Rattle.visits.specs.Laws.Policy.{best-laws}
 use Rattle.outcomes.specs.declared.Outcome.{Outcome}
 use Rattle.outcomes.specs.declared.Tick.the-variants.{BadProgress, Ended}
 use Rattle.outcomes.specs.Outcomes.{toldBy, listIn}
-use Rattle.outcomes.specs.Ticks.{Ticked, untouched, tickBy, frontBy, tickedBy}
+use Rattle.outcomes.specs.Ticks.{Ticked, untouched, tickedBy}
 use Rattle.refusals.specs.Refusals.{withoutCall, withoutSearch}
 use Rattle.refusals.specs.Laws.{Passed, begins, call-begins}
 use Rattle.chains.specs.Chains.{eachBelow, goodChains}
@@ -70,18 +70,30 @@ module _ (r : Request) (a : List ℕ) (m : ℕ) (c : Counts) (n : ℕ) where
           let x = eachBelow (goodNode r a zeros) (c .retained) && goodChains a (c .retained) in
           and-second x _ (and-first (x && someWaits zeros (c .retained)) _ (and-second (goodCounts (r .«node_budget») c n) _ e))
 
+-- ---- the state at the end, of the theory's claim on divisions
+
+module _ (sp : Space) (r : Request) (body : Body) (e : ℕ) where
+  abbrev 𝓖 : Graph Feet Label
+  𝓖 = graph sp r body
+
+  abbrev 𝓟 : Policy Feet Label Note ℕ
+  𝓟 = best (feetOf (r .goal))
+
+  -- as many expansions as the budget end a search
+  pub budget-ends : r .«node_budget» ≤ e → cameTo sp r body (after sp r body e) ≢ explore.Searching
+  unfolding cameTo
+  budget-ends h = every-division-ends-alike 𝓖 𝓟 (graph-laws sp r body) (best-laws (feetOf (r .goal))) (r .«node_budget») (e ∷ []) .0 (omega arith)
+
+  ended-after : cameTo sp r body (after sp r body e) ≢ explore.Searching → after sp r body e ≡ ended sp r body
+  unfolding cameTo ended
+  ended-after = every-division-ends-alike 𝓖 𝓟 (graph-laws sp r body) (best-laws (feetOf (r .goal))) (r .«node_budget») (e ∷ []) .1
+
 -- ---- the end of an untouched search
 
 module _ (w : Window) (cells perms shapes boxes : List ℕ) (r : Request) (body : Body) (f : InF64 r) (nodes front out : List ℕ)
     (goes : withoutSearch w cells perms shapes boxes r body (length nodes) (length front) (length out) false ≡ none) where
   abbrev sp : Space
   sp = space w cells perms shapes boxes
-
-  abbrev 𝓖 : Graph Feet Label
-  𝓖 = graph sp r body
-
-  abbrev 𝓟 : Policy Feet Label Note ℕ
-  𝓟 = best (feetOf (r .goal))
 
   passed : Passed w cells shapes boxes r body (length nodes) (length front) (length out) false
   passed = begins w cells shapes boxes r body (length nodes) (length front) (length out) false perms goes
@@ -94,22 +106,13 @@ module _ (w : Window) (cells perms shapes boxes : List ℕ) (r : Request) (body 
   abbrev wholeLeft : Ticked
   wholeLeft = tickedBy (endOf sp r body) (ended sp r body) nodes (replicate (length front) 0) out
 
-  -- so many expansions as the budget are enough
-  pub enough : (e : ℕ) → r .«node_budget» ≤ e → cameTo sp r body (after sp r body e) ≢ explore.Searching
-  unfolding cameTo
-  enough e h = every-division-ends-alike 𝓖 𝓟 (graph-laws sp r body) (best-laws (feetOf (r .goal))) (r .«node_budget») (e ∷ []) .0 (omega arith)
-
   module _ (e : ℕ) {k : Ticked} (stands : StandsAfter w cells perms shapes boxes r body f nodes front out goes e k) (over : cameTo sp r body (after sp r body e) ≢ explore.Searching) where
-    state-is : after sp r body e ≡ ended sp r body
-    unfolding cameTo ended
-    state-is = every-division-ends-alike 𝓖 𝓟 (graph-laws sp r body) (best-laws (feetOf (r .goal))) (r .«node_budget») (e ∷ []) .1 over
-
     left-is-whole : k ≡ wholeLeft
     unfolding cameTo endOf
-    left-is-whole = stands .is ∙ ap (λ (s : State Feet Label Note ℕ). tickedBy (cameTo sp r body s) s nodes (replicate (length front) 0) out) state-is
+    left-is-whole = stands .is ∙ ap (λ (s : State Feet Label Note ℕ). tickedBy (cameTo sp r body s) s nodes (replicate (length front) 0) out) (ended-after sp r body e over)
 
-    zero-left : k .front ≡ replicate (length front) 0
-    zero-left =
+    all-zero : k .front ≡ replicate (length front) 0
+    all-zero =
         ap (λ (h : Ticked). h .front) left-is-whole ∙ ended-front (endOf sp r body) (replicate (length front) 0) (ended sp r body .nodes) (not-searching sp r body)
         ∙ ap (λ (n : ℕ). replicate n 0) (length-replicate {A = ℕ} (length front) 0)
 
@@ -123,8 +126,8 @@ module _ (w : Window) (cells perms shapes boxes : List ℕ) (r : Request) (body 
       answer = λ index i. ap (answerBy w cells perms shapes boxes r body) (whole-begins index i);
       output = λ index i. ap (λ (h : Ticked). h .out) left-is-whole ∙ ap (λ x. outBy w cells perms shapes boxes r body x out) (whole-begins index i);
       node-room = λ index i. ap (λ (h : Ticked). h .nodes) left-is-whole ∙ ap (λ x. nodesBy w cells perms shapes boxes r body x nodes) (whole-begins index i);
-      zeroed = zero-left;
-      front-room = λ index i. zero-left ∙ ap (λ x. zeroBy w cells perms shapes boxes r body x front) (whole-begins index i);
+      zeroed = all-zero;
+      front-room = λ index i. all-zero ∙ ap (λ x. zeroBy w cells perms shapes boxes r body x front) (whole-begins index i);
     }
 
     pub closed-few : (o : Outcome) (n : ℕ) (c : Counts) → k .tick ≡ Ended o n c → c .closed ≤ r .«node_budget»
@@ -139,7 +142,7 @@ module _ (w : Window) (cells perms shapes boxes : List ℕ) (r : Request) (body 
     nodes-length = ap (λ (h : Ticked). length (h .nodes)) left-is-whole ∙ node-room-length nodes (ended sp r body .nodes) (omega (arith, nodes-within sp r body, passed .node-room))
 
     front-length : length (k .front) ≡ length front
-    front-length = ap length zero-left ∙ length-replicate {A = ℕ} (length front) 0
+    front-length = ap length all-zero ∙ length-replicate {A = ℕ} (length front) 0
 
     out-length : length (k .out) ≡ length out
     out-length =
@@ -151,5 +154,5 @@ module _ (w : Window) (cells perms shapes boxes : List ℕ) (r : Request) (body 
         let whole = continued w cells perms shapes boxes r body (k .nodes) (k .front) (k .out) c n in
         let passes : none ≡ withoutCall w cells shapes boxes r body (length (k .nodes)) (length (k .front)) (length (k .out)) false =
         rw (nodes-length, front-length, out-length) (sym (call-begins w cells shapes boxes r body (length nodes) (length front) (length out) false perms goes)) in
-        let bad : goodProgress r (k .nodes) (k .front) c n ≡ false = ap (λ (x : List ℕ). goodProgress r (k .nodes) x c n) zero-left ∙ zeros-bad r (k .nodes) (length front) c n in
+        let bad : goodProgress r (k .nodes) (k .front) c n ≡ false = ap (λ (x : List ℕ). goodProgress r (k .nodes) x c n) all-zero ∙ zeros-bad r (k .nodes) (length front) c n in
         left-is whole m (p .holds) ∙ sym (left-is whole (untouched BadProgress (k .nodes) (k .front) (k .out)) (left-bad w cells perms shapes boxes r body (k .nodes) (k .front) (k .out) c n passes bad))
