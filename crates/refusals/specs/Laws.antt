@@ -138,7 +138,8 @@ module _ (w : Window) (cells shapes boxes : List ℕ) (r : Request) (body : Body
         few-nodes = small l;
         node-room = ltb-false nodes (64 * n) (or-false (ltb nodes (64 * n)) (ltb front (24 * n)) f .0);
         front-room = ltb-false front (24 * n) (or-false (ltb nodes (64 * n)) (ltb front (24 * n)) f .1);
-        out-room = ltb-false out (48 * (n + 1)) (or-false (ltb nodes (64 * n) || ltb front (24 * n)) (ltb out (48 * (n + 1))) e .1) }
+        out-room = ltb-false out (48 * (n + 1)) (or-false (ltb nodes (64 * n) || ltb front (24 * n)) (ltb out (48 * (n + 1))) e .1);
+      }
 
   -- a test that a call passed was not met
   passed : (b : Bool) (o : Outcome) (x : Option Outcome) → cond b (some o) x ≡ none → (b ≡ false) × (x ≡ none)

@@ -85,7 +85,7 @@ module _ (w : Window) (cells perms shapes boxes : List ℕ) (r : Request) (body 
   sound : (e : ℕ) → Sound 𝓖 𝓟 (r .«node_budget») (after sp r body e)
   sound e = ran 𝓖 𝓟 (graph-laws sp r body) (best-laws (feetOf (r .goal))) (r .«node_budget») e (begin 𝓖 𝓟 (r .«node_budget»)) (begin-sound 𝓖 𝓟 (graph-laws sp r body) (best-laws (feetOf (r .goal))) (r .«node_budget»)) .0
 
-  pub retained-few : (e : ℕ) → length (after sp r body e .nodes) ≤ r .«node_budget»
+  retained-few : (e : ℕ) → length (after sp r body e .nodes) ≤ r .«node_budget»
   retained-few e = sound-room 𝓖 𝓟 (sound e)
 
   after-add : (e n : ℕ) → after sp r body (e + n) ≡ run 𝓖 𝓟 (r .«node_budget») n (after sp r body e)

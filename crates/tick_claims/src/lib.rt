@@ -1,1 +1,1 @@
-// What the definitions of a search that is continued come to (02, No. 10): theorems only. No code.
+// What the contracts of a search that is continued come to (02, No. 10): theorems only. No code.
