@@ -15,5 +15,6 @@ pub mod Accepted
 pub mod Pushes
 pub mod OwnEdge
 pub mod NotNegative
+pub mod Bounds
 pub mod InRange
 pub mod Numbers

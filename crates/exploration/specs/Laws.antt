@@ -3,7 +3,9 @@ pub mod Lists
 pub mod Apart
 pub mod Visits
 pub mod Loops
+pub mod Counts
 pub mod Kept
+pub mod Roots
 pub mod Invariant
 pub mod Expansions
 pub mod Budgets

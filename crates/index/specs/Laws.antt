@@ -8,11 +8,10 @@ use Prim.Native.Nat.{ℕ, zero, suc, _+_, _-_, _*_, _/_, _%_, _^_, _≤_, _<_}
 use native.Mathlib.Omega.{arith}
 use native.Mathlib.Nat.{mod-eq-of-lt}
 use lib.Dec.{eqb, ltb}
-use lib.ListN.{length, getD, replicate, getD-replicate}
+use lib.ListN.{length, replicate}
 use borrow.Author.Tests.{lt-ltb, le-ltb, ltb-true, ltb-false, eqb-true, eqb-false, ne-eqb}
 use Rattle.exploration.specs.Laws.Lists.{true-false, and-first, and-second}
-use Rattle.fields.specs.Little.{leAt}
-use Rattle.fields.specs.Laws.{field-in, field-out, length-with, read-back, read-other}
+use Rattle.fields.specs.Laws.{field-zeros, length-with, read-back, read-other}
 use Rattle.rooms.specs.declared.Feet.{Feet}
 use Rattle.rooms.specs.Waypoints.{canonicalWord, sameWord, samePoint}
 use Rattle.rooms.specs.Records.{nodeAt}
@@ -240,21 +239,9 @@ longer {x} {a} {k} n i l h = let e : k + (n - k) ≡ n = omega arith in subst (�
 pub indexed-none : {x : List ℕ} (a : List ℕ) → ((s : ℕ) → slotAt x s ≡ 0) → Indexed x a 0
 indexed-none a z = record { few = λ s. rw (z s) (omega arith); led = λ k h. absurd (omega arith) }
 
-past-zeros : (k j : ℕ) → k ≤ j → _≡_ {A = ℕ} (getD (replicate k 0) j 0) 0
-past-zeros zero j h = refl
-past-zeros (suc k) zero h = absurd (omega arith)
-past-zeros (suc k) (suc j) h = past-zeros k j (omega arith)
-
-zero-at : (n at : ℕ) → _≡_ {A = ℕ} (getD (replicate n 0) at 0) 0
-zero-at n at = ⊎-elim (λ h. getD-replicate n at 0 0 h) (λ h. past-zeros n at h) (in-or-out at n)
-
-zeros : (n m at : ℕ) → leAt m (replicate n 0) at ≡ 0
-zeros n zero at = refl
-zeros n (suc m) at = let e = zeros n m (suc at) in let z = zero-at n at in rw (z, e)
-
 pub zero-slots : (n s : ℕ) → slotAt (replicate n 0) s ≡ 0
 unfolding slotAt
-zero-slots n s = ⊎-elim (λ h. field-out 4 (replicate n 0) (4 * s) h) (λ h. field-in 4 (replicate n 0) (4 * s) h ∙ zeros n 4 (4 * s)) (in-or-out (length (replicate n 0)) (4 * s + 4))
+zero-slots n s = field-zeros 4 n (4 * s)
 
 pub indexed-same : {x a b : List ℕ} {m : ℕ} → ((k : ℕ) → k < m → nodeAt b k .feet ≡ nodeAt a k .feet) → Indexed x a m → Indexed x b m
 indexed-same {x} {a} {b} h i = record { few = i .few; led = λ k l. (let e = h k l in rw e (i .led k l)) }

@@ -2,11 +2,13 @@
 use mathlib.Core.Path.{_≡_, refl, sym, ap, subst, _∙_}
 use mathlib.Core.Bool.{true, false}
 use mathlib.Core.Option.{Option, none, some}
-use mathlib.Core.List.{List, []}
+use mathlib.Core.List.{List, [], _∷_}
 use Prim.Native.Nat.{ℕ, zero, suc, _*_, _≤_}
 use native.Mathlib.Omega.{arith}
+use lib.Dec.{ltb}
 use lib.ListN.{length, replicate, length-replicate}
-use Rattle.exploration.specs.Explore.{State}
+use borrow.Author.Tests.{lt-ltb}
+use Rattle.exploration.specs.Explore.{State, begin}
 use Rattle.fields.specs.Pieces.{Bytes}
 use Rattle.world.specs.declared.Body.{Body}
 use Rattle.world.specs.declared.Request.{Request}
@@ -19,6 +21,7 @@ use Rattle.rooms.specs.declared.Label.{Label}
 use Rattle.rooms.specs.declared.Counts.{Counts}
 use Rattle.rooms.specs.Rooms.{Note, nodesOf, stateOf, nodeRoom, frontRoom, countsIn}
 use Rattle.rooms.specs.Laws.Rooms.{node-room, front-room, counts-back}
+use Rattle.visits.specs.Best.{best}
 use Rattle.visits.specs.Visits.{Started, Begun}
 use Rattle.visits.specs.Laws.Visits.{begun as started-begun}
 use Rattle.outcomes.specs.declared.Outcome.{Outcome}
@@ -26,7 +29,7 @@ use Rattle.outcomes.specs.declared.Tick.{Tick}
 use Rattle.outcomes.specs.declared.Tick.the-variants.{Refused, Searching}
 use Rattle.outcomes.specs.Ticks.{tickGiven, Ticked, untouched, Holds, GoesFrom}
 use Rattle.refusals.specs.Refusals.{withoutSearch}
-use Rattle.refusals.specs.Laws.{Passed}
+use Rattle.refusals.specs.Laws.{Passed, some-budget}
 use Rattle.openings.specs.Openings.{opened, begunBy, begun}
 
 module _ (w : Window) (cells perms shapes boxes : List ℕ) (r : Request) (body : Body) (a f o : List ℕ) where
@@ -42,6 +45,13 @@ module _ (w : Window) (cells perms shapes boxes : List ℕ) (r : Request) (body 
 
   pub holds-refused : (p : Outcome) → some p ≡ way → Holds whole (Refused p) a f o
   holds-refused p e = subst (λ (h : Ticked). Holds h (Refused p) a f o) (by-way (some p) e) (record { answer = refl; node-room = refl; front-room = refl; output = refl })
+
+  -- "retains the start": one node is retained, none is closed, one push was made and none was dropped
+  pub begin-counts : way ≡ none → tickGiven (whole .tick) ≡ (100, 0 ∷ 1 ∷ 0 ∷ 1 ∷ 0 ∷ [])
+  unfolding opened begin best tickGiven
+  begin-counts e =
+      let room : ltb 0 (r .«node_budget») ≡ true = lt-ltb 0 (r .«node_budget») (some-budget w cells shapes boxes r body (length a) (length f) (length o) false perms e) in
+      ap (λ (h : Ticked). tickGiven (h .tick)) (sym (by-way none (sym e))) ∙ rw room
 
   module _ (passed : Passed w cells shapes boxes r body (length a) (length f) (length o) false) {c : Counts} {z b g : List ℕ} (zeroed : z ≡ replicate (length f) 0)
       (started : Started (r .«node_budget») (feetOf (r .start)) c a z b g) (nodes-bytes : Bytes b) (front-bytes : Bytes g) (nodes-kept : length b ≡ length a) (front-kept : length g ≡ length z) where

@@ -7,7 +7,7 @@ use Prim.Native.Nat.{ℕ, _+_, _*_, _/_, _≤_, _<_}
 use native.Mathlib.Nat.{mul-comm, div-lt-iff-lt-mul, le-div-iff-mul-le}
 use native.Mathlib.Omega.{arith}
 use lib.Dec.{eqb, leb, ltb}
-use borrow.Author.Tests.{ltb-true, ltb-false, lt-ltb, le-ltb, le-leb, lt-leb}
+use borrow.Author.Tests.{not-false, eqb-false, ltb-true, ltb-false, lt-ltb, le-ltb, le-leb, lt-leb}
 use Rattle.exploration.specs.Laws.Lists.{none-some, or-false}
 use Rattle.world.specs.declared.Body.{Body}
 use Rattle.world.specs.declared.Request.{Request}
@@ -114,6 +114,8 @@ module _ (w : Window) (cells shapes boxes : List ℕ) (r : Request) (body : Body
 
   pub record Passed : Type 0 where
     pub world : bad ≡ false
+    pub request : valid ≡ true
+    pub sizes : large ≡ false
     pub few-nodes : r .«node_budget» ≤ 4096
     pub node-room : 64 * r .«node_budget» ≤ nodes
     pub front-room : 24 * r .«node_budget» ≤ front
@@ -123,18 +125,21 @@ module _ (w : Window) (cells shapes boxes : List ℕ) (r : Request) (body : Body
   unfolding tooLarge
   small e = ltb-false 4096 (r .«node_budget») (or-false (sizesTooLarge r body) (ltb 4096 (r .«node_budget»)) e .1)
 
-  has-room : bad ≡ false → large ≡ false → short ≡ false → Passed
+  has-room : bad ≡ false → valid ≡ true → large ≡ false → short ≡ false → Passed
   unfolding noRoom
-  has-room b l e′ =
+  has-room b v l e′ =
       let n = r .«node_budget» in
       let e = or-false (noRoom n nodes front out) wrongIndex e′ .0 in
       let f = or-false (ltb nodes (64 * n) || ltb front (24 * n)) (ltb out (48 * (n + 1))) e .0 in
       record {
         world = b;
+        request = v;
+        sizes = l;
         few-nodes = small l;
         node-room = ltb-false nodes (64 * n) (or-false (ltb nodes (64 * n)) (ltb front (24 * n)) f .0);
         front-room = ltb-false front (24 * n) (or-false (ltb nodes (64 * n)) (ltb front (24 * n)) f .1);
-        out-room = ltb-false out (48 * (n + 1)) (or-false (ltb nodes (64 * n) || ltb front (24 * n)) (ltb out (48 * (n + 1))) e .1) }
+        out-room = ltb-false out (48 * (n + 1)) (or-false (ltb nodes (64 * n) || ltb front (24 * n)) (ltb out (48 * (n + 1))) e .1);
+      }
 
   -- a test that a call passed was not met
   passed : (b : Bool) (o : Outcome) (x : Option Outcome) → cond b (some o) x ≡ none → (b ≡ false) × (x ≡ none)
@@ -147,7 +152,7 @@ module _ (w : Window) (cells shapes boxes : List ℕ) (r : Request) (body : Body
       let v = passed (not valid) Unreachable _ (b .1) in
       let l = passed large TooLarge _ (v .1) in
       let s = passed short NoRoom _ (l .1) in
-      (has-room (b .0) (l .0) (s .0), s .1)
+      (has-room (b .0) (not-false valid (v .0)) (l .0) (s .0), s .1)
 
   pub passes : call ≡ none → Passed
   unfolding withoutCall
@@ -180,3 +185,22 @@ module _ (w : Window) (cells shapes boxes : List ℕ) (r : Request) (body : Body
     pub begins : way ≡ none → Passed
     unfolding withoutSearch
     begins e = passed-to ends e .0
+
+    -- a search that begins has a budget, and a call that continues it passes its tests too
+    pub some-budget : way ≡ none → 0 < r .«node_budget»
+    unfolding withoutSearch
+    some-budget e =
+        let g = passed (not good) Unreachable _ (passed-to ends e .1) in
+        omega (arith, eqb-false (r .«node_budget») 0 (passed (eqb (r .«node_budget») 0) BudgetExceeded none (g .1) .0))
+
+    pub call-begins : way ≡ none → call ≡ none
+    unfolding withoutSearch withoutCall
+    call-begins = go bad (not valid) large short
+      where
+        go : (b v l s : Bool) → cond b (some BadWorld) (cond v (some Unreachable) (cond l (some TooLarge) (cond s (some NoRoom) ends))) ≡ none →
+            cond b (some BadWorld) (cond v (some Unreachable) (cond l (some TooLarge) (cond s (some NoRoom) none))) ≡ none
+        go true v l s e = e
+        go false true l s e = e
+        go false false true s e = e
+        go false false false true e = e
+        go false false false false e = refl

@@ -5,7 +5,7 @@ use native.Mathlib.Omega.{arith}
 use mathlib.Core.Path.{_≡_, refl}
 use mathlib.Core.Bool.{Bool, true, false, cond}
 use mathlib.Core.List.{List, [], _∷_}
-use lib.ListN.{length}
+use lib.ListN.{length, length-map}
 use lib.Ieee.{Float, le}
 use Rattle.world.specs.declared.Point.{Point}
 use Rattle.world.specs.declared.Window.{Window}
@@ -19,10 +19,13 @@ use Rattle.heights.specs.Heights.{tops, insert, sorted, within, thinnedAfter, t
 use Rattle.moves.specs.declared.answer.EdgeAnswer.{EdgeAnswer}
 use Rattle.moves.specs.declared.answer.EdgeAnswer.the-variants.{To, Nowhere}
 use Rattle.edges.specs.Edges.{edge}
+use Rattle.rooms.specs.declared.Feet.{Feet}
+use Rattle.words.specs.Words.{pointOf, stepOf}
 use Rattle.steps.specs.declared.columns.Centre.{Centre}
 use Rattle.sides.specs.Sides.{lookedBy}
 use Rattle.steps.specs.Columns.{centreOf, bandOf, target, ahead, edgesAt, columnSteps, sides, columnIf, stepsFrom}
 use Rattle.steps.specs.Gathers.{gather-each}
+use Rattle.steps.specs.Graph.{graph}
 use Rattle.steps.specs.Layers.{column-tops}
 
 -- ---- the heights are no more than the tops
@@ -99,3 +102,10 @@ unfolding stepsFrom
 steps-bounded w cells perms shapes boxes r body e p =
     let good = not-bad-is-good w cells shapes boxes e in
     gather-each (columnIf (space w cells perms shapes boxes) r body p) 4096 (column-short w cells perms shapes boxes r body good p) 0 9
+
+-- and so of 01's graph
+pub graph-bounded : (w : Window) (cells perms shapes boxes : List ℕ) (r : Request) (body : Body) → badWorld w cells shapes boxes ≡ false →
+    (p : Feet) → length (graph (space w cells perms shapes boxes) r body .steps p) ≤ 36864
+unfolding graph
+graph-bounded w cells perms shapes boxes r body e p =
+    let ws = stepsFrom (space w cells perms shapes boxes) r body (pointOf p) in omega (arith, length-map ws stepOf, steps-bounded w cells perms shapes boxes r body e (pointOf p))

@@ -28,16 +28,16 @@ use Rattle.words.specs.Words.{pointOf, labelOf, stepOf, labelIf}
 use Rattle.steps.specs.Columns.{stepsFrom}
 use Rattle.steps.specs.Graph.{graph}
 
-few : (m : Movement) → movementNumber m ≤ 3
-few Walk = omega arith
-few Step = omega arith
-few Jump = omega arith
-few Drop = omega arith
+pub movement-few : (m : Movement) → movementNumber m ≤ 3
+movement-few Walk = omega arith
+movement-few Step = omega arith
+movement-few Jump = omega arith
+movement-few Drop = omega arith
 
 -- a label like an edge's has its movement
 like-an-edge : (w : Waypoint) (l : Label) → alike (labelOf w) l ≡ true → l .movement ≤ 3
 unfolding alike labelOf
-like-an-edge w l e = omega (arith, eqb-true (movementNumber (w .movement)) (l .movement) (and-first _ _ e), few (w .movement))
+like-an-edge w l e = omega (arith, eqb-true (movementNumber (w .movement)) (l .movement) (and-first _ _ e), movement-few (w .movement))
 
 like-the-start : (l : Label) → alike standing l ≡ true → l .movement ≤ 3
 unfolding alike

@@ -17,7 +17,6 @@ use Rattle.world.specs.declared.Point.{Point}
 use Rattle.world.specs.declared.Request.{Request}
 use Rattle.world.specs.Space.{Space}
 use Rattle.moves.specs.declared.answer.Movement.{Movement}
-use Rattle.moves.specs.declared.answer.Movement.the-variants.{Walk, Step, Jump, Drop}
 use Rattle.moves.specs.declared.answer.Waypoint.{Waypoint}
 use Rattle.moves.specs.declared.answer.EdgeAnswer.{EdgeAnswer}
 use Rattle.moves.specs.declared.answer.EdgeAnswer.the-variants.{To}
@@ -29,6 +28,7 @@ use Rattle.rooms.specs.Waypoints.{standing, canonicalWord, sameWord, samePoint,
 use Rattle.rooms.specs.declared.Feet.{Feet}
 use Rattle.rooms.specs.declared.Label.{Label}
 use Rattle.rooms.specs.Records.{waypointLayout, waypointWords}
+use Rattle.walk_back.specs.Movements.{movement-few}
 use Rattle.claims.specs.Words.{InF64}
 use Rattle.claims.specs.Laws.Doors.{Word, DooredSpace, connector-door}
 use Rattle.claims.specs.Laws.Fits.{Each, end, more, F64, Made, MadeWhole, MadeIf, nowhere, made, connector-made}
@@ -76,10 +76,7 @@ unfolding feetOf
 feet-below p x y z = record { x = bits-below (p .x) x; y = bits-below (p .y) y; z = bits-below (p .z) z }
 
 movement-below : (m : Movement) → Word (movementNumber m)
-movement-below Walk = omega arith
-movement-below Step = omega arith
-movement-below Jump = omega arith
-movement-below Drop = omega arith
+movement-below m = omega (arith, movement-few m)
 
 label-below : (w : Waypoint) → Made w → Word (w .door) → Label64 (labelOf w)
 unfolding labelOf

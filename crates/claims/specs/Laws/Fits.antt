@@ -35,7 +35,8 @@ use Rattle.edges.specs.Answers.{nowhere-to}
 use Rattle.steps.specs.declared.columns.Centre.{Centre}
 use Rattle.sides.specs.Sides.{lookedBy}
 use Rattle.rooms.specs.declared.Feet.{Feet}
-use Rattle.words.specs.Words.{feetOf, stepOf}
+use Rattle.rooms.specs.declared.Label.{Label}
+use Rattle.words.specs.Words.{feetOf, labelOf, stepOf}
 use Rattle.steps.specs.Columns.{centre, centreOf, bandOf, target, ahead, edgesAt, columnSteps, sides, columnIf, stepsFrom}
 use Rattle.claims.specs.Words.{InF64}
 use Rattle.claims.specs.Laws.Edges.{by, rise, edge-is}
@@ -193,8 +194,8 @@ module _ (sp : Space) (r : Request) (body : Body) (topped : ToppedSpace sp) (fro
   unfolding stepsFrom
   steps-each = each-gather (columnIf sp r body from) looked-each 0 9
 
--- and so the words of the points that they lead to
-pub worded : (Q : Feet → Type 0) {ws : List Waypoint} → Each (λ w. Q (feetOf (w .feet))) ws → lists.Each (λ w. Q (w .0)) (map stepOf ws)
+-- and so the words of the points that they lead to, and of how
+pub worded : (Q : Feet × Label → Type 0) {ws : List Waypoint} → Each (λ w. Q (feetOf (w .feet), labelOf w)) ws → lists.Each Q (map stepOf ws)
 unfolding stepOf
 worded Q end = tt
 worded Q (more p ps) = (p, worded Q ps)

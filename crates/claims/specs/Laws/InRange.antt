@@ -1,8 +1,9 @@
--- What is in range of a valid request's start is finite: the room that a valid request leaves to its coordinates keeps its range below 2 ^ 32.
+-- What is in range of a valid request's start is finite: the room that a valid request leaves to its coordinates keeps its range below 2 ^ 32. And where the request is
+-- not too large, each of its coordinates is in size at most 2 ^ 32.
 use Prim.Native.Nat.{ℕ, _+_, _-_, _*_}
 use native.Mathlib.Omega.{arith}
-use mathlib.Core.Path.{_≡_, refl, sym, _∙_, subst}
-use mathlib.Core.Bool.{Bool, true, false, _&&_}
+use mathlib.Core.Path.{_≡_, refl, sym, ap, _∙_, subst}
+use mathlib.Core.Bool.{Bool, true, false, _&&_, _||_}
 use borrow.Author.Tests.{lt-ltb, leb-true}
 use lib.IntN.{ℤ, pos}
 use lib.Ieee.{Float, nan, inf, fin, binary64, isNan, lt, le, eq, up, down, add, sub, neg, sum, round, ofInt, ofBits}
@@ -10,17 +11,23 @@ use lib.Ieee.Bits.{is-true}
 use lib.Ieee.Fits.{down-pos}
 use lib.Ieee.Order.{round-mono}
 use lib.Ieee.Scale.{finite}
-use Rattle.exploration.specs.Laws.Lists.{and-first, and-second}
+use Rattle.exploration.specs.Laws.Lists.{and-first, and-second, or-false}
 use Rattle.floats.specs.Floats.{E, nought, absolute}
 use Rattle.floats.specs.Order.{false-true, le-fin, le-right, le-trans, lt-le, not-le}
 use Rattle.floats.specs.Sums.{sum-grows, within-grows}
+use Rattle.floats.specs.Zeros.{le-canonical}
 use Rattle.world.specs.declared.Point.{Point}
 use Rattle.world.specs.declared.Body.{Body}
 use Rattle.world.specs.declared.Request.{Request}
-use Rattle.request.specs.Request.{number, allFinite, sized, notNegative, limit, within, placed, validRequest}
+use Rattle.request.specs.Request.{number, allFinite, sized, notNegative, limit, within, placed, validRequest, sizesTooLarge}
 use Rattle.request.specs.Laws.{FinitePoint, valid-finite}
 use Rattle.places.specs.Places.{near, inRange}
+use Rattle.arrival.specs.Alike.{zero-alike, no-difference, absolute-alike}
 use Rattle.claims.specs.Laws.NotNegative.{of-rounding}
+use Rattle.claims.specs.Laws.Bounds.{UpTo, whole-f64, int-up-to, sum-up-to, difference-up-to, difference-back, size-up-to, from-nought-up-to}
+
+of-three : (a b c : Bool) → (a && b && c) ≡ true → (a ≡ true) × (b ≡ true) × (c ≡ true)
+of-three a b c h = let two = and-first (a && b) c h in (and-first a b two, and-second a b two, and-second (a && b) c h)
 
 -- 2 ^ 32
 abbrev big : Float
@@ -141,9 +148,100 @@ module _ (r : Request) (body : Body) (valid : validRequest r body ≡ true) wher
   in-range-finite p h =
       let most = add binary64 (r .«max_range») E in
       let s = valid-finite r body valid .start in
-      let two = and-first (near most (p .x) (r .start .x) && near most (p .y) (r .start .y)) (near most (p .z) (r .start .z)) h in
+      let t = of-three (near most (p .x) (r .start .x)) (near most (p .y) (r .start .y)) (near most (p .z) (r .start .z)) h in
       record {
-        x = near-finite (p .x) (r .start .x) (s .x) (and-first (near most (p .x) (r .start .x)) (near most (p .y) (r .start .y)) two);
-        y = near-finite (p .y) (r .start .y) (s .y) (and-second (near most (p .x) (r .start .x)) (near most (p .y) (r .start .y)) two);
-        z = near-finite (p .z) (r .start .z) (s .z) (and-second (near most (p .x) (r .start .x) && near most (p .y) (r .start .y)) (near most (p .z) (r .start .z)) h);
+        x = near-finite (p .x) (r .start .x) (s .x) (t .0);
+        y = near-finite (p .y) (r .start .y) (s .y) (t .1);
+        z = near-finite (p .z) (r .start .z) (s .z) (t .2);
       }
+
+  -- the start itself, which differs from itself by a zero
+  reach-not-negative : le nought (add binary64 (r .«max_range») E) ≡ true
+  unfolding ofBits
+  reach-not-negative =
+      le-trans nought (add binary64 nought E) (add binary64 (r .«max_range») E) (unfold add le lt eq in refl)
+      (within-grows nought (r .«max_range») (unfold le lt eq in refl) range-not-negative)
+
+  near-itself : (a : Float) → finite a ≡ true → near (add binary64 (r .«max_range») E) a a ≡ true
+  near-itself a h =
+      let most = add binary64 (r .«max_range») E in
+      let none = absolute-alike (sub binary64 a a) nought (zero-alike (sub binary64 a a) (no-difference a a refl h)) in
+      sym (le-canonical (absolute (sub binary64 a a)) most) ∙ ap (λ (x : Float). le x most) none ∙ le-canonical (absolute nought) most ∙ (unfold absolute lt ofBits in reach-not-negative)
+
+  pub start-in-range : inRange r (r .start) ≡ true
+  unfolding inRange
+  start-in-range =
+      let s = valid-finite r body valid .start in
+      let x = near-itself (r .start .x) (s .x) in
+      let y = near-itself (r .start .y) (s .y) in
+      let z = near-itself (r .start .z) (s .z) in
+      rw (x, y, z)
+
+-- ---- and bounded, where the request is not too large
+
+pub record UpToPoint (n : ℕ) (p : Point) : Type 0 where
+  pub x : UpTo n (p .x)
+  pub y : UpTo n (p .y)
+  pub z : UpTo n (p .z)
+
+E-up-to : UpTo 1 E
+unfolding absolute le lt eq neg ofInt ofBits
+E-up-to = size-up-to 1 E (int-up-to 1 (omega arith)) refl
+
+module _ (r : Request) (body : Body) (valid : validRequest r body ≡ true) (small : sizesTooLarge r body ≡ false) where
+  not-larger : (lt (number 64) (r .«max_range») ≡ false) × (lt (number 8) (body .width) ≡ false) × (lt (number 16) (body .height) ≡ false)
+  unfolding sizesTooLarge
+  not-larger =
+      let two = or-false (lt (number 64) (r .«max_range») || lt (number 8) (body .width)) (lt (number 16) (body .height)) small in
+      let one = or-false (lt (number 64) (r .«max_range»)) (lt (number 8) (body .width)) (two .0) in
+      (one .0, one .1, two .1)
+
+  range-up-to : UpTo 64 (r .«max_range»)
+  range-up-to = from-nought-up-to 64 (r .«max_range») (omega arith) (range-not-negative r body valid) (not-larger .0)
+
+  width-up-to : UpTo 8 (body .width)
+  width-up-to = from-nought-up-to 8 (body .width) (omega arith) (lt-le nought (body .width) (sizes r body valid .0)) (not-larger .1)
+
+  height-up-to : UpTo 16 (body .height)
+  height-up-to = from-nought-up-to 16 (body .height) (omega arith) (lt-le nought (body .height) (sizes r body valid .1)) (not-larger .2)
+
+  -- 2147483647 and 64 + 8 + 16 + 4
+  limit-up-to : UpTo 2147483739 (limit r body)
+  unfolding limit
+  limit-up-to =
+      difference-up-to 2147483647 92 (whole-f64 2147483739 (omega arith)) (int-up-to 2147483647 (omega arith))
+      (sum-up-to 88 4 (whole-f64 92 (omega arith)) (sum-up-to 72 16 (whole-f64 88 (omega arith)) (sum-up-to 64 8 (whole-f64 72 (omega arith)) range-up-to width-up-to) height-up-to) (int-up-to 4 (omega arith)))
+
+  within-up-to : (p : Point) → within (limit r body) p ≡ true → UpToPoint 2147483739 p
+  unfolding within
+  within-up-to p h =
+      let most = limit r body in
+      let t = of-three (lt (absolute (p .x)) most) (lt (absolute (p .y)) most) (lt (absolute (p .z)) most) h in
+      record { x = each (p .x) (t .0); y = each (p .y) (t .1); z = each (p .z) (t .2) }
+    where
+      each : (a : Float) → lt (absolute a) (limit r body) ≡ true → UpTo 2147483739 a
+      each a h = size-up-to 2147483739 a limit-up-to (lt-le (absolute a) (limit r body) h)
+
+  ends-placed : (lt nought (limit r body) ≡ true) × (within (limit r body) (r .start) ≡ true) × (within (limit r body) (r .goal) ≡ true)
+  unfolding placed
+  ends-placed = of-three (lt nought (limit r body)) (within (limit r body) (r .start)) (within (limit r body) (r .goal)) (tested r body valid .2)
+
+  start-up-to : UpToPoint 2147483739 (r .start)
+  start-up-to = within-up-to (r .start) (ends-placed .1)
+
+  pub goal-up-to : UpToPoint 2147483739 (r .goal)
+  goal-up-to = within-up-to (r .goal) (ends-placed .2)
+
+  -- 66 more: max_range + E is at most 65, and what differs by 66 has a difference of at least 66 when it is rounded
+  near-up-to : (a b : Float) → UpTo 2147483739 b → near (add binary64 (r .«max_range») E) a b ≡ true → UpTo 2147483805 a
+  near-up-to a b u h =
+      difference-back 65 2147483739 (whole-f64 66 (omega arith)) a b u
+      (size-up-to 65 (sub binary64 a b) (sum-up-to 64 1 (whole-f64 65 (omega arith)) range-up-to E-up-to) h)
+
+  pub in-range-up-to : (p : Point) → inRange r p ≡ true → UpToPoint 2147483805 p
+  unfolding inRange
+  in-range-up-to p h =
+      let most = add binary64 (r .«max_range») E in
+      let s = start-up-to in
+      let t = of-three (near most (p .x) (r .start .x)) (near most (p .y) (r .start .y)) (near most (p .z) (r .start .z)) h in
+      record { x = near-up-to (p .x) (r .start .x) (s .x) (t .0); y = near-up-to (p .y) (r .start .y) (s .y) (t .1); z = near-up-to (p .z) (r .start .z) (s .z) (t .2) }

@@ -115,17 +115,17 @@ module _ (goal : Feet) (there : FiniteFeet goal) where
       rw (← z) (record { point = q; cost = w; estimate = lowered-weight (lt (float est) (float (n .entry .estimate))) est (n .entry) g (estimate-weight to goal t there cost w) v })
 
   module _ (𝓖 : Graph Feet Label) (start : FiniteFeet (𝓖 .start)) (reached : (p : Feet) → lists.Each Reached (𝓖 .steps p)) where
-    kept : Kept 𝓖 (best goal) (λ ns g. AllOf Sound ns) Sound Reached
+    kept : Kept 𝓖 (best goal) (λ c ns g. AllOf Sound ns) (λ c f. Sound f) Reached
     unfolding best
     kept = record {
       empty = none-there Sound;
       begins = one-more Sound [] _ (none-there Sound) (record { point = start; cost = none-weight; estimate = none-weight });
-      steps = λ f s. reached (f .point);
-      closes = λ ns g k n i e w. let c = closed n (i k n e) in (in-place Sound ns k _ i c, c);
-      retains = λ ns g k f w s t i.
-          let c = cost-weight (f .point) (w .0) (s .point) t (f .note .cost) (s .cost) in
-          one-more Sound ns _ i (record { point = t; cost = c; estimate = estimate-weight (w .0) goal t there _ c });
-      reparents = λ ns g k f w j m a s t i e p c x.
+      steps = λ c f s. reached (f .point);
+      closes = λ c ns g k n i e w. let s = closed n (i k n e) in (in-place Sound ns k _ i s, s);
+      retains = λ c ns g k f w s t i.
+          let v = cost-weight (f .point) (w .0) (s .point) t (f .note .cost) (s .cost) in
+          one-more Sound ns _ i (record { point = t; cost = v; estimate = estimate-weight (w .0) goal t there _ v });
+      reparents = λ c ns g k f w j m a s t i e p o x.
           in-place Sound ns j _ i
           (relaxed-sound (m .note) k (w .0) (m .point) (w .1) _ g a (i j m e .estimate) t (i j m e .point) (cost-weight (f .point) (w .0) (s .point) t (f .note .cost) (s .cost)) x);
     }
@@ -143,7 +143,7 @@ module _ (sp : Space) (topped : ToppedSpace sp) (r : Request) (body : Body) (f :
 
   steps-finite : (p : Feet) → lists.Each Reached (graph sp r body .steps p)
   unfolding graph
-  steps-finite p = worded FiniteFeet (steps-each sp r body topped (pointOf p) (λ w. FiniteFeet (feetOf (w .feet))) (step-finite (pointOf p)))
+  steps-finite p = worded Reached (steps-each sp r body topped (pointOf p) (λ w. FiniteFeet (feetOf (w .feet))) (step-finite (pointOf p)))
 
   pub estimates-are-numbers : (b n : ℕ) →
       let s = run (graph sp r body) (best (feetOf (r .goal))) b n (begin (graph sp r body) (best (feetOf (r .goal))) b) in
@@ -154,4 +154,4 @@ module _ (sp : Space) (topped : ToppedSpace sp) (r : Request) (body : Body) (f :
       let start = feet-finite (r .start) (f .start-x) (f .start-y) (f .start-z) (v .start) in
       let goal = feet-finite (r .goal) (f .goal-x) (f .goal-y) (f .goal-z) (v .goal) in
       is-number
-      (run-kept (graph sp r body) (best (feetOf (r .goal))) (λ ns g. AllOf Sound ns) Sound Reached (best-laws (feetOf (r .goal))) (kept (feetOf (r .goal)) goal (graph sp r body) start steps-finite) b n k x e .estimate)
+      (run-kept (graph sp r body) (best (feetOf (r .goal))) (λ c ns g. AllOf Sound ns) (λ c f. Sound f) Reached (best-laws (feetOf (r .goal))) (kept (feetOf (r .goal)) goal (graph sp r body) start steps-finite) b n k x e .estimate)

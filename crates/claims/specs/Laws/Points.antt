@@ -34,15 +34,15 @@ abbrev Reached : Feet × Label → Type 0
 Reached w = Point64 (w .0)
 
 module _ (𝓖 : Graph Feet Label) (goal : Feet) (start : Point64 (𝓖 .start)) (reached : (p : Feet) → lists.Each Reached (𝓖 .steps p)) where
-  kept : Kept 𝓖 (best goal) (λ ns g. AllOf Small ns) (λ f. Unit {0}) Reached
+  kept : Kept 𝓖 (best goal) (λ c ns g. AllOf Small ns) (λ c f. Unit {0}) Reached
   unfolding best
   kept = record {
     empty = none-there Small;
     begins = one-more Small [] _ (none-there Small) start;
-    steps = λ f j. reached (f .point);
-    closes = λ ns g k n i e w. (in-place Small ns k _ i (i k n e), tt);
-    retains = λ ns g k f w j t i. one-more Small ns _ i t;
-    reparents = λ ns g k f w j m a _ _ i e s c x. in-place Small ns j _ i (i j m e);
+    steps = λ c f j. reached (f .point);
+    closes = λ c ns g k n i e w. (in-place Small ns k _ i (i k n e), tt);
+    retains = λ c ns g k f w j t i. one-more Small ns _ i t;
+    reparents = λ c ns g k f w j m a _ _ i e s o x. in-place Small ns j _ i (i j m e);
   }
 
 module _ (sp : Space) (topped : ToppedSpace sp) (r : Request) (body : Body) (f : InF64 r) where
@@ -51,10 +51,10 @@ module _ (sp : Space) (topped : ToppedSpace sp) (r : Request) (body : Body) (f :
 
   steps-small : (p : Feet) → lists.Each Reached (graph sp r body .steps p)
   unfolding graph
-  steps-small p = worded Point64 (steps-each sp r body topped (pointOf p) (λ w. Point64 (feetOf (w .feet))) (step-small (pointOf p)))
+  steps-small p = worded Reached (steps-each sp r body topped (pointOf p) (λ w. Point64 (feetOf (w .feet))) (step-small (pointOf p)))
 
   pub points-small : (b n : ℕ) → AllOf Small (run (graph sp r body) (best (feetOf (r .goal))) b n (begin (graph sp r body) (best (feetOf (r .goal))) b) .nodes)
   unfolding graph
   points-small b n =
-      run-kept (graph sp r body) (best (feetOf (r .goal))) (λ ns g. AllOf Small ns) (λ f. Unit {0}) Reached (best-laws (feetOf (r .goal)))
+      run-kept (graph sp r body) (best (feetOf (r .goal))) (λ c ns g. AllOf Small ns) (λ c f. Unit {0}) Reached (best-laws (feetOf (r .goal)))
       (kept (graph sp r body) (feetOf (r .goal)) (feet-below (r .start) (f .start-x) (f .start-y) (f .start-z)) steps-small) b n

@@ -95,18 +95,18 @@ module _ (𝓖 : Graph Feet Label) (goal : Feet) where
       let z = given-is (cheaper cost (m .note .cost)) (opened cost (lowered est (m .note .entry) g), g + 1) a x in
       rw (← z) (again ns g j k m e c i (w .1) cost est (lt (float est) (float (m .note .entry .estimate))))
 
-  kept : Kept 𝓖 (best goal) Apart (λ f. Unit {0}) (λ w. Unit {0})
+  kept : Kept 𝓖 (best goal) (λ c ns g. Apart ns g) (λ c f. Unit {0}) (λ w. Unit {0})
   unfolding best
   kept = record {
     empty = empty 1;
     begins = one-more [] 0 (startNode 𝓖 (best goal)) (empty 0) refl refl;
-    steps = λ f j. each-any (𝓖 .steps (f .point));
-    closes = λ ns g k n i e w. (in-place ns g g k (closedNode 𝓖 (best goal) n) i (omega arith) (λ c. absurd (true-false refl c)) (λ w. absurd (true-false w refl)) (λ w. absurd (true-false w refl)), tt);
-    retains = λ ns g k f w j t i. one-more ns g _ i refl refl;
-    reparents = λ ns g k f w j m a _ _ i e s c x. pushed-again ns g k f w j m a i e c x;
+    steps = λ c f j. each-any (𝓖 .steps (f .point));
+    closes = λ c ns g k n i e w. (in-place ns g g k (closedNode 𝓖 (best goal) n) i (omega arith) (λ o. absurd (true-false refl o)) (λ w. absurd (true-false w refl)) (λ w. absurd (true-false w refl)), tt);
+    retains = λ c ns g k f w j t i. one-more ns g _ i refl refl;
+    reparents = λ c ns g k f w j m a _ _ i e s o x. pushed-again ns g k f w j m a i e o x;
   }
 
   -- in every state that a search comes to, no two nodes that wait have one number
   pub pushes-apart : (b n : ℕ) → let s = run 𝓖 (best goal) b n (begin 𝓖 (best goal) b) in
       (j k : ℕ) (x y : Node Feet Label Note) → nth (s .nodes) j ≡ some x → nth (s .nodes) k ≡ some y → nodeWaits x ≡ true → nodeWaits y ≡ true → pushOf x ≡ pushOf y → j ≡ k
-  pushes-apart b n = run-kept 𝓖 (best goal) Apart (λ f. Unit {0}) (λ w. Unit {0}) (best-laws goal) kept b n .alone
+  pushes-apart b n = run-kept 𝓖 (best goal) (λ c ns g. Apart ns g) (λ c f. Unit {0}) (λ w. Unit {0}) (best-laws goal) kept b n .alone

@@ -107,7 +107,7 @@ list-front t rest = take-at (listBytes t) rest (48 * length t) (length-list t)
 abbrev pub held : Node Feet Label Note → NodeRecord
 held n = nodeFrom (lows nodeLayout (nodeWords (recordOf n)))
 
-node-long : (n : Node Feet Label Note) → length (nodeBytes n) ≡ 64
+pub node-long : (n : Node Feet Label Note) → length (nodeBytes n) ≡ 64
 node-long n = length-record-bytes nodeLayout (nodeWords (recordOf n)) refl
 
 node-between : (n : Node Feet Label Note) (p rest : List ℕ) (k : ℕ) → length p ≡ 64 * k → nodeAt (p ++ (nodeBytes n ++ rest)) k ≡ held n

@@ -80,6 +80,12 @@ module _ {P L A B : Type 0} (𝓖 : Graph P L) (𝓟 : Policy P L A B) where
       go : Ended s BudgetExceeded → (s .found ≡ none) × (s .dropped ≢ zero)
       go (by-drop h p d) = (h, d)
 
+  pub wait-of : (s : State P L A B) → outcome 𝓖 𝓟 s ≡ Searching → (s .found ≡ none) × ((r : ℕ × Node P L A) × (pick (s .nodes) (s .book) ≡ some r))
+  wait-of s e = go (subst (Ended s) e (ended s))
+    where
+      go : Ended s Searching → (s .found ≡ none) × ((r : ℕ × Node P L A) × (pick (s .nodes) (s .book) ≡ some r))
+      go (by-wait h r p) = (h, (r, p))
+
   -- a search is done exactly where its outcome is not Searching
   pub done-ended : (s : State P L A B) → Done 𝓖 𝓟 s → outcome 𝓖 𝓟 s ≢ Searching
   done-ended s d e = go d (subst (Ended s) e (ended s))
@@ -99,7 +105,7 @@ module _ {P L A B : Type 0} (𝓖 : Graph P L) (𝓟 : Policy P L A B) where
 
   -- ---- routes
 
-  inv-going : {b : ℕ} {s : State P L A B} → Sound 𝓖 𝓟 b s → s .found ≡ none → Inv 𝓖 𝓟 b none s
+  pub inv-going : {b : ℕ} {s : State P L A B} → Sound 𝓖 𝓟 b s → s .found ≡ none → Inv 𝓖 𝓟 b none s
   inv-going (going h inv) e = inv
   inv-going (struck u k n rest h r l _ _ _) e = absurd (none-some (sym e ∙ h))
 

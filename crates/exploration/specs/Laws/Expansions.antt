@@ -68,7 +68,7 @@ module _ {P L A B : Type 0} (𝓖 : Graph P L) (𝓟 : Policy P L A B) where
   Ran b n s t = Sound b t × Grow 𝓖 𝓟 s t × (Done t ⊎ (closedCount 𝓖 𝓟 (s .nodes) + n ≤ closedCount 𝓖 𝓟 (t .nodes)))
 
   -- a node that waits is open
-  open-of : {b : ℕ} {s : State P L A B} {busy : Option ℕ} → Inv 𝓖 𝓟 b busy s → (k : ℕ) (n : Node P L A) → nth (s .nodes) k ≡ some n → waits (n .note) ≡ true → n .closed ≡ false
+  pub open-of : {b : ℕ} {s : State P L A B} {busy : Option ℕ} → Inv 𝓖 𝓟 b busy s → (k : ℕ) (n : Node P L A) → nth (s .nodes) k ≡ some n → waits (n .note) ≡ true → n .closed ≡ false
   open-of inv k n e w = go (n .closed) (sym w ∙ inv .waiting k n e)
     where
       go : (c : Bool) → true ≡ not c → c ≡ false

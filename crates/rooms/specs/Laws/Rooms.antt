@@ -171,7 +171,7 @@ module _ (a f : List ℕ) (n : ℕ) where
 
 -- ---- in bytes
 
-parent-word : (p : ℕ) → parentWord (parentOf p) ≡ p
+pub parent-word : (p : ℕ) → parentWord (parentOf p) ≡ p
 unfolding parentOf
 parent-word p = go (eqb p nobody) refl
   where

@@ -103,13 +103,13 @@ module _ (sp : Space) (r : Request) (body : Body) where
 
 -- ---- an end is no search that goes on
 
-ended-tick : (e : explore.Outcome (Feet × Label)) (c : Counts) → (e ≡ explore.Searching → ⊥) → tickBy e c ≡ Ended (toldBy e) (length (listIn e)) c
+pub ended-tick : (e : explore.Outcome (Feet × Label)) (c : Counts) → (e ≡ explore.Searching → ⊥) → tickBy e c ≡ Ended (toldBy e) (length (listIn e)) c
 ended-tick (explore.Found t) c h = refl
 ended-tick explore.Unreachable c h = refl
 ended-tick explore.BudgetExceeded c h = refl
 ended-tick explore.Searching c h = absurd (h refl)
 
-ended-front : (e : explore.Outcome (Feet × Label)) (old : List ℕ) (ns : List (Node Feet Label Note)) → (e ≡ explore.Searching → ⊥) → frontBy e old ns ≡ replicate (length old) 0
+pub ended-front : (e : explore.Outcome (Feet × Label)) (old : List ℕ) (ns : List (Node Feet Label Note)) → (e ≡ explore.Searching → ⊥) → frontBy e old ns ≡ replicate (length old) 0
 ended-front (explore.Found t) old ns h = refl
 ended-front explore.Unreachable old ns h = refl
 ended-front explore.BudgetExceeded old ns h = refl
@@ -149,7 +149,7 @@ module _ (w : Window) (cells perms shapes boxes : List ℕ) (r : Request) (body 
   left-bad e h = left BadProgress
       ((let z : untouched BadProgress a f o ≡ judged = rw h in z) ∙ call-passed w cells shapes boxes r body (length a) (length f) (length o) false (λ q. untouched (Refused q) a f o) judged e)
 
-  went : none ≡ call → goodProgress r a f c n ≡ true → goneOn w cells perms shapes boxes r body a f o c n ≡ whole
+  pub went : none ≡ call → goodProgress r a f c n ≡ true → goneOn w cells perms shapes boxes r body a f o c n ≡ whole
   unfolding continued
   went e h = (let z : goneOn w cells perms shapes boxes r body a f o c n ≡ judged = rw h in z) ∙ call-passed w cells shapes boxes r body (length a) (length f) (length o) false (λ q. untouched (Refused q) a f o) judged e
 
