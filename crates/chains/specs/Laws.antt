@@ -102,8 +102,8 @@ module _ (a : List ℕ) where
 -- ---- chains of n nodes
 
 -- no step leaves the n nodes
-abbrev pub Inside : List ℕ → ℕ → Type 0
-Inside a n = (k : ℕ) → k < n → parentBack a k < n
+abbrev pub ParentsInside : List ℕ → ℕ → Type 0
+ParentsInside a n = (k : ℕ) → k < n → parentBack a k < n
 
 numbers : ℕ → List ℕ
 numbers n = firsts n (λ k. k)
@@ -113,7 +113,7 @@ unfolding numbers
 numbered zero k h = absurd (omega arith)
 numbered (suc n) k h = ⊎-elim (λ l. has-left (λ x. eqb x k) (numbers n) (n ∷ []) (numbered n k l)) (λ e. has-last (λ x. eqb x k) (numbers n) n (eq-eqb n k (sym e))) (last-or k n h)
 
-module _ (a : List ℕ) (n : ℕ) (inside : Inside a n) where
+module _ (a : List ℕ) (n : ℕ) (inside : ParentsInside a n) where
   pub back-inside : (m k : ℕ) → k < n → parentsBack a m k < n
   back-inside zero k h = h
   back-inside (suc m) k h = back-inside m (parentBack a k) (inside k h)
@@ -164,7 +164,7 @@ module _ (a : List ℕ) (n k : ℕ) where
   step-on e = let z = ne-eqb k 0 e in rw z
 
 -- good parents lead to no other nodes
-pub linked-closed : (a : List ℕ) (n : ℕ) → eachBelow (goodParent a n) n ≡ true → Inside a n
+pub linked-closed : (a : List ℕ) (n : ℕ) → eachBelow (goodParent a n) n ≡ true → ParentsInside a n
 linked-closed a n e zero h = omega (arith, step-first a n 0 refl)
 linked-closed a n e (suc k) h = omega (arith, step-on a n (suc k) (λ z. omega arith), linked-below a n (suc k) (λ z. omega arith) (each-at (goodParent a n) n (suc k) h e))
 

@@ -12,7 +12,7 @@ use lib.Dec.{eqb}
 use Rattle.exploration.specs.Laws.Lists.{true-or-false, true-false}
 use Rattle.chains.specs.Chains.{eachBelow, goodParent, parentBack, parentsBack, endsAtStart, goodChains}
 use Rattle.chains.specs.Laws as laws
-pub use Rattle.chains.specs.Laws.{Inside}
+pub use Rattle.chains.specs.Laws.{ParentsInside}
 
 -- some number of parents back from a node is node 0
 abbrev pub Reaches : List ℕ → ℕ → Type 0

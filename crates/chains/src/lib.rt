@@ -6,7 +6,7 @@ use rooms::get_node;
 ghost use mathlib.Core.Path.{_≡_};
 ghost use Prim.Native.Nat.{_≤_, _<_};
 ghost use Rattle.chains.specs.Chains.{goodParent, parentBack, eachBelow, endsAtStart, goodChains};
-ghost use Rattle.chains.specs.Marks.{Inside, MarksSound, Climbed, Reaches, ChainMarked};
+ghost use Rattle.chains.specs.Marks.{ParentsInside, MarksSound, Climbed, Reaches, ChainMarked};
 
 // The most nodes that a search can have.
 const MOST: usize = 4096;
@@ -56,7 +56,7 @@ fn up(nodes: &[u8], k: usize) -> usize
 
 // How many parents back from node k node 0 or a marked node stands; n + 1 where none does on so many.
 fn climb(nodes: &[u8], done: &[u8; 4096], n: usize, k: usize) -> usize
-    requires { ⌜ Inside (now nodes) n × (k < n) × (n ≤ 4096) ⌝ }
+    requires { ⌜ ParentsInside (now nodes) n × (k < n) × (n ≤ 4096) ⌝ }
     ensures { λ m. ⌜ Climbed (now (nodes .entry)) (now (done .entry)) n k m ⌝ }
 {
     let mut at = k;
@@ -76,7 +76,7 @@ fn climb(nodes: &[u8], done: &[u8; 4096], n: usize, k: usize) -> usize
 
 // The first m nodes back from node k marked.
 fn mark(nodes: &[u8], done: &mut [u8; 4096], n: usize, k: usize, m: usize)
-    requires { ⌜ Inside (now nodes) n × (k < n) × (n ≤ 4096) × MarksSound (now nodes) (now done) × Reaches (now nodes) k ⌝ }
+    requires { ⌜ ParentsInside (now nodes) n × (k < n) × (n ≤ 4096) × MarksSound (now nodes) (now done) × Reaches (now nodes) k ⌝ }
     ensures { λ _. ⌜ MarksSound (now (nodes .entry)) (now (done .exit)) ⌝ }
 {
     let mut at = k;
@@ -90,7 +90,7 @@ fn mark(nodes: &[u8], done: &mut [u8; 4096], n: usize, k: usize, m: usize)
 
 // Whether node k's chain ends; if so, its nodes are marked. Most often its parent is marked already.
 fn settle(nodes: &[u8], done: &mut [u8; 4096], n: usize, k: usize) -> bool
-    requires { ⌜ Inside (now nodes) n × (k < n) × (n ≤ 4096) × MarksSound (now nodes) (now done) ⌝ }
+    requires { ⌜ ParentsInside (now nodes) n × (k < n) × (n ≤ 4096) × MarksSound (now nodes) (now done) ⌝ }
     ensures { λ r. ⌜ ChainMarked (now (nodes .entry)) n k (now (done .exit)) r ⌝ }
 {
     let parent = up(nodes, k);

@@ -22,15 +22,15 @@ use Rattle.outcomes.specs.Ticks.{Ticked, untouched, tickedBy}
 use Rattle.refusals.specs.Refusals.{withoutSearch}
 
 -- "retains the start": the theory's begin, of 01's graph under 01's policy, with the request's budget
-unfoldable pub opened : Space → Request → Body → State Feet Label Note ℕ
-opened sp r body = begin (graph sp r body) (best (feetOf (r .goal))) (r .«node_budget»)
+unfoldable pub startState : Space → Request → Body → State Feet Label Note ℕ
+startState sp r body = begin (graph sp r body) (best (feetOf (r .goal))) (r .«node_budget»)
 
 module _ (w : Window) (cells perms shapes boxes : List ℕ) (r : Request) (body : Body) (nodes front out : List ℕ) where
   -- A refusal writes nothing. Else the answer is "still searching", never an outcome; "zeroes the frontier room": all that is lent, then the start's record.
   abbrev pub begunBy : Option Outcome → Ticked
   begunBy (some o) = untouched (Refused o) nodes front out
-  begunBy none = tickedBy explore.Searching (opened (space w cells perms shapes boxes) r body) nodes (replicate (length front) 0) out
+  begunBy none = tickedBy explore.Searching (startState (space w cells perms shapes boxes) r body) nodes (replicate (length front) 0) out
 
   -- "Begin makes 01's checks"; there is no index
-  unfoldable pub begun : Ticked
-  begun = begunBy (withoutSearch w cells perms shapes boxes r body (length nodes) (length front) (length out) false)
+  unfoldable pub begunSearch : Ticked
+  begunSearch = begunBy (withoutSearch w cells perms shapes boxes r body (length nodes) (length front) (length out) false)

@@ -7,8 +7,8 @@ use world::Request;
 use world::Window;
 ghost use mathlib.Core.Path.{_≡_};
 ghost use Rattle.world.specs.Space.{space};
-ghost use Rattle.outcomes.specs.Ticks.{Holds, GoesFrom};
-ghost use Rattle.openings.specs.Openings.{opened, begun};
+ghost use Rattle.outcomes.specs.Ticks.{Gives, GoesFrom};
+ghost use Rattle.openings.specs.Openings.{startState, begunSearch};
 
 // The start retained, in rooms for a search; of the output only the length counts.
 pub fn begin_search(
@@ -23,8 +23,8 @@ pub fn begin_search(
     front: &mut [u8],
     out: &[u8],
 ) -> Tick
-    ensures { λ t. ⌜ Holds (begun w (now (cells .entry)) (now (perms .entry)) (now (shapes .entry)) (now (boxes .entry)) r body (now (nodes .entry)) (now (front .entry)) (now (out .entry))) t (now (nodes .exit)) (now (front .exit)) (now (out .entry)) ⌝ }
-    ensures { λ t. ⌜ GoesFrom (opened (space w (now (cells .entry)) (now (perms .entry)) (now (shapes .entry)) (now (boxes .entry))) r body) t (now (nodes .exit)) (now (front .exit)) ⌝ }
+    ensures { λ t. ⌜ Gives (begunSearch w (now (cells .entry)) (now (perms .entry)) (now (shapes .entry)) (now (boxes .entry)) r body (now (nodes .entry)) (now (front .entry)) (now (out .entry))) t (now (nodes .exit)) (now (front .exit)) (now (out .entry)) ⌝ }
+    ensures { λ t. ⌜ GoesFrom (startState (space w (now (cells .entry)) (now (perms .entry)) (now (shapes .entry)) (now (boxes .entry))) r body) t (now (nodes .exit)) (now (front .exit)) ⌝ }
 {
     let judged = refusals::judge(w, cells, perms, shapes, boxes, r, body, nodes.len(), front.len(), out.len(), false);
     if let Judged::Refused(outcome) = judged {

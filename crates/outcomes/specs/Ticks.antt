@@ -74,7 +74,7 @@ tickedBy e s nodes front out = record {
 -- ---- the promises of begin and continue
 
 -- what was answered and what the rooms hold is that
-pub record Holds (h : Ticked) (t : Tick) (nodes front out : List ℕ) : Type 0 where
+pub record Gives (h : Ticked) (t : Tick) (nodes front out : List ℕ) : Type 0 where
   pub answer : tickGiven t ≡ tickGiven (h .tick)
   pub node-room : nodes ≡ h .nodes
   pub front-room : front ≡ h .front

@@ -22,24 +22,24 @@ use Rattle.refusals.specs.Refusals.{callJudged}
 use Rattle.progress.specs.Progress.{goodProgress}
 
 -- "the step's definition on them": the search that the rooms and the counts hold, n expansions further. Any rooms and counts hold some search.
-unfoldable pub further : Space → Request → Body → List ℕ → List ℕ → Counts → ℕ → State Feet Label Note ℕ
-further sp r body nodes front c n = run (graph sp r body) (best (feetOf (r .goal))) (r .«node_budget») n (stateOf nodes front c)
+unfoldable pub expanded : Space → Request → Body → List ℕ → List ℕ → Counts → ℕ → State Feet Label Note ℕ
+expanded sp r body nodes front c n = run (graph sp r body) (best (feetOf (r .goal))) (r .«node_budget») n (stateOf nodes front c)
 
 -- what a state has come to: "finds the goal or leaves nothing waiting", or it goes on
 unfoldable pub cameTo : Space → Request → Body → State Feet Label Note ℕ → explore.Outcome (Feet × Label)
 cameTo sp r body s = outcome (graph sp r body) (best (feetOf (r .goal))) s
 
 module _ (w : Window) (cells perms shapes boxes : List ℕ) (r : Request) (body : Body) (nodes front out : List ℕ) (c : Counts) (n : ℕ) where
-  abbrev pub reached : State Feet Label Note ℕ
-  reached = further (space w cells perms shapes boxes) r body nodes front c n
+  abbrev pub expandedIn : State Feet Label Note ℕ
+  expandedIn = expanded (space w cells perms shapes boxes) r body nodes front c n
 
   -- where expansions are made: the state that they reach, and what it has come to
   unfoldable pub goneOn : Ticked
-  goneOn = tickedBy (cameTo (space w cells perms shapes boxes) r body reached) reached nodes front out
+  goneOn = tickedBy (cameTo (space w cells perms shapes boxes) r body expandedIn) expandedIn nodes front out
 
   -- "continue judges 3, `valid_request` (1), 4, 5, then 12 BadProgress, nothing written"; then it goes on
-  unfoldable pub continued : Ticked
-  continued =
+  unfoldable pub continuedSearch : Ticked
+  continuedSearch =
       callJudged w cells shapes boxes r body (length nodes) (length front) (length out) false (λ o. untouched (Refused o) nodes front out)
       (cond (not (goodProgress r nodes front c n)) (untouched BadProgress nodes front out)
       goneOn)

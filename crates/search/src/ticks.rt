@@ -9,8 +9,8 @@ use world::Body;
 use world::Request;
 use world::Window;
 ghost use mathlib.Core.Path.{_≡_};
-ghost use Rattle.outcomes.specs.Ticks.{Holds, GoesFrom};
-ghost use Rattle.search.specs.Ticks.{continued, reached};
+ghost use Rattle.outcomes.specs.Ticks.{Gives, GoesFrom};
+ghost use Rattle.search.specs.Ticks.{continuedSearch, expandedIn};
 
 // The bytes of an index for as many nodes as a search can have.
 const INDEX: usize = 32768;
@@ -20,8 +20,8 @@ pub fn continue_search(
     w: Window, cells: &[u8], perms: &[u8], shapes: &[u8], boxes: &[u8], r: Request, body: Body,
     c: Counts, expansions: u64, nodes: &mut [u8], front: &mut [u8], out: &mut [u8],
 ) -> Tick
-    ensures { λ t. ⌜ Holds (continued w (now (cells .entry)) (now (perms .entry)) (now (shapes .entry)) (now (boxes .entry)) r body (now (nodes .entry)) (now (front .entry)) (now (out .entry)) c expansions) t (now (nodes .exit)) (now (front .exit)) (now (out .exit)) ⌝ }
-    ensures { λ t. ⌜ GoesFrom (reached w (now (cells .entry)) (now (perms .entry)) (now (shapes .entry)) (now (boxes .entry)) r body (now (nodes .entry)) (now (front .entry)) (now (out .entry)) c expansions) t (now (nodes .exit)) (now (front .exit)) ⌝ }
+    ensures { λ t. ⌜ Gives (continuedSearch w (now (cells .entry)) (now (perms .entry)) (now (shapes .entry)) (now (boxes .entry)) r body (now (nodes .entry)) (now (front .entry)) (now (out .entry)) c expansions) t (now (nodes .exit)) (now (front .exit)) (now (out .exit)) ⌝ }
+    ensures { λ t. ⌜ GoesFrom (expandedIn w (now (cells .entry)) (now (perms .entry)) (now (shapes .entry)) (now (boxes .entry)) r body (now (nodes .entry)) (now (front .entry)) (now (out .entry)) c expansions) t (now (nodes .exit)) (now (front .exit)) ⌝ }
 {
     let judged = refusals::judge_call(w, cells, shapes, boxes, r, body, nodes.len(), front.len(), out.len(), false);
     if let Judged::Refused(outcome) = judged {

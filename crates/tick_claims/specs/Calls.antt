@@ -13,11 +13,11 @@ use Rattle.rooms.specs.declared.Counts.{Counts}
 use Rattle.outcomes.specs.declared.Outcome.{Outcome}
 use Rattle.outcomes.specs.declared.Answer.{Answer}
 use Rattle.outcomes.specs.declared.Tick.the-variants.{Searching, Ended}
-use Rattle.outcomes.specs.Ticks.{Ticked, Holds, GoesFrom}
+use Rattle.outcomes.specs.Ticks.{Ticked, Gives, GoesFrom}
 use Rattle.index.specs.Size.{wrongSize}
-use Rattle.openings.specs.Openings.{opened, begun}
+use Rattle.openings.specs.Openings.{startState, begunSearch}
 use Rattle.search.specs.FindWalkPath.{found, nodesAfter, frontAfter, outAfter}
-use Rattle.search.specs.Ticks.{reached, continued}
+use Rattle.search.specs.Ticks.{expandedIn, continuedSearch}
 
 -- "each continue with a number of expansions of 1 to 4,096": how many each call is asked for
 abbrev pub Lots : List ℕ → Type 0
@@ -29,13 +29,13 @@ module _ (w : Window) (cells perms shapes boxes : List ℕ) (r : Request) (body 
 
   -- h is what `begin_search` promises of rooms and an output with these bytes: its two promises
   pub record LeftByBegin (nodes front out : List ℕ) (h : Ticked) : Type 0 where
-    pub holds : Holds (begun w cells perms shapes boxes r body nodes front out) (h .tick) (h .nodes) (h .front) (h .out)
-    pub goes : GoesFrom (opened (space w cells perms shapes boxes) r body) (h .tick) (h .nodes) (h .front)
+    pub holds : Gives (begunSearch w cells perms shapes boxes r body nodes front out) (h .tick) (h .nodes) (h .front) (h .out)
+    pub goes : GoesFrom (startState (space w cells perms shapes boxes) r body) (h .tick) (h .nodes) (h .front)
 
   -- k is what `continue_search` promises, asked for n expansions, of the rooms and the output that h has, and of these counts: its two promises
   pub record LeftByContinue (h : Ticked) (c : Counts) (n : ℕ) (k : Ticked) : Type 0 where
-    pub holds : Holds (continued w cells perms shapes boxes r body (h .nodes) (h .front) (h .out) c n) (k .tick) (k .nodes) (k .front) (k .out)
-    pub goes : GoesFrom (reached w cells perms shapes boxes r body (h .nodes) (h .front) (h .out) c n) (k .tick) (k .nodes) (k .front)
+    pub holds : Gives (continuedSearch w cells perms shapes boxes r body (h .nodes) (h .front) (h .out) c n) (k .tick) (k .nodes) (k .front) (k .out)
+    pub goes : GoesFrom (expandedIn w cells perms shapes boxes r body (h .nodes) (h .front) (h .out) c n) (k .tick) (k .nodes) (k .front)
 
   -- Calls of continue, from what one call left to what the last of them left: each while the search goes on, with the counts of the call before it and on the
   -- rooms and the output that this left.

@@ -32,13 +32,13 @@ use Rattle.visits.specs.Best.{best}
 use Rattle.visits.specs.Laws.Policy.{best-laws}
 use Rattle.outcomes.specs.declared.Tick.{Tick}
 use Rattle.outcomes.specs.declared.Tick.the-variants.{Searching}
-use Rattle.outcomes.specs.Ticks.{Ticked, tickBy, frontBy, tickedBy, Holds, GoesFrom}
+use Rattle.outcomes.specs.Ticks.{Ticked, tickBy, frontBy, tickedBy, Gives, GoesFrom}
 use Rattle.outcomes.specs.Unique.{one-tick}
 use Rattle.refusals.specs.Refusals.{withoutCall, withoutSearch}
 use Rattle.refusals.specs.Laws.{Passed, begins, some-budget, call-begins}
 use Rattle.progress.specs.Progress.{goodProgress}
-use Rattle.openings.specs.Openings.{opened, begun, begunBy}
-use Rattle.search.specs.Ticks.{further, cameTo, reached, goneOn, continued}
+use Rattle.openings.specs.Openings.{startState, begunSearch, begunBy}
+use Rattle.search.specs.Ticks.{expanded, cameTo, expandedIn, goneOn, continuedSearch}
 use Rattle.search.specs.Laws.Ticks.{went}
 use Rattle.claims.specs.Words.{InF64, after}
 use Rattle.tick_claims.specs.Acceptance.{untouched-accepted}
@@ -48,7 +48,7 @@ use Rattle.tick_claims.specs.Rewritten.{node-room-length, front-room-len
 -- ---- answers
 
 -- a promise of what a call left, as one
-pub left-is : (h k : Ticked) → Holds h (k .tick) (k .nodes) (k .front) (k .out) → k ≡ h
+pub left-is : (h k : Ticked) → Gives h (k .tick) (k .nodes) (k .front) (k .out) → k ≡ h
 left-is h k p = λ i. record { tick = one-tick (k .tick) (h .tick) (p .answer) i; nodes = p .node-room i; front = p .front-room i; out = p .output i }
 
 -- only a state that is still searching is told as such
@@ -117,9 +117,9 @@ module _ (w : Window) (cells perms shapes boxes : List ℕ) (r : Request) (body 
     pub goes-on : GoesFrom (after sp r body e) (k .tick) (k .nodes) (k .front)
 
   begin-stands : (h : Ticked) → LeftByBegin w cells perms shapes boxes r body nodes front out h → StandsAfter 0 h
-  unfolding begun opened
+  unfolding begunSearch startState
   begin-stands h p = record {
-    is = left-is (begun w cells perms shapes boxes r body nodes front out) h (p .holds)
+    is = left-is (begunSearch w cells perms shapes boxes r body nodes front out) h (p .holds)
         ∙ ap (begunBy w cells perms shapes boxes r body nodes front out) goes
         ∙ ap (λ (x : explore.Outcome (Feet × Label)). tickedBy x (after sp r body 0) nodes blank out) (sym begin-searching);
     goes-on = p .goes;
@@ -164,8 +164,8 @@ module _ (w : Window) (cells perms shapes boxes : List ℕ) (r : Request) (body 
       unfolding cameTo
       accepted = untouched-accepted w cells perms shapes boxes r body f (passed .request) (passed .sizes) (passed .world) e (searching .0) (h .nodes) (h .front) c state-is zero-past n one most
 
-      reached-is : reached w cells perms shapes boxes r body (h .nodes) (h .front) (h .out) c n ≡ after sp r body (e + n)
-      unfolding further
+      reached-is : expandedIn w cells perms shapes boxes r body (h .nodes) (h .front) (h .out) c n ≡ after sp r body (e + n)
+      unfolding expanded
       reached-is = ap (run 𝓖 𝓟 (r .«node_budget») n) state-is ∙ sym (after-add e n)
 
       -- what was written on what the call before it left is as if it were written on the rooms before begin
@@ -189,7 +189,7 @@ module _ (w : Window) (cells perms shapes boxes : List ℕ) (r : Request) (body 
 
       next-stands : (k : Ticked) → LeftByContinue w cells perms shapes boxes r body h c n k → StandsAfter (e + n) k
       next-stands k p = record {
-        is = left-is (continued w cells perms shapes boxes r body (h .nodes) (h .front) (h .out) c n) k (p .holds)
+        is = left-is (continuedSearch w cells perms shapes boxes r body (h .nodes) (h .front) (h .out) c n) k (p .holds)
             ∙ sym (went w cells perms shapes boxes r body (h .nodes) (h .front) (h .out) c n call-passes accepted) ∙ went-on;
         goes-on = subst (λ (t : State Feet Label Note ℕ). GoesFrom t (k .tick) (k .nodes) (k .front)) reached-is (p .goes);
       }

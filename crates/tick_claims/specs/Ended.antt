@@ -40,7 +40,7 @@ use Rattle.chains.specs.Laws.{each-all}
 use Rattle.progress.specs.Progress.{goodCounts, goodNode, isIdle, someWaits, goodWait, goodProgress}
 use Rattle.progress.specs.Laws.{idle-at, waits-none}
 use Rattle.search.specs.FindWalkPath.{ended, endOf, answerBy, beforeSearch, found, nodesBy, nodesAfter, zeroBy, frontAfter, outBy, outAfter}
-use Rattle.search.specs.Ticks.{cameTo, continued}
+use Rattle.search.specs.Ticks.{cameTo, continuedSearch}
 use Rattle.search.specs.Laws.Ticks.{ended-tick, ended-front, left-bad}
 use Rattle.claims.specs.Words.{InF64, after}
 use Rattle.claims.specs.Laws.ReadBack.{length-list}
@@ -151,7 +151,7 @@ module _ (w : Window) (cells perms shapes boxes : List ℕ) (r : Request) (body 
 
     pub refused-after : (c : Counts) (n : ℕ) (m : Ticked) → LeftByContinue w cells perms shapes boxes r body k c n m → m ≡ untouched BadProgress (k .nodes) (k .front) (k .out)
     refused-after c n m p =
-        let whole = continued w cells perms shapes boxes r body (k .nodes) (k .front) (k .out) c n in
+        let whole = continuedSearch w cells perms shapes boxes r body (k .nodes) (k .front) (k .out) c n in
         let passes : none ≡ withoutCall w cells shapes boxes r body (length (k .nodes)) (length (k .front)) (length (k .out)) false =
         rw (nodes-length, front-length, out-length) (sym (call-begins w cells shapes boxes r body (length nodes) (length front) (length out) false perms goes)) in
         let bad : goodProgress r (k .nodes) (k .front) c n ≡ false = ap (λ (x : List ℕ). goodProgress r (k .nodes) x c n) all-zero ∙ zeros-bad r (k .nodes) (length front) c n in

@@ -23,8 +23,8 @@ use Rattle.outcomes.specs.Ticks.{tickNumber, untouched}
 use Rattle.outcomes.specs.Outcomes.{outcomeNumber, pathNumber}
 use Rattle.refusals.specs.Refusals.{withoutSearch}
 use Rattle.search.specs.FindWalkPath.{answerBy, found}
-use Rattle.search.specs.Ticks.{continued}
-use Rattle.openings.specs.Openings.{begunBy, begun}
+use Rattle.search.specs.Ticks.{continuedSearch}
+use Rattle.openings.specs.Openings.{begunBy, begunSearch}
 use Rattle.mob_request.specs.Asked.{requestOf}
 use Rattle.find_path.specs.FindPath.{unlessBad, path}
 use Rattle.outcomes.specs.declared.Path.the-variants.{Searched, BadTable}
@@ -47,16 +47,16 @@ module _ (w : Window) (cells perms shapes boxes : List ℕ) (r : Request) (body 
       go true = refl
       go false = refl
 
-  begin-invalid : (nodes front out : List ℕ) → tickNumber (begun w cells perms shapes boxes r body nodes front out .tick) ≡ cond (badWorld w cells shapes boxes) 3 1
-  unfolding begun withoutSearch
+  begin-invalid : (nodes front out : List ℕ) → tickNumber (begunSearch w cells perms shapes boxes r body nodes front out .tick) ≡ cond (badWorld w cells shapes boxes) 3 1
+  unfolding begunSearch withoutSearch
   begin-invalid nodes front out = rw invalid (go (badWorld w cells shapes boxes))
     where
       go : (b : Bool) → tickNumber (begunBy w cells perms shapes boxes r body nodes front out (cond b (some outcome.BadWorld) (some outcome.Unreachable)) .tick) ≡ cond b 3 1
       go true = refl
       go false = refl
 
-  continue-invalid : (nodes front out : List ℕ) (c : Counts) (n : ℕ) → tickNumber (continued w cells perms shapes boxes r body nodes front out c n .tick) ≡ cond (badWorld w cells shapes boxes) 3 1
-  unfolding continued
+  continue-invalid : (nodes front out : List ℕ) (c : Counts) (n : ℕ) → tickNumber (continuedSearch w cells perms shapes boxes r body nodes front out c n .tick) ≡ cond (badWorld w cells shapes boxes) 3 1
+  unfolding continuedSearch
   continue-invalid nodes front out c n = rw invalid (go (badWorld w cells shapes boxes))
     where
       go : (b : Bool) → tickNumber (cond b (untouched (Refused outcome.BadWorld) nodes front out) (untouched (Refused outcome.Unreachable) nodes front out) .tick) ≡ cond b 3 1

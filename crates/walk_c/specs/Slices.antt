@@ -4,21 +4,21 @@ use mathlib.Core.Path.{_≡_, ap, _∙_}
 use mathlib.Core.List.{List}
 use Rattle.rooms.specs.declared.Counts.{Counts}
 use Rattle.outcomes.specs.declared.Tick.{Tick}
-use Rattle.outcomes.specs.Ticks.{tickNumber, Ticked, Holds}
+use Rattle.outcomes.specs.Ticks.{tickNumber, Ticked, Gives}
 use Rattle.outcomes.specs.Unique.{one-tick}
-use Rattle.openings.specs.Openings.{begun}
-use Rattle.search.specs.Ticks.{continued}
+use Rattle.openings.specs.Openings.{begunSearch}
+use Rattle.search.specs.Ticks.{continuedSearch}
 use Rattle.c_records.specs.Records.{windowIn, bodyIn}
 use Rattle.c_records.specs.Asked.{asked}
 use Rattle.c_answers.specs.Answers.{tickWritten}
 
 unfoldable pub begunIn : (window cells permissions shapes boxes request body nodes front out : List ℕ) → Ticked
 begunIn window cells permissions shapes boxes request body nodes front out =
-    begun (windowIn window) cells permissions shapes boxes (asked window request body) (bodyIn body) nodes front out
+    begunSearch (windowIn window) cells permissions shapes boxes (asked window request body) (bodyIn body) nodes front out
 
 unfoldable pub continuedIn : (window cells permissions shapes boxes request body nodes front out : List ℕ) → Counts → ℕ → Ticked
 continuedIn window cells permissions shapes boxes request body nodes front out c n =
-    continued (windowIn window) cells permissions shapes boxes (asked window request body) (bodyIn body) nodes front out c n
+    continuedSearch (windowIn window) cells permissions shapes boxes (asked window request body) (bodyIn body) nodes front out c n
 
 -- what a call answers with a number, a progress record in its old bytes, and three rooms
 pub record Sliced (h : Ticked) (number : ℕ) (old progress nodes front out : List ℕ) : Type 0 where
@@ -28,7 +28,7 @@ pub record Sliced (h : Ticked) (number : ℕ) (old progress nodes front out : Li
   pub front-room : front ≡ h .front
   pub output : out ≡ h .out
 
-pub sliced : {h : Ticked} {t : Tick} {number : ℕ} {progress nodes front out : List ℕ} (old : List ℕ) → Holds h t nodes front out →
+pub sliced : {h : Ticked} {t : Tick} {number : ℕ} {progress nodes front out : List ℕ} (old : List ℕ) → Gives h t nodes front out →
     (number ≡ tickNumber t) × (progress ≡ tickWritten t old) → Sliced h number old progress nodes front out
 sliced {h} {t} old holds (n, p) =
     let e = one-tick t (h .tick) (holds .answer) in

@@ -36,7 +36,7 @@ use Rattle.outcomes.specs.declared.Answer.{Answer}
 use Rattle.outcomes.specs.declared.Tick.{Tick}
 use Rattle.outcomes.specs.declared.Tick.the-variants.{Refused, BadProgress, Searching, Ended}
 use Rattle.outcomes.specs.Outcomes.{toldBy, listIn, countsOf, endQuiet, endAt, answerOf}
-use Rattle.outcomes.specs.Ticks.{tickGiven, Ticked, untouched, tickBy, frontBy, Holds, GoesFrom}
+use Rattle.outcomes.specs.Ticks.{tickGiven, Ticked, untouched, tickBy, frontBy, Gives, GoesFrom}
 use Rattle.conclusion.specs.GoesOn.{goesOn}
 use Rattle.conclusion.specs.Laws.{written-is, Concludes}
 use Rattle.refusals.specs.Refusals.{withoutCall}
@@ -45,7 +45,7 @@ use Rattle.progress.specs.Progress.{goodProgress}
 use Rattle.progress.specs.Laws.{CountBounds}
 use Rattle.search.specs.Turns.{mostSteps, after, Quiet}
 use Rattle.search.specs.Runs.{Spun}
-use Rattle.search.specs.Ticks.{further, cameTo, reached, goneOn, continued}
+use Rattle.search.specs.Ticks.{expanded, cameTo, expandedIn, goneOn, continuedSearch}
 use Rattle.search.specs.Laws.Ends.{aimTo, nodes-after, counts-after, Silent, silent-end}
 
 -- ---- a list is no longer than there are nodes, and one
@@ -132,25 +132,25 @@ module _ (w : Window) (cells perms shapes boxes : List ℕ) (r : Request) (body 
   call = withoutCall w cells shapes boxes r body (length a) (length f) (length o) false
 
   abbrev whole : Ticked
-  whole = continued w cells perms shapes boxes r body a f o c n
+  whole = continuedSearch w cells perms shapes boxes r body a f o c n
 
   abbrev judged : Ticked
   judged = cond (not (goodProgress r a f c n)) (untouched BadProgress a f o) (goneOn w cells perms shapes boxes r body a f o c n)
 
-  left : (t : Tick) → untouched t a f o ≡ whole → Holds whole t a f o
-  left t e = subst (λ (h : Ticked). Holds h t a f o) e (record { answer = refl; node-room = refl; front-room = refl; output = refl })
+  left : (t : Tick) → untouched t a f o ≡ whole → Gives whole t a f o
+  left t e = subst (λ (h : Ticked). Gives h t a f o) e (record { answer = refl; node-room = refl; front-room = refl; output = refl })
 
-  pub left-refused : (p : Outcome) → some p ≡ call → Holds whole (Refused p) a f o
-  unfolding continued
+  pub left-refused : (p : Outcome) → some p ≡ call → Gives whole (Refused p) a f o
+  unfolding continuedSearch
   left-refused p e = left (Refused p) (call-refused w cells shapes boxes r body (length a) (length f) (length o) false (λ q. untouched (Refused q) a f o) judged p e)
 
-  pub left-bad : none ≡ call → goodProgress r a f c n ≡ false → Holds whole BadProgress a f o
-  unfolding continued
+  pub left-bad : none ≡ call → goodProgress r a f c n ≡ false → Gives whole BadProgress a f o
+  unfolding continuedSearch
   left-bad e h = left BadProgress
       ((let z : untouched BadProgress a f o ≡ judged = rw h in z) ∙ call-passed w cells shapes boxes r body (length a) (length f) (length o) false (λ q. untouched (Refused q) a f o) judged e)
 
   pub went : none ≡ call → goodProgress r a f c n ≡ true → goneOn w cells perms shapes boxes r body a f o c n ≡ whole
-  unfolding continued
+  unfolding continuedSearch
   went e h = (let z : goneOn w cells perms shapes boxes r body a f o c n ≡ judged = rw h in z) ∙ call-passed w cells shapes boxes r body (length a) (length f) (length o) false (λ q. untouched (Refused q) a f o) judged e
 
   module _ (passed : Passed w cells shapes boxes r body (length a) (length f) (length o) false) (bounds : CountBounds (r .«node_budget») c n) where
@@ -173,7 +173,7 @@ module _ (w : Window) (cells perms shapes boxes : List ℕ) (r : Request) (body 
       sp = space w cells perms shapes boxes
 
       abbrev far : State Feet Label Note ℕ
-      far = reached w cells perms shapes boxes r body a f o c n
+      far = expandedIn w cells perms shapes boxes r body a f o c n
 
       spins : Spun (aimTo r (feetOf (r .goal))) sp r body c n t a f b g
       spins = subst (λ (q : Feet). Spun (aimTo r q) sp r body c n t a f b g) goal-is spun
@@ -182,7 +182,7 @@ module _ (w : Window) (cells perms shapes boxes : List ℕ) (r : Request) (body 
       few = spun .near .few
 
       state-is : after (aimTo r (feetOf (r .goal))) t b g ≡ far
-      unfolding further
+      unfolding expanded
       state-is = spins .state
 
       nodes-are : nodesOf (countsOf t .retained) b g ≡ far .nodes
@@ -204,16 +204,16 @@ module _ (w : Window) (cells perms shapes boxes : List ℕ) (r : Request) (body 
       outWith e = listBytes (listIn e) ++ drop (48 * length (listIn e)) o
 
       -- what the code answers and leaves, where expansions were made
-      by-parts : {u : Tick} {x y : List ℕ} → u ≡ tickBy came (countsIn far) → x ≡ frontBy came f (far .nodes) → y ≡ outWith came → Holds whole u b x y
+      by-parts : {u : Tick} {x y : List ℕ} → u ≡ tickBy came (countsIn far) → x ≡ frontBy came f (far .nodes) → y ≡ outWith came → Gives whole u b x y
       unfolding goneOn
-      by-parts {u} {x} {y} i j k = subst (λ (h : Ticked). Holds h u b x y) (went goes good) (record { answer = ap tickGiven i; node-room = nodes-room-is; front-room = j; output = k })
+      by-parts {u} {x} {y} i j k = subst (λ (h : Ticked). Gives h u b x y) (went goes good) (record { answer = ap tickGiven i; node-room = nodes-room-is; front-room = j; output = k })
 
       -- a node waits still
       module _ (on : goesOn g t ≡ true) where
         came-searching : came ≡ explore.Searching
         came-searching = ap (cameTo sp r body) (sym state-is) ∙ came-going sp r body t b g on .0
 
-        pub holds-on : Holds whole (Searching (countsOf t)) b g o
+        pub holds-on : Gives whole (Searching (countsOf t)) b g o
         holds-on = by-parts
             (sym (ap (λ (e : explore.Outcome (Feet × Label)). tickBy e (countsIn far)) came-searching ∙ ap Searching counts-are))
             (front-room-is ∙ sym (ap (λ (e : explore.Outcome (Feet × Label)). frontBy e f (far .nodes)) came-searching))
@@ -246,5 +246,5 @@ module _ (w : Window) (cells perms shapes boxes : List ℕ) (r : Request) (body 
         out-over = ends .1 ∙ ap (λ (e : explore.Outcome (Feet × Label)). written (listIn e) o) (sym came-is)
             ∙ written-is (listIn came) o (omega (arith, passed .out-room, few, end-short b (feetOf (r .goal)) t, ap (λ (e : explore.Outcome (Feet × Label)). length (listIn e)) came-is))
 
-        pub holds-over : {z : List ℕ} → z ≡ replicate (length g) 0 → Holds whole (Ended (x .outcome) (x .count) (countsOf t)) b z p
+        pub holds-over : {z : List ℕ} → z ≡ replicate (length g) 0 → Gives whole (Ended (x .outcome) (x .count) (countsOf t)) b z p
         holds-over e = by-parts tick-over (e ∙ front-over) out-over
