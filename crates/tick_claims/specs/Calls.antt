@@ -24,6 +24,10 @@ abbrev pub Lots : List ℕ → Type 0
 Lots [] = Unit {0}
 Lots (n ∷ lots) = (1 ≤ n) × (n ≤ 4096) × Lots lots
 
+-- The whole search has an index room besides (02, No. 7): any of a right size.
+abbrev pub RightIndex : Request → List ℕ → Type 0
+RightIndex r index = wrongSize (length index) (r .«node_budget») ≡ false
+
 module _ (w : Window) (cells perms shapes boxes : List ℕ) (r : Request) (body : Body) where
   -- ---- the calls: the tables, the request and the body are the same in all of them
 
@@ -46,10 +50,6 @@ module _ (w : Window) (cells perms shapes boxes : List ℕ) (r : Request) (body 
   -- ---- one whole search on the rooms and the output as they were before begin
 
   module _ (nodes front out : List ℕ) where
-    -- The whole search has an index room besides (02, No. 7). It is any of a right size: none of them changes an answer.
-    abbrev pub RightIndex : List ℕ → Type 0
-    RightIndex index = wrongSize (length index) (r .«node_budget») ≡ false
-
     abbrev pub wholeAnswer : List ℕ → Answer
     wholeAnswer index = found w cells perms shapes boxes r body (length nodes) (length front) (length index) (length out)
 
@@ -60,11 +60,11 @@ module _ (w : Window) (cells perms shapes boxes : List ℕ) (r : Request) (body 
       pub counts : Counts
       pub ended : k .tick ≡ Ended outcome count counts
       -- "the final outcome", with the number of waypoints, of retained and of closed nodes
-      pub answer : (index : List ℕ) → RightIndex index → record { outcome = outcome; count = count; retained = counts .retained; closed = counts .closed } ≡ wholeAnswer index
+      pub answer : (index : List ℕ) → RightIndex r index → record { outcome = outcome; count = count; retained = counts .retained; closed = counts .closed } ≡ wholeAnswer index
       -- "list"
-      pub output : (index : List ℕ) → RightIndex index → k .out ≡ outAfter w cells perms shapes boxes r body nodes front index out
+      pub output : (index : List ℕ) → RightIndex r index → k .out ≡ outAfter w cells perms shapes boxes r body nodes front index out
       -- "and node room equal one whole search"
-      pub node-room : (index : List ℕ) → RightIndex index → k .nodes ≡ nodesAfter w cells perms shapes boxes r body nodes front index out
+      pub node-room : (index : List ℕ) → RightIndex r index → k .nodes ≡ nodesAfter w cells perms shapes boxes r body nodes front index out
       -- "The frontier room is zeroed when it ends", as the whole search leaves it
       pub zeroed : k .front ≡ replicate (length front) 0
-      pub front-room : (index : List ℕ) → RightIndex index → k .front ≡ frontAfter w cells perms shapes boxes r body nodes front index out
+      pub front-room : (index : List ℕ) → RightIndex r index → k .front ≡ frontAfter w cells perms shapes boxes r body nodes front index out

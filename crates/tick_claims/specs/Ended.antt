@@ -99,7 +99,7 @@ module _ (w : Window) (cells perms shapes boxes : List ℕ) (r : Request) (body 
   passed = begins w cells shapes boxes r body (length nodes) (length front) (length out) false perms goes
 
   -- with an index of a right size the whole search begins too
-  whole-begins : (index : List ℕ) → RightIndex w cells perms shapes boxes r body nodes front out index → none ≡ beforeSearch w cells perms shapes boxes r body (length nodes) (length front) (length index) (length out)
+  whole-begins : (index : List ℕ) → RightIndex r index → none ≡ beforeSearch w cells perms shapes boxes r body (length nodes) (length front) (length index) (length out)
   whole-begins index i = sym (ap (withoutSearch w cells perms shapes boxes r body (length nodes) (length front) (length out)) i ∙ goes)
 
   -- what it leaves, and answers
