@@ -4,10 +4,10 @@ use native.Mathlib.Omega.{arith}
 use mathlib.Core.Path.{_≡_, refl, ap}
 use mathlib.Core.Bool.{Bool, true, false, not, _&&_, cond}
 use mathlib.Core.List.{List}
-use mathlib.Core.Logic.{⊎-elim}
+use mathlib.Core.Logic.{⊎-elim, _≢_}
 use lib.Dec.{leb, ltb}
 use lib.ListN.{length}
-use borrow.Author.Tests.{leb-true, ltb-true, ltb-false}
+use borrow.Author.Tests.{eq-eqb, ne-eqb, leb-true, ltb-true, ltb-false}
 use Rattle.exploration.specs.Laws.Lists.{and-first, and-second}
 use Rattle.world.specs.declared.Request.{Request}
 use Rattle.rooms.specs.declared.Counts.{Counts}
@@ -66,6 +66,15 @@ waits-first f n r e = go (ltb r n) refl
     go : (b : Bool) → ltb r n ≡ b → b ≡ not (eachBelow (isIdle f) n)
     go true h = let l = ltb-true r n h in let y = each-not (isIdle f) n r l (ap not (first .passes (omega arith))) in rw y
     go false h = let y = each-all (isIdle f) n (λ j l. ap not (first .missed j (omega arith) (omega (arith, ltb-false r n h)))) in rw y
+
+-- a node that waits, and none that does
+pub waits-at : (f : List ℕ) (n k : ℕ) → k < n → entryAt f k .waiting ≡ 1 → true ≡ someWaits f n
+unfolding someWaits
+waits-at f n k h e = let z = eq-eqb (entryAt f k .waiting) 1 e in let y = each-not (isIdle f) n k h (rw z) in rw y
+
+pub waits-none : (f : List ℕ) (n : ℕ) → ((k : ℕ) → k < n → entryAt f k .waiting ≢ 1) → someWaits f n ≡ false
+unfolding someWaits
+waits-none f n h = let y = each-all (isIdle f) n (λ k l. ap not (ne-eqb (entryAt f k .waiting) 1 (h k l))) in rw y
 
 first-least : (p : ℕ → Bool) (n k : ℕ) → k ≤ firstOf p k n
 first-least p zero k = omega arith

@@ -36,9 +36,8 @@ use Rattle.outcomes.specs.Ticks.{Ticked, untouched, tickedBy}
 use Rattle.refusals.specs.Refusals.{withoutCall, withoutSearch}
 use Rattle.refusals.specs.Laws.{Passed, begins, call-begins}
 use Rattle.chains.specs.Chains.{eachBelow, goodChains}
-use Rattle.chains.specs.Laws.{each-all}
-use Rattle.progress.specs.Progress.{goodCounts, goodNode, isIdle, someWaits, goodWait, goodProgress}
-use Rattle.progress.specs.Laws.{idle-at, waits-none}
+use Rattle.progress.specs.Progress.{goodCounts, goodNode, someWaits, goodWait, goodProgress}
+use Rattle.progress.specs.Laws.{waits-none}
 use Rattle.search.specs.FindWalkPath.{ended, endOf, answerBy, beforeSearch, found, nodesBy, nodesAfter, zeroBy, frontAfter, outBy, outAfter}
 use Rattle.search.specs.Ticks.{cameTo, continuedSearch}
 use Rattle.search.specs.Laws.Ticks.{ended-tick, ended-front, left-bad}
@@ -57,7 +56,7 @@ module _ (r : Request) (a : List ℕ) (m : ℕ) (c : Counts) (n : ℕ) where
 
   none-waits : someWaits zeros (c .retained) ≡ false
   unfolding entryAt
-  none-waits = sym (waits-none zeros (c .retained) (each-all (isIdle zeros) (c .retained) (λ k h. idle-at zeros (c .retained) k (λ e. omega (arith, e, field-zeros 8 m (24 * k + 16))))))
+  none-waits = waits-none zeros (c .retained) (λ k h e. omega (arith, e, field-zeros 8 m (24 * k + 16)))
 
   zeros-bad : goodProgress r a zeros c n ≡ false
   unfolding goodProgress
