@@ -37,7 +37,10 @@ pick-requires : tie.Need-pick-requires
 pick-requires c κs = tt
 
 returns-2 : tie.Need-returns-2
-returns-2 c = rw (c .before .before .turn .given .1) (rw (c .pick .ensures ∙ next-from 0 (c .before .before .turn .given .0 .0 .retained) (now (c .before .before .before .before .before .args .front)) (λ j h. absurd (omega arith))))
+returns-2 c =
+    let g = now (c .before .before .before .before .before .args .front) in
+    let n = c .before .before .turn .given .0 .0 .retained in
+    ap (λ (m : ℕ). ltb m n) (c .pick .ensures ∙ next-from 0 n g (λ j h. absurd (omega arith))) ∙ sym (ap (goesOn g) (c .before .before .turn .given .1))
 
 pub goes-on-spec : {M : Type 1} → statement M
 goes-on-spec = tie.close (tie.spec enum-known-turn returns pick-requires returns-2)
