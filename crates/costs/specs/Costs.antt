@@ -1,11 +1,12 @@
 -- Costs and estimates of 01's search, over the patterns of f64. Definitions only.
 use Prim.Native.Nat.{ℕ}
-use mathlib.Core.Bool.{Bool, true, false}
+use mathlib.Core.Bool.{Bool, true, false, not, _||_}
 use lib.Ieee.{Float, binary64, ofBits, toBits, add, sub, mul, lt}
 use Rattle.floats.specs.Floats.{E}
 use Rattle.root.specs.Distance.{distance}
 use Rattle.rooms.specs.declared.Feet.{Feet}
 use Rattle.rooms.specs.declared.Entry.{Entry}
+use Rattle.rooms.specs.Scans.{waits}
 
 abbrev pub float : ℕ → Float
 float n = ofBits binary64 n
@@ -32,10 +33,13 @@ cheaper new old = lt (add binary64 (float new) E) (float old)
 abbrev pub pushedAs : ℕ → ℕ → Entry
 pushedAs e g = record { estimate = e; order = g; waiting = 1 }
 
--- "one waiting entry a node, replaced only by a lower estimate"
+-- "one waiting entry a node, replaced only by a lower estimate"; a node that does not wait has none
+abbrev pub lowers : ℕ → Entry → Bool
+lowers e old = not (waits old) || lt (float e) (float (old .estimate))
+
 abbrev pub loweredBy : Bool → ℕ → Entry → ℕ → Entry
 loweredBy true e old g = pushedAs e g
 loweredBy false e old g = pushedAs (old .estimate) (old .order)
 
 unfoldable pub lowered : ℕ → Entry → ℕ → Entry
-lowered e old g = loweredBy (lt (float e) (float (old .estimate))) e old g
+lowered e old g = loweredBy (lowers e old) e old g

@@ -48,11 +48,12 @@ pub fn pushed_as(estimate: u64, order: u64) -> Entry
     }
 }
 
-// The entry of a node that is pushed again.
+// The entry of a node that is pushed again. One that does not wait has no entry to keep: only rooms that another hand changed have such an open node.
 pub fn lowered(e: u64, old: Entry, order: u64) -> Entry
     ensures { λ r. ⌜ r ≡ lowered e old order ⌝ }
 {
-    if floats::float_of(e) < floats::float_of(old.estimate) {
+    let lower = floats::float_of(e) < floats::float_of(old.estimate);
+    if (old.waiting != 1) | lower {
         pushed_as(e, order)
     } else {
         pushed_as(old.estimate, old.order)

@@ -27,7 +27,7 @@ use Rattle.visits.specs.Laws.Visits.{begun as started-begun}
 use Rattle.outcomes.specs.declared.Outcome.{Outcome}
 use Rattle.outcomes.specs.declared.Tick.{Tick}
 use Rattle.outcomes.specs.declared.Tick.the-variants.{Refused, Searching}
-use Rattle.outcomes.specs.Ticks.{tickGiven, Ticked, untouched, Gives, GoesFrom}
+use Rattle.outcomes.specs.Ticks.{tickGiven, Ticked, nothingWritten, Gives, GoesFrom}
 use Rattle.refusals.specs.Refusals.{withoutSearch}
 use Rattle.refusals.specs.Laws.{Passed, some-budget}
 use Rattle.openings.specs.Openings.{startState, begunBy, begunSearch}

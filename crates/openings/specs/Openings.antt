@@ -18,7 +18,7 @@ use Rattle.rooms.specs.Rooms.{Note}
 use Rattle.visits.specs.Best.{best}
 use Rattle.outcomes.specs.declared.Outcome.{Outcome}
 use Rattle.outcomes.specs.declared.Tick.the-variants.{Refused}
-use Rattle.outcomes.specs.Ticks.{Ticked, untouched, tickedBy}
+use Rattle.outcomes.specs.Ticks.{Ticked, nothingWritten, tickedBy}
 use Rattle.refusals.specs.Refusals.{withoutSearch}
 
 -- "retains the start": the theory's begin, of 01's graph under 01's policy, with the request's budget
@@ -26,9 +26,9 @@ unfoldable pub startState : Space → Request → Body → State Feet Label Note
 startState sp r body = begin (graph sp r body) (best (feetOf (r .goal))) (r .«node_budget»)
 
 module _ (w : Window) (cells perms shapes boxes : List ℕ) (r : Request) (body : Body) (nodes front out : List ℕ) where
-  -- A refusal writes nothing. Else the answer is "still searching", never an outcome; "zeroes the frontier room": all that is lent, then the start's record.
+  -- 1 to 5: nothing written. Else the answer is "still searching", never an outcome; "zeroes the frontier room": all that is lent, then the start's record.
   abbrev pub begunBy : Option Outcome → Ticked
-  begunBy (some o) = untouched (Refused o) nodes front out
+  begunBy (some o) = nothingWritten (Refused o) nodes front out
   begunBy none = tickedBy explore.Searching (startState (space w cells perms shapes boxes) r body) nodes (replicate (length front) 0) out
 
   -- "Begin makes 01's checks"; there is no index

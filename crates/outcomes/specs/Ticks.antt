@@ -28,7 +28,7 @@ tickNumber (Ended o n c) = outcomeNumber o
 abbrev pub countsGiven : Counts → List ℕ
 countsGiven c = c .retained ∷ c .closed ∷ c .pushed ∷ c .dropped ∷ []
 
--- A refusal has no values; else they are the list's count, which is 0 while the search goes on, and the counts.
+-- An answer without an expansion has no values (1 to 5 of begin, but for its 100; 3, 1, 4, 5 and 12 of continue); else they are the list's count, which is 0 while the search goes on, and the counts.
 unfoldable pub tickGiven : Tick → ℕ × List ℕ
 tickGiven (Refused o) = (tickNumber (Refused o), [])
 tickGiven BadProgress = (tickNumber BadProgress, [])
@@ -45,8 +45,8 @@ pub record Ticked : Type 0 where
   pub out : List ℕ
 
 -- "nothing written"
-abbrev pub untouched : Tick → List ℕ → List ℕ → List ℕ → Ticked
-untouched t nodes front out = record { tick = t; nodes = nodes; front = front; out = out }
+abbrev pub nothingWritten : Tick → List ℕ → List ℕ → List ℕ → Ticked
+nothingWritten t nodes front out = record { tick = t; nodes = nodes; front = front; out = out }
 
 -- "it answers the outcome or 'still searching'", with the counts
 abbrev pub tickBy : explore.Outcome (Feet × Label) → Counts → Tick
@@ -62,7 +62,7 @@ frontBy explore.Unreachable old ns = replicate (length old) 0
 frontBy explore.BudgetExceeded old ns = replicate (length old) 0
 frontBy explore.Searching old ns = frontRoom old ns
 
--- a search in such a state, which has come to that, in rooms with old bytes: a list is written where one was found
+-- what a call leaves in rooms with old bytes, where the search is in state s and that has come to e: the list is written where one was found
 abbrev pub tickedBy : explore.Outcome (Feet × Label) → State Feet Label Note ℕ → List ℕ → List ℕ → List ℕ → Ticked
 tickedBy e s nodes front out = record {
   tick = tickBy e (countsIn s);

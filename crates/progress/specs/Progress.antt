@@ -1,4 +1,5 @@
--- What rooms and counts a search can be continued on (02, No. 10, 12 BadProgress), a definition a clause, in 02's order. Definitions only.
+-- With how many expansions, on what counts and on what rooms a search can be continued (02, No. 10; else it is 12 BadProgress), a definition a clause, in 02's
+-- order. Definitions only.
 use Prim.Native.Nat.{ℕ, _/_}
 use mathlib.Core.Bool.{Bool, _&&_, _||_, not}
 use mathlib.Core.List.{List}
@@ -71,7 +72,7 @@ someWaits f n = not (eachBelow (isIdle f) n)
 unfoldable pub goodWait : List ℕ → List ℕ → ℕ → ℕ → Bool
 goodWait a f n k = isIdle f k || (ltb k n && eqb (nodeAt a k .closed) 0 && finite (estimateOf (entryAt f k)))
 
--- All of it; the parents and their chains are `goodChains`. Of the frontier room every whole record is asked, past the budget too, as it is zeroed whole.
+-- All of it; the parents and their chains are `goodChains`, which asks besides for at most 4,096 nodes, as many as 4 lets a search have. Of the frontier room every whole record is asked, past the budget too, as it is zeroed whole.
 unfoldable pub goodProgress : Request → List ℕ → List ℕ → Counts → ℕ → Bool
 goodProgress r a f c n =
     goodCounts (r .«node_budget») c n

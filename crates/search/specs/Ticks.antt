@@ -17,11 +17,13 @@ use Rattle.rooms.specs.declared.Counts.{Counts}
 use Rattle.rooms.specs.Rooms.{Note, stateOf}
 use Rattle.visits.specs.Best.{best}
 use Rattle.outcomes.specs.declared.Tick.the-variants.{Refused, BadProgress}
-use Rattle.outcomes.specs.Ticks.{Ticked, untouched, tickedBy}
+use Rattle.outcomes.specs.Ticks.{Ticked, nothingWritten, tickedBy}
 use Rattle.refusals.specs.Refusals.{callJudged}
 use Rattle.progress.specs.Progress.{goodProgress}
 
--- "the step's definition on them": the search that the rooms and the counts hold, n expansions further. Any rooms and counts hold some search.
+-- "Rooms or counts that another hand changed are answered by the step's definition on them": the search that the rooms and the counts hold, n expansions
+-- further, and any rooms and counts hold some search. "An expansion is one node closed, its connector and its columns", the theory's `advance`; "the lower node
+-- first where push orders tie" is its choice; "lookups scan": its `seek` goes over the nodes in their order.
 unfoldable pub expanded : Space → Request → Body → List ℕ → List ℕ → Counts → ℕ → State Feet Label Note ℕ
 expanded sp r body nodes front c n = run (graph sp r body) (best (feetOf (r .goal))) (r .«node_budget») n (stateOf nodes front c)
 
@@ -40,6 +42,6 @@ module _ (w : Window) (cells perms shapes boxes : List ℕ) (r : Request) (body 
   -- "continue judges 3, `valid_request` (1), 4, 5, then 12 BadProgress, nothing written"; then it goes on
   unfoldable pub continuedSearch : Ticked
   continuedSearch =
-      callJudged w cells shapes boxes r body (length nodes) (length front) (length out) false (λ o. untouched (Refused o) nodes front out)
-      (cond (not (goodProgress r nodes front c n)) (untouched BadProgress nodes front out)
+      callJudged w cells shapes boxes r body (length nodes) (length front) (length out) false (λ o. nothingWritten (Refused o) nodes front out)
+      (cond (not (goodProgress r nodes front c n)) (nothingWritten BadProgress nodes front out)
       goneOn)

@@ -1,5 +1,6 @@
 -- A search in slices (02, No. 10): begin, then one call of continue after the other, "with tables, body, request, node budget, counts and rooms untouched between
--- calls". Each call is told by its contract. And what it is that such a search ends as one whole search does. Definitions only.
+-- calls". Each call is told by its contract, and all are handed the same output. Then: what it means that such a search ends as one whole search does. Definitions
+-- only.
 use Prim.Native.Nat.{ℕ, _≤_}
 use mathlib.Core.Path.{_≡_}
 use mathlib.Core.Bool.{false}

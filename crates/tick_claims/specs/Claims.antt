@@ -19,7 +19,7 @@ use Rattle.rooms.specs.declared.Counts.{Counts}
 use Rattle.rooms.specs.Rooms.{countsIn}
 use Rattle.outcomes.specs.declared.Outcome.{Outcome}
 use Rattle.outcomes.specs.declared.Tick.the-variants.{BadProgress, Searching, Ended}
-use Rattle.outcomes.specs.Ticks.{Ticked, tickBy, untouched}
+use Rattle.outcomes.specs.Ticks.{Ticked, tickBy, nothingWritten}
 use Rattle.refusals.specs.Refusals.{withoutSearch}
 use Rattle.search.specs.Ticks.{cameTo}
 use Rattle.claims.specs.Words.{InF64, after}
@@ -58,17 +58,19 @@ module _ (w : Window) (cells perms shapes boxes : List ℕ) (r : Request) (body 
       go explore.BudgetExceeded e = inr (alike explore.BudgetExceeded e (λ p. let z : _≡_ {A = ℕ} 0 1 = cc in omega arith))
       go explore.Searching e = inl (countsIn (after sp r body (total lots)), told explore.Searching e)
 
-  -- "and a search ends after at most budget closings": lots that are together as many as the budget have ended it, and no more nodes are closed.
-  pub untouched-ends : r .«node_budget» ≤ total lots → (e : EndsAlike w cells perms shapes boxes r body nodes front out k) × (e .counts .closed ≤ r .«node_budget»)
-  untouched-ends most =
-      let over = budget-ends sp r body (total lots) most in
-      let e = ends-alike w cells perms shapes boxes r body f nodes front out goes (total lots) left over in
-      (e, closed-few w cells perms shapes boxes r body f nodes front out goes (total lots) left over (e .outcome) (e .count) (e .counts) (e .ended))
+  -- a call that answered an outcome has ended the search
+  over : (o : Outcome) (n : ℕ) (c : Counts) → k .tick ≡ Ended o n c → came ≢ explore.Searching
+  over o n c e s = let y = sym e ∙ told explore.Searching s in let z : _≡_ {A = ℕ} 0 1 = cc in omega arith
+
+  -- "and a search ends after at most budget closings": whenever it ends, no more nodes are closed than the budget;
+  pub few-closings : (o : Outcome) (n : ℕ) (c : Counts) → k .tick ≡ Ended o n c → c .closed ≤ r .«node_budget»
+  few-closings o n c e = closed-few w cells perms shapes boxes r body f nodes front out goes (total lots) left (over o n c e) o n c e
+
+  -- and lots that are together as many as the budget have ended it.
+  pub untouched-ends : r .«node_budget» ≤ total lots → EndsAlike w cells perms shapes boxes r body nodes front out k
+  untouched-ends most = ends-alike w cells perms shapes boxes r body f nodes front out goes (total lots) left (budget-ends sp r body (total lots) most)
 
   -- "12 BadProgress, nothing written, for .. a search already ended": whatever counts and whatever number of expansions the next call is handed.
   pub ended-is-refused : (o : Outcome) (n : ℕ) (c : Counts) → k .tick ≡ Ended o n c →
-      (d : Counts) (expansions : ℕ) (m : Ticked) → LeftByContinue w cells perms shapes boxes r body k d expansions m → m ≡ untouched BadProgress (k .nodes) (k .front) (k .out)
-  ended-is-refused o n c e = refused-after w cells perms shapes boxes r body f nodes front out goes (total lots) left over
-    where
-      over : came ≢ explore.Searching
-      over s = let y = sym e ∙ told explore.Searching s in let z : _≡_ {A = ℕ} 0 1 = cc in omega arith
+      (d : Counts) (expansions : ℕ) (m : Ticked) → LeftByContinue w cells perms shapes boxes r body k d expansions m → m ≡ nothingWritten BadProgress (k .nodes) (k .front) (k .out)
+  ended-is-refused o n c e = refused-after w cells perms shapes boxes r body f nodes front out goes (total lots) left (over o n c e)

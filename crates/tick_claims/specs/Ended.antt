@@ -32,7 +32,7 @@ use Rattle.visits.specs.Laws.Policy.{best-laws}
 use Rattle.outcomes.specs.declared.Outcome.{Outcome}
 use Rattle.outcomes.specs.declared.Tick.the-variants.{BadProgress, Ended}
 use Rattle.outcomes.specs.Outcomes.{toldBy, listIn}
-use Rattle.outcomes.specs.Ticks.{Ticked, untouched, tickedBy}
+use Rattle.outcomes.specs.Ticks.{Ticked, nothingWritten, tickedBy}
 use Rattle.refusals.specs.Refusals.{withoutCall, withoutSearch}
 use Rattle.refusals.specs.Laws.{Passed, begins, call-begins}
 use Rattle.chains.specs.Chains.{eachBelow, goodChains}
@@ -148,10 +148,10 @@ module _ (w : Window) (cells perms shapes boxes : List ℕ) (r : Request) (body 
         let t = listIn (endOf sp r body) in
         ap (λ (h : Ticked). length (h .out)) left-is-whole ∙ omega (arith, length-append (listBytes t) (drop (48 * length t) out), length-list t, length-drop (48 * length t) out, list-within sp r body, passed .out-room)
 
-    pub refused-after : (c : Counts) (n : ℕ) (m : Ticked) → LeftByContinue w cells perms shapes boxes r body k c n m → m ≡ untouched BadProgress (k .nodes) (k .front) (k .out)
+    pub refused-after : (c : Counts) (n : ℕ) (m : Ticked) → LeftByContinue w cells perms shapes boxes r body k c n m → m ≡ nothingWritten BadProgress (k .nodes) (k .front) (k .out)
     refused-after c n m p =
         let whole = continuedSearch w cells perms shapes boxes r body (k .nodes) (k .front) (k .out) c n in
         let passes : none ≡ withoutCall w cells shapes boxes r body (length (k .nodes)) (length (k .front)) (length (k .out)) false =
         rw (nodes-length, front-length, out-length) (sym (call-begins w cells shapes boxes r body (length nodes) (length front) (length out) false perms goes)) in
         let bad : goodProgress r (k .nodes) (k .front) c n ≡ false = ap (λ (x : List ℕ). goodProgress r (k .nodes) x c n) all-zero ∙ zeros-bad r (k .nodes) (length front) c n in
-        left-is whole m (p .holds) ∙ sym (left-is whole (untouched BadProgress (k .nodes) (k .front) (k .out)) (left-bad w cells perms shapes boxes r body (k .nodes) (k .front) (k .out) c n passes bad))
+        left-is whole m (p .holds) ∙ sym (left-is whole (nothingWritten BadProgress (k .nodes) (k .front) (k .out)) (left-bad w cells perms shapes boxes r body (k .nodes) (k .front) (k .out) c n passes bad))

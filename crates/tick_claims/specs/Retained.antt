@@ -31,7 +31,7 @@ use Rattle.rooms.specs.declared.Entry.{Entry}
 use Rattle.rooms.specs.Rooms.{Note}
 use Rattle.words.specs.Words.{pointOf, feetOf, labelOf}
 use Rattle.steps.specs.Graph.{graph}
-use Rattle.costs.specs.Costs.{float, apart, costBy, estimateBy, cheaper, loweredBy, lowered}
+use Rattle.costs.specs.Costs.{float, apart, costBy, estimateBy, cheaper, lowers, loweredBy, lowered}
 use Rattle.visits.specs.Best.{opened, relaxed, best}
 use Rattle.visits.specs.Laws.Policy.{best-laws, given-is}
 use Rattle.walk_back.specs.Movements.{movement-few}
@@ -131,9 +131,9 @@ module _ (r : Request) (body : Body) (valid : validRequest r body ≡ true) (sma
         rw (← z) (record {
           point = s .point;
           movement = t .movement;
-          waiting = lowered-waits (lt (float est) (float (m .note .entry .estimate))) est (m .note .entry) g;
+          waiting = lowered-waits (lowers est (m .note .entry)) est (m .note .entry) g;
           cost = u;
-          estimate = lowered-up-to (lt (float est) (float (m .note .entry .estimate))) (suc c + 2) est (m .note .entry) g (estimate-up-to (suc c) few cost goal (w .0) there (placed (w .0) (t .point)) u) (s .estimate);
+          estimate = lowered-up-to (lowers est (m .note .entry)) (suc c + 2) est (m .note .entry) g (estimate-up-to (suc c) few cost goal (w .0) there (placed (w .0) (t .point)) u) (s .estimate);
         })
 
     module _ (𝓖 : Graph Feet Label) (start : inRange r (standsAt (𝓖 .start)) ≡ true) (first : 𝓖 .startLabel .movement ≤ 3) (led : (p : Feet) → lists.Each (Led r) (𝓖 .steps p)) where

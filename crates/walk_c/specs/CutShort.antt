@@ -19,7 +19,7 @@ use Rattle.questions.specs.Questions.{judged}
 use Rattle.rooms.specs.declared.Counts.{Counts}
 use Rattle.outcomes.specs.declared.Outcome.the-variants as outcome
 use Rattle.outcomes.specs.declared.Tick.the-variants.{Refused}
-use Rattle.outcomes.specs.Ticks.{tickNumber, untouched}
+use Rattle.outcomes.specs.Ticks.{tickNumber, nothingWritten}
 use Rattle.outcomes.specs.Outcomes.{outcomeNumber, pathNumber}
 use Rattle.refusals.specs.Refusals.{withoutSearch}
 use Rattle.search.specs.FindWalkPath.{answerBy, found}
@@ -59,7 +59,7 @@ module _ (w : Window) (cells perms shapes boxes : List ℕ) (r : Request) (body 
   unfolding continuedSearch
   continue-invalid nodes front out c n = rw invalid (go (badWorld w cells shapes boxes))
     where
-      go : (b : Bool) → tickNumber (cond b (untouched (Refused outcome.BadWorld) nodes front out) (untouched (Refused outcome.Unreachable) nodes front out) .tick) ≡ cond b 3 1
+      go : (b : Bool) → tickNumber (cond b (nothingWritten (Refused outcome.BadWorld) nodes front out) (nothingWritten (Refused outcome.Unreachable) nodes front out) .tick) ≡ cond b 3 1
       go true = refl
       go false = refl
 

@@ -16,6 +16,7 @@ unfoldable pub begunIn : (window cells permissions shapes boxes request body nod
 begunIn window cells permissions shapes boxes request body nodes front out =
     begunSearch (windowIn window) cells permissions shapes boxes (asked window request body) (bodyIn body) nodes front out
 
+-- "the counts (retained, closed, pushed, dropped) pass by value"
 unfoldable pub continuedIn : (window cells permissions shapes boxes request body nodes front out : List ℕ) → Counts → ℕ → Ticked
 continuedIn window cells permissions shapes boxes request body nodes front out c n =
     continuedSearch (windowIn window) cells permissions shapes boxes (asked window request body) (bodyIn body) nodes front out c n

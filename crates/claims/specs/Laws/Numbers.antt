@@ -33,7 +33,7 @@ use Rattle.rooms.specs.declared.Label.{Label}
 use Rattle.rooms.specs.declared.Entry.{Entry}
 use Rattle.rooms.specs.Scans.{estimateOf}
 use Rattle.rooms.specs.Rooms.{Note}
-use Rattle.costs.specs.Costs.{float, apart, costBy, estimateBy, cheaper, loweredBy, lowered}
+use Rattle.costs.specs.Costs.{float, apart, costBy, estimateBy, cheaper, lowers, loweredBy, lowered}
 use Rattle.visits.specs.Best.{opened, relaxed, best}
 use Rattle.visits.specs.Laws.Policy.{best-laws, given-is}
 use Rattle.claims.specs.Words.{InF64}
@@ -112,7 +112,7 @@ module _ (goal : Feet) (there : FiniteFeet goal) where
   relaxed-sound n k to p l cost g a v t q w e =
       let est = estimateBy goal cost to in
       let z = given-is (cheaper cost (n .cost)) (opened cost (lowered est (n .entry) g), g + 1) a e in
-      rw (← z) (record { point = q; cost = w; estimate = lowered-weight (lt (float est) (float (n .entry .estimate))) est (n .entry) g (estimate-weight to goal t there cost w) v })
+      rw (← z) (record { point = q; cost = w; estimate = lowered-weight (lowers est (n .entry)) est (n .entry) g (estimate-weight to goal t there cost w) v })
 
   module _ (𝓖 : Graph Feet Label) (start : FiniteFeet (𝓖 .start)) (reached : (p : Feet) → lists.Each Reached (𝓖 .steps p)) where
     kept : Kept 𝓖 (best goal) (λ c ns g. AllOf Sound ns) (λ c f. Sound f) Reached

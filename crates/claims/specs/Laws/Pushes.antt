@@ -6,7 +6,6 @@ use mathlib.Core.Bool.{Bool, true, false}
 use mathlib.Core.Option.{some}
 use mathlib.Core.List.{List, [], _∷_, _++_}
 use mathlib.Core.Logic.{_⊎_, inl, inr, ⊎-elim, _≢_}
-use lib.Ieee.{lt}
 use lib.ListN.{length, set}
 use Rattle.exploration.specs.Lists.{nth}
 use Rattle.exploration.specs.Graph.{Graph}
@@ -17,7 +16,7 @@ use Rattle.exploration.specs.Laws.Kept.{Kept, each-any, run-kept}
 use Rattle.rooms.specs.declared.Feet.{Feet}
 use Rattle.rooms.specs.declared.Label.{Label}
 use Rattle.rooms.specs.Rooms.{Note, nodeWaits}
-use Rattle.costs.specs.Costs.{float, costBy, estimateBy, cheaper, loweredBy, lowered}
+use Rattle.costs.specs.Costs.{costBy, estimateBy, cheaper, lowers, loweredBy, lowered}
 use Rattle.visits.specs.Best.{opened, relaxed, best}
 use Rattle.visits.specs.Laws.Policy.{best-laws, given-is}
 use Rattle.claims.specs.Words.{pushOf}
@@ -93,7 +92,7 @@ module _ (𝓖 : Graph Feet Label) (goal : Feet) where
       let cost = costBy (f .note .cost) (f .point) (w .0) in
       let est = estimateBy goal cost (w .0) in
       let z = given-is (cheaper cost (m .note .cost)) (opened cost (lowered est (m .note .entry) g), g + 1) a x in
-      rw (← z) (again ns g j k m e c i (w .1) cost est (lt (float est) (float (m .note .entry .estimate))))
+      rw (← z) (again ns g j k m e c i (w .1) cost est (lowers est (m .note .entry)))
 
   kept : Kept 𝓖 (best goal) (λ c ns g. Apart ns g) (λ c f. Unit {0}) (λ w. Unit {0})
   unfolding best

@@ -36,7 +36,7 @@ use Rattle.outcomes.specs.declared.Answer.{Answer}
 use Rattle.outcomes.specs.declared.Tick.{Tick}
 use Rattle.outcomes.specs.declared.Tick.the-variants.{Refused, BadProgress, Searching, Ended}
 use Rattle.outcomes.specs.Outcomes.{toldBy, listIn, countsOf, endQuiet, endAt, answerOf}
-use Rattle.outcomes.specs.Ticks.{tickGiven, Ticked, untouched, tickBy, frontBy, Gives, GoesFrom}
+use Rattle.outcomes.specs.Ticks.{tickGiven, Ticked, nothingWritten, tickBy, frontBy, Gives, GoesFrom}
 use Rattle.conclusion.specs.GoesOn.{goesOn}
 use Rattle.conclusion.specs.Laws.{written-is, Concludes}
 use Rattle.refusals.specs.Refusals.{withoutCall}
@@ -135,23 +135,23 @@ module _ (w : Window) (cells perms shapes boxes : List ℕ) (r : Request) (body 
   whole = continuedSearch w cells perms shapes boxes r body a f o c n
 
   abbrev judged : Ticked
-  judged = cond (not (goodProgress r a f c n)) (untouched BadProgress a f o) (goneOn w cells perms shapes boxes r body a f o c n)
+  judged = cond (not (goodProgress r a f c n)) (nothingWritten BadProgress a f o) (goneOn w cells perms shapes boxes r body a f o c n)
 
-  left : (t : Tick) → untouched t a f o ≡ whole → Gives whole t a f o
+  left : (t : Tick) → nothingWritten t a f o ≡ whole → Gives whole t a f o
   left t e = subst (λ (h : Ticked). Gives h t a f o) e (record { answer = refl; node-room = refl; front-room = refl; output = refl })
 
   pub left-refused : (p : Outcome) → some p ≡ call → Gives whole (Refused p) a f o
   unfolding continuedSearch
-  left-refused p e = left (Refused p) (call-refused w cells shapes boxes r body (length a) (length f) (length o) false (λ q. untouched (Refused q) a f o) judged p e)
+  left-refused p e = left (Refused p) (call-refused w cells shapes boxes r body (length a) (length f) (length o) false (λ q. nothingWritten (Refused q) a f o) judged p e)
 
   pub left-bad : none ≡ call → goodProgress r a f c n ≡ false → Gives whole BadProgress a f o
   unfolding continuedSearch
   left-bad e h = left BadProgress
-      ((let z : untouched BadProgress a f o ≡ judged = rw h in z) ∙ call-passed w cells shapes boxes r body (length a) (length f) (length o) false (λ q. untouched (Refused q) a f o) judged e)
+      ((let z : nothingWritten BadProgress a f o ≡ judged = rw h in z) ∙ call-passed w cells shapes boxes r body (length a) (length f) (length o) false (λ q. nothingWritten (Refused q) a f o) judged e)
 
   pub went : none ≡ call → goodProgress r a f c n ≡ true → goneOn w cells perms shapes boxes r body a f o c n ≡ whole
   unfolding continuedSearch
-  went e h = (let z : goneOn w cells perms shapes boxes r body a f o c n ≡ judged = rw h in z) ∙ call-passed w cells shapes boxes r body (length a) (length f) (length o) false (λ q. untouched (Refused q) a f o) judged e
+  went e h = (let z : goneOn w cells perms shapes boxes r body a f o c n ≡ judged = rw h in z) ∙ call-passed w cells shapes boxes r body (length a) (length f) (length o) false (λ q. nothingWritten (Refused q) a f o) judged e
 
   module _ (passed : Passed w cells shapes boxes r body (length a) (length f) (length o) false) (bounds : CountBounds (r .«node_budget») c n) where
     -- accepted rooms and counts are ready for every expansion that can be asked: no count wraps

@@ -4,7 +4,6 @@ use native.Mathlib.Omega.{arith}
 use mathlib.Core.Path.{_≡_, refl}
 use mathlib.Core.Bool.{Bool, true, false}
 use mathlib.Core.Option.{some}
-use lib.Ieee.{lt}
 use Rattle.exploration.specs.Graph.{Graph}
 use Rattle.exploration.specs.Policy.{PolicyLaws}
 use Rattle.exploration.specs.Laws.Counts.{OneByOne}
@@ -15,7 +14,7 @@ use Rattle.rooms.specs.declared.Label.{Label}
 use Rattle.rooms.specs.declared.Entry.{Entry}
 use Rattle.rooms.specs.Scans.{waits}
 use Rattle.rooms.specs.Rooms.{Note, nodeWaits, nodeSooner}
-use Rattle.costs.specs.Costs.{float, costBy, estimateBy, cheaper, loweredBy, lowered}
+use Rattle.costs.specs.Costs.{costBy, estimateBy, cheaper, lowers, loweredBy, lowered}
 use Rattle.visits.specs.Best.{opened, given, relaxed, best}
 
 pub given-is : {A : Type 0} (b : Bool) (x r : A) → given b x ≡ some r → x ≡ r
@@ -30,7 +29,7 @@ relaxed-waits : (goal : Feet) (cost : ℕ) (to : Feet) (old : Note) (g : ℕ) (r
 unfolding relaxed lowered
 relaxed-waits goal cost to old g r e =
     let z = given-is (cheaper cost (old .cost)) (opened cost (lowered (estimateBy goal cost to) (old .entry) g), g + 1) r e in
-    rw (← z) (lower-waits (lt (float (estimateBy goal cost to)) (float (old .entry .estimate))) (estimateBy goal cost to) (old .entry) g)
+    rw (← z) (lower-waits (lowers (estimateBy goal cost to) (old .entry)) (estimateBy goal cost to) (old .entry) g)
 
 pub best-laws : (goal : Feet) → PolicyLaws (best goal)
 unfolding best
