@@ -4,7 +4,7 @@
 use mutants::chance::Chance;
 use mutants::draft::scene_of;
 use mutants::states::State;
-use mutants::ticked::{STATES, changed, go_on};
+use mutants::ticked::{Changed, go_on, states};
 use reading::Variant::ReadAsWritten;
 use reading::{BAD_PROGRESS, Tick, broken};
 use scene::Scene;
@@ -28,22 +28,23 @@ pub fn one_scene(makers: &Makers, number: u64, counts: &mut Counts) -> Result<()
 }
 
 fn parts(scene: &Scene, seed: u64, counts: &mut Counts) -> Result<(), String> {
-    let mut chance = Chance::new(seed);
-    for _ in 0..STATES {
-        let Some(honest) = State::middle(scene, &mut chance) else {
-            continue;
-        };
-        let (state, changes) = changed(&honest, &mut chance);
-        let (number, accepted) = one_state(&state, &mut chance, counts).map_err(|parts| {
+    for changed in states(scene, seed) {
+        let Changed {
+            honest,
+            state,
+            changes,
+            mut chance,
+        } = changed;
+        let answer = one_state(&state, &mut chance, counts).map_err(|parts| {
             let names: Vec<&str> = changes.iter().map(|change| change.name).collect();
             format!("{names:?}: {parts}")
-        })?;
+        });
         let name = match changes[..] {
             _ if state == honest => "none, because there was nothing to change",
             [change] => change.name,
             _ => "two or three changes",
         };
-        count(&state, name, number, accepted, counts);
+        count(&state, name, answer?, counts);
     }
     Ok(())
 }
@@ -63,7 +64,7 @@ fn one_state(
 }
 
 /// What a changed state is answered, and which clause of 12 is broken alone.
-fn count(state: &State, name: &'static str, number: u64, accepted: bool, counts: &mut Counts) {
+fn count(state: &State, name: &'static str, (number, accepted): (u64, bool), counts: &mut Counts) {
     counts.add("states", 1);
     let side = match number {
         BAD_PROGRESS => "refused by 12",

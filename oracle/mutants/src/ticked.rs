@@ -16,14 +16,43 @@ use crate::states::{Answers, Ended, LOTS, State, divided, read, rooms};
 use crate::tick_cases;
 
 /// How many states of a scene are changed.
-pub const STATES: usize = 12;
+const STATES: u64 = 12;
 
 /// The most calls that follow one on a changed state.
 const FURTHER: usize = 5;
 
+/// A state in the midst of a scene's search, with a progress record that may not
+/// fit, the same changed, and by what.
+pub struct Changed {
+    pub honest: State,
+    pub state: State,
+    pub changes: Vec<&'static Change>,
+    /// For what follows.
+    pub chance: Chance,
+}
+
+/// The changed states of a scene, the same for the same seed whatever is answered.
+pub fn states(scene: &Scene, seed: u64) -> impl Iterator<Item = Changed> {
+    (0..STATES).filter_map(move |place| {
+        let mut chance = Chance::new(STATES * seed + place);
+        let mut honest = State::middle(scene, &mut chance)?;
+        if chance.once_in(6) {
+            let length = chance.pick(&[0, 8, 32, 47, 49, 100]);
+            honest.lent.progress.resize(length, 0xa5);
+        }
+        let (state, changes) = changed(&honest, &mut chance);
+        Some(Changed {
+            honest,
+            state,
+            changes,
+            chance,
+        })
+    })
+}
+
 /// A state with one to three changes, and which they are. Rooms are cut short by
 /// the last of them, because the others write records.
-pub fn changed(state: &State, chance: &mut Chance) -> (State, Vec<&'static Change>) {
+fn changed(state: &State, chance: &mut Chance) -> (State, Vec<&'static Change>) {
     let count = chance.pick(&[1, 1, 1, 2, 3]);
     let mut places: Vec<usize> = (0..count).map(|_| chance.below(CHANGES.len())).collect();
     places.sort();
@@ -32,10 +61,6 @@ pub fn changed(state: &State, chance: &mut Chance) -> (State, Vec<&'static Chang
     let changes: Vec<&Change> = places.into_iter().map(|place| &CHANGES[place]).collect();
     for change in &changes {
         (change.make)(&mut out, chance);
-    }
-    if chance.once_in(6) {
-        let length = chance.pick(&[0, 8, 32, 47, 49, 100]);
-        out.lent.progress.resize(length, 0xa5);
     }
     (out, changes)
 }
@@ -89,11 +114,8 @@ fn every_call(scene: &Scene, seed: u64, answers: &mut Answers) -> Result<(), Str
     answers(scene, Tick::Begin, odd_rooms(budget, &mut chance))?;
     let lent = rooms(budget, [70; 3], PROGRESS, &mut chance);
     divided(scene, chance.pick(&LOTS), lent, &mut chance, answers)?;
-    for _ in 0..STATES {
-        if let Some(state) = State::middle(scene, &mut chance) {
-            let (state, _) = changed(&state, &mut chance);
-            go_on(&state, &mut chance, answers)?;
-        }
+    for mut changed in states(scene, seed) {
+        go_on(&changed.state, &mut changed.chance, answers)?;
     }
     Ok(())
 }
