@@ -4,7 +4,7 @@ use std::collections::BTreeMap;
 use std::fmt;
 
 use reading::Variant::{LengthStraight, ReadAsWritten};
-use reading::{edges, index, length, same_number};
+use reading::{Tick, edges, index, length, same_number};
 use scene::{NODE, WAYPOINT, words};
 
 use crate::expected::Expected;
@@ -14,6 +14,10 @@ pub struct Counts {
     names: BTreeMap<&'static str, u64>,
     /// The numbers of walk-backs and edges.
     told: BTreeMap<u64, u64>,
+    /// The numbers of begins and continues.
+    ticks: BTreeMap<(&'static str, u64), u64>,
+    /// Rows of tables, by the table's name and the row's.
+    rows: BTreeMap<(&'static str, &'static str), u64>,
 }
 
 impl Counts {
@@ -26,12 +30,32 @@ impl Counts {
         *self.told.entry(number).or_default() += 1;
     }
 
+    /// A begin or a continue that answered this number.
+    pub fn tick(&mut self, asked: Tick, number: u64) {
+        let name = match asked {
+            Tick::Begin => "begins",
+            Tick::Continue(..) => "continues",
+        };
+        *self.ticks.entry((name, number)).or_default() += 1;
+    }
+
+    /// One more in a row of a table.
+    pub fn row(&mut self, table: &'static str, row: &'static str) {
+        *self.rows.entry((table, row)).or_default() += 1;
+    }
+
     pub fn merge(&mut self, other: Counts) {
         for (name, count) in other.names {
             self.add(name, count);
         }
         for (number, count) in other.told {
             *self.told.entry(number).or_default() += count;
+        }
+        for (tick, count) in other.ticks {
+            *self.ticks.entry(tick).or_default() += count;
+        }
+        for (row, count) in other.rows {
+            *self.rows.entry(row).or_default() += count;
         }
     }
 
@@ -103,7 +127,11 @@ impl fmt::Display for Counts {
         let names = self.names.iter().map(|(name, n)| format!("{n} {name}"));
         let told = self.told.iter();
         let told = told.map(|(number, n)| format!("{n} {} ({number})", words(*number)));
-        let parts: Vec<String> = names.chain(told).collect();
+        let ticks = self.ticks.iter();
+        let ticks = ticks.map(|((name, number), n)| format!("{n} {name} answered {number}"));
+        let rows = self.rows.iter();
+        let rows = rows.map(|((table, row), n)| format!("{table}, {row}: {n}"));
+        let parts: Vec<String> = names.chain(told).chain(ticks).chain(rows).collect();
         f.write_str(&parts.join(", "))
     }
 }

@@ -13,7 +13,8 @@ use crate::strewn::strewn;
 
 const BUDGETS: [u64; 10] = [0, 1, 100, 512, 513, 1000, 2048, 4095, 4096, 4097];
 
-pub fn all() -> bool {
+/// The worlds, that with a window of 256 last.
+pub fn worlds() -> Vec<(&'static str, Scene)> {
     let mut worlds: Vec<(&str, Scene)> = scene::LARGE
         .iter()
         .filter_map(|&name| Some((name, scene::large(name)?)))
@@ -21,10 +22,14 @@ pub fn all() -> bool {
     worlds.extend(island(64).map(|scene| ("island in 64 by 64", scene)));
     worlds.extend(island(100).map(|scene| ("island in 100 by 100", scene)));
     worlds.extend(whole_window().map(|scene| ("whole window", scene)));
-    let worlds: Vec<(&str, Scene)> = (0..)
+    (0..)
         .zip(worlds)
         .map(|(number, (name, scene))| (name, strewn(scene, number)))
-        .collect();
+        .collect()
+}
+
+pub fn all() -> bool {
+    let worlds = worlds();
     let mut counts = Counts::default();
     let mut mismatches = 0;
     for (name, scene) in &worlds {

@@ -2,10 +2,13 @@
 //! as a server would, against the original. oracle/README.md says what each
 //! command does.
 
+mod begun;
 mod call;
+mod changed;
 mod columns;
 mod counts;
 mod differ;
+mod divided;
 mod edges;
 mod edits;
 mod expected;
@@ -27,6 +30,8 @@ mod slivers;
 mod strewn;
 mod sweeps;
 mod tables;
+mod tick;
+mod ticks;
 mod used;
 mod walkback;
 
@@ -53,6 +58,11 @@ driver misread FROM COUNT
 driver short FROM COUNT [THREADS]
 driver columns FROM COUNT [THREADS]
 driver slivers FROM COUNT [THREADS]
+driver divided FROM COUNT [THREADS]
+driver divided large
+driver changed FROM COUNT [THREADS]
+driver begun FROM COUNT [THREADS]
+driver ticks
 ";
 
 fn main() -> ExitCode {
@@ -75,6 +85,8 @@ fn command(arguments: &[String]) -> Result<bool, String> {
         ["reasons", folder] => return reasons::all(folder),
         ["misread", from, count] => return Ok(misread::all(number(from)?, number(count)?)),
         ["large"] => return Ok(large::all()),
+        ["divided", "large"] => return Ok(divided::large()),
+        ["ticks"] => return Ok(ticks::all()),
         [name, from, count] => (name, from, count, "1"),
         [name, from, count, threads] => (name, from, count, threads),
         _ => return Err(USAGE.to_string()),
@@ -94,6 +106,9 @@ fn command(arguments: &[String]) -> Result<bool, String> {
         "short" => short::one_scene,
         "columns" => columns::one_world,
         "slivers" => slivers::one_world,
+        "divided" => divided::one_scene,
+        "changed" => changed::one_scene,
+        "begun" => begun::one_scene,
         _ => return Err(USAGE.to_string()),
     };
     let numbers = Numbers {

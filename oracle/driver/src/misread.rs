@@ -1,19 +1,22 @@
 //! How soon the variants of the reading part from what the proved calls say: those
 //! of reasons on lists and edges, those of doors on searches, in the list and in
-//! the node room, or in rooms that are too short, and those of lengths on lists
-//! that no search gave and on found ones.
+//! the node room, or in rooms that are too short, those of lengths on lists that no
+//! search gave and on found ones, and those of begin and continue on calls of them.
 
 use std::ops::Range;
 
+use mutants::chance::Chance;
 use mutants::notice::notice;
 use mutants::questions::numbered;
-use reading::{ROOMED, Rooms, VARIANTS, Variant, search, search_in};
+use mutants::ticked;
+use reading::{ROOMED, Rooms, TICKED, Tick, VARIANTS, Variant, search, search_in};
 use scene::{Question, Scene, Verdict, Walked};
 use walkprint::raw;
 
 use crate::call::Call;
 use crate::lengths::noticed;
 use crate::sizes::{FRONT, INDEX, NODES, OUT, Sizes, needed};
+use crate::tick::answer;
 
 /// A line a variant: how many lists, edges or searches of the scenes of these
 /// numbers agree before one parts. False if none does for one of them.
@@ -21,7 +24,8 @@ pub fn all(from: u64, count: u64) -> bool {
     let reasons = reasons(from..from + count);
     let searches = searches(from..from + count);
     let lengths = lengths(from..from + count);
-    let all = [reasons, searches, lengths].concat();
+    let ticks = ticks(from..from + count);
+    let all = [reasons, searches, lengths, ticks].concat();
     for (variant, line) in &all {
         let line = line.as_deref().unwrap_or("NOT NOTICED");
         println!("{}: {line}", variant.name());
@@ -68,6 +72,23 @@ fn lengths(numbers: Range<u64>) -> Vec<Line> {
     let names = ["lists that no search gave", "found lists"];
     let rows = noticed(numbers).into_iter();
     rows.map(|(variant, after)| line(variant, "lengths", after, names))
+        .collect()
+}
+
+/// The variants of begin and continue.
+fn ticks(numbers: Range<u64>) -> Vec<Line> {
+    let mut strips = Chance::new(0);
+    let mut answers = |scene: &Scene, asked: Tick, lent| {
+        let call = Call::of(scene);
+        Ok(call.ask(|handed| answer(handed, asked, &lent, &mut strips)))
+    };
+    let rows = ticked::noticed(numbers, &mut answers).unwrap_or_else(|parts| {
+        println!("{parts}");
+        TICKED.iter().map(|&variant| (variant, None)).collect()
+    });
+    let line = |after: u64| format!("calls {after}");
+    let rows = rows.into_iter();
+    rows.map(|(variant, after)| (variant, after.map(line)))
         .collect()
 }
 

@@ -22,6 +22,13 @@ impl Room {
         }
     }
 
+    /// A room that holds these bytes.
+    pub fn holding(held: &[u8], chance: &mut Chance) -> Self {
+        let mut room = Self::new(held.len(), chance);
+        room.lent().copy_from_slice(held);
+        room
+    }
+
     pub fn length(&self) -> usize {
         self.length
     }
@@ -59,7 +66,7 @@ impl Room {
 }
 
 /// Zeros, ones, one byte over and over, or any bytes.
-fn pattern(length: usize, chance: &mut Chance) -> Vec<u8> {
+pub fn pattern(length: usize, chance: &mut Chance) -> Vec<u8> {
     match chance.below(5) {
         0 => vec![0; length],
         1 => vec![0xff; length],

@@ -56,7 +56,7 @@ fn turned(scene: &Scene) -> u64 {
 }
 
 /// How many bytes longer than needed a room is.
-fn more(chance: &mut Chance) -> usize {
+pub fn more(chance: &mut Chance) -> usize {
     match chance.below(4) {
         0 => 0,
         1 => 1 + chance.below(8),

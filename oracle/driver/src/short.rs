@@ -20,7 +20,7 @@ use crate::sizes::needed;
 use crate::{edges, walkback};
 
 /// Bytes of a window, a request and a body, and of a mob's two ends.
-const WHOLE: [usize; 3] = [24, 88, 24];
+pub const WHOLE: [usize; 3] = [24, 88, 24];
 const ENDS: usize = 48;
 
 /// What the walk-back tells of an invalid request.
@@ -39,16 +39,16 @@ pub fn one_scene(makers: &Makers, number: u64, counts: &mut Counts) -> Result<()
 }
 
 /// A call's records as they are handed over, and what is left of the call.
-struct Handed {
+pub struct Handed {
     records: [Vec<u8>; 3],
     /// With the window that 3 is judged by.
-    call: Call,
-    short: bool,
+    pub call: Call,
+    pub short: bool,
 }
 
 /// One, or now and then each of the three records ends at any byte, or has a
 /// few more.
-fn handed(scene: &Scene, whole: [usize; 3], chance: &mut Chance) -> Handed {
+pub fn handed(scene: &Scene, whole: [usize; 3], chance: &mut Chance) -> Handed {
     let mut call = Call::of(scene);
     let [window, request, body] = [
         call.tables.window.bytes().to_vec(),
@@ -86,7 +86,7 @@ fn window_of(record: &[u8]) -> Window {
 }
 
 impl Handed {
-    fn asked(&self) -> Asked<'_> {
+    pub fn asked(&self) -> Asked<'_> {
         let [window, request, body] = &self.records;
         Asked {
             window,
@@ -98,7 +98,7 @@ impl Handed {
 
     /// What a record that is cut short is answered with: 3, or the call's
     /// number of an invalid request.
-    fn cut(&self, invalid: u64) -> Option<u64> {
+    pub fn cut(&self, invalid: u64) -> Option<u64> {
         let number = match scene::bad_world(&self.call.tables) {
             true => 3,
             false => invalid,
@@ -106,7 +106,7 @@ impl Handed {
         self.short.then_some(number)
     }
 
-    fn lengths(&self) -> String {
+    pub fn lengths(&self) -> String {
         format!(
             "records of {:?} bytes",
             self.records.each_ref().map(Vec::len)

@@ -44,7 +44,7 @@ pub fn one_call(makers: &Makers, number: u64, counts: &mut Counts) -> Result<(),
 
 /// Which edits a number makes; those that damage come last, because the others
 /// read whole records.
-fn edits(number: u64) -> Vec<&'static Edit> {
+pub fn edits(number: u64) -> Vec<&'static Edit> {
     let mut chance = Chance::new(!number);
     let count = 1 + chance.below(4);
     let damaged = chance.once_in(3);

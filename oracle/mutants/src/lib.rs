@@ -4,6 +4,7 @@
 
 mod agree;
 pub mod chance;
+pub mod changes;
 mod claims;
 mod compare;
 mod doorways;
@@ -17,7 +18,10 @@ pub mod questions;
 pub mod recipes;
 pub mod shrink;
 pub mod spoilt;
+pub mod states;
 mod table;
+pub mod tick_cases;
+pub mod ticked;
 pub mod told;
 
 use std::path::PathBuf;
@@ -30,6 +34,7 @@ use crate::recipes::{RECIPES, Recipe};
 const USAGE: &str = "\
 oracle mutants
 oracle mutants reasons FROM COUNT
+oracle mutants ticks FROM COUNT
 oracle mutants agree SEED COUNT [RECIPE ..]
 oracle mutants claims SEED COUNT [RECIPE ..]
 oracle mutants tidy
@@ -47,6 +52,10 @@ pub fn run(arguments: &[String]) -> bool {
                 && searched
         }
         ["reasons", from, count] => told::agree(number(from), number(count)),
+        ["ticks", from, count] => {
+            let (from, count) = (number(from), number(count));
+            ticked::agree(from, count) && ticked::table(from..from + count)
+        }
         ["agree", seed, count, ref names @ ..] => {
             let (seed, count) = (number(seed), number(count));
             let agrees = |name: &&str| agree::agree(name, &recipe(name), seed, count);

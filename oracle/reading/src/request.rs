@@ -59,9 +59,14 @@ impl Rooms {
         ]
     }
 
-    /// "5", of an index room also where it is longer and of a wrong size. "Rooms
-    /// are counted in the new sizes" (02, No. 5).
+    /// "5", of an index room also where it is longer and of a wrong size.
     fn no_room(&self, node_budget: u64, edit: Variant) -> bool {
+        self.no_records(node_budget, edit) || index::wrong_size(self.index as usize, node_budget)
+    }
+
+    /// "5" of the rooms of records. "Rooms are counted in the new sizes" (02,
+    /// No. 5).
+    pub(crate) fn no_records(&self, node_budget: u64, edit: Variant) -> bool {
         let node = match edit {
             RoomOfOldNodes => 56,
             _ => NODE as u64,
@@ -73,7 +78,6 @@ impl Rooms {
         self.nodes / node < node_budget
             || self.frontier / (WAITING as u64) < node_budget
             || self.output / waypoint < node_budget + 1
-            || index::wrong_size(self.index as usize, node_budget)
     }
 }
 
@@ -89,42 +93,61 @@ pub fn search(scene: &Scene, edit: Variant) -> Verdict {
 /// "Search order: 3; `valid_request` (else 1); 4; 5; goal in range, start
 /// standable, goal standable (else 1); budget 0 (2); search."
 pub fn search_in(scene: &Scene, rooms: &Rooms, edit: Variant) -> Verdict {
+    let no_room = || rooms.no_room(scene.request.node_budget, edit);
+    match refused(scene, &no_room, edit) {
+        Some(1) => return Ok(Answer::unbegun(Outcome::Unreachable)),
+        Some(number) => return Err(Refusal { number, record: 0 }),
+        None => {}
+    }
+    if let Some(outcome) = unbegun(scene, edit) {
+        return Ok(Answer::unbegun(outcome));
+    }
+    Ok(Search::begin(Graph { scene, edit }).run())
+}
+
+/// "3; `valid_request` (else 1); 4; 5": the first of these numbers that a call
+/// draws, if it does.
+pub(crate) fn refused(scene: &Scene, no_room: &dyn Fn() -> bool, edit: Variant) -> Option<u32> {
+    let order = match edit {
+        LimitsBeforeRequest => [3, 4, 1, 5],
+        _ => [3, 1, 4, 5],
+    };
+    let draws = |number: &u32| draws(*number, scene, no_room, edit);
+    order.into_iter().find(draws)
+}
+
+/// Whether a call draws 3, 1, 4 or 5.
+pub(crate) fn draws(number: u32, scene: &Scene, no_room: &dyn Fn() -> bool, edit: Variant) -> bool {
+    match number {
+        3 => bad_world(scene),
+        1 => !valid_request(scene, edit),
+        4 => too_large(scene, edit),
+        _ => no_room(),
+    }
+}
+
+/// "Goal in range, start standable, goal standable (else 1); budget 0 (2)": the
+/// outcome of a search that does not begin.
+pub(crate) fn unbegun(scene: &Scene, edit: Variant) -> Option<Outcome> {
     let request = &scene.request;
-    let refused = |number| Err(Refusal { number, record: 0 });
-    let without_search = |outcome| Ok(Answer::unbegun(outcome));
-    if bad_world(scene) {
-        return refused(3);
-    }
-    if edit == LimitsBeforeRequest && too_large(scene, edit) {
-        return refused(4);
-    }
-    if !valid_request(scene, edit) {
-        return without_search(Outcome::Unreachable);
-    }
-    if too_large(scene, edit) {
-        return refused(4);
-    }
-    if rooms.no_room(request.node_budget, edit) {
-        return refused(5);
-    }
     if edit == BudgetZeroFirst && request.node_budget == 0 {
-        return without_search(Outcome::BudgetExceeded);
+        return Some(Outcome::BudgetExceeded);
     }
     let graph = Graph { scene, edit };
     if !(edit == GoalRangeUnread || graph.in_range(request.goal))
         || !(edit == StartUnread || graph.standable(request.start))
         || !(edit == GoalUnread || graph.standable(request.goal))
     {
-        return without_search(Outcome::Unreachable);
+        return Some(Outcome::Unreachable);
     }
     let at_goal = same_point(request.start, request.goal, edit);
     if request.node_budget == 0 && !(edit == StartAtGoalBeforeBudget && at_goal) {
-        return without_search(match edit {
+        return Some(match edit {
             BudgetZeroUnreachable => Outcome::Unreachable,
             _ => Outcome::BudgetExceeded,
         });
     }
-    Ok(Search::begin(graph).run())
+    None
 }
 
 /// Number 3 for tables that are numbers: "a size above 256, cell table not 8

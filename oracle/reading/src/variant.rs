@@ -1,28 +1,34 @@
-//! The variants: each misreads one sentence of 01, or of 02's No. 2, 3, 5 or 7,
-//! and is switched at the place of that sentence.
+//! The variants: each misreads one sentence of 01, or of 02's No. 2, 3, 5, 7 or
+//! 10, and is switched at the place of that sentence.
 //!
-//! Left out, because no answer can show them: the start's estimate (it waits
-//! alone); an occupiable unknown cell (its cube fills the voxel); a voxel that
-//! touches in x or z (the cells that are looked at never only touch there); a
-//! re-push whose estimate is equal (a cost lower by E lowers every estimate
-//! below 4.5e8, and range 64 keeps them there); a node other than the start at
-//! the goal (whatever discovers it has a connector); halving by 2 or by 0.5;
-//! finiteness other than that of steps, jump and drop, and a limit of 0 or less
-//! (no coordinate is smaller than such a limit); 1 - covered ≤ E instead of
-//! covered ≥ 1 - E (the same, for this E); a lookup that leaves out the nodes of
-//! the expansion under way (its points all differ). Of doors: an unknown cell as a
-//! door (its cube would block the area), a voxel that touches in x or z, and one
-//! that intersects another area of the corridor than the one whose turn it is (a
-//! cell that is looked at for an area, but for the layer below, intersects it). Of
-//! lengths: another order of two numbers that are added, dz² + dx², root + lift,
-//! edge + sum, and so (root + settle) + lift, which is lift + (root + settle).
+//! Left out, because no answer can show them: an occupiable unknown cell (its cube
+//! fills the voxel); a voxel that touches in x or z (the cells that are looked at
+//! never only touch there); halving by 2 or by 0.5; finiteness other than that of
+//! steps, jump and drop, and a limit of 0 or less (no coordinate is smaller than
+//! such a limit); 1 - covered ≤ E instead of covered ≥ 1 - E (the same, for this
+//! E); a lookup that leaves out the nodes of the expansion under way (its points
+//! all differ). Of doors: an unknown cell as a door (its cube would block the
+//! area), a voxel that touches in x or z, and one that intersects another area of
+//! the corridor than the one whose turn it is (a cell that is looked at for an
+//! area, but for the layer below, intersects it). Of lengths: another order of two
+//! numbers that are added, dz² + dx², root + lift, edge + sum, and so (root +
+//! settle) + lift, which is lift + (root + settle). Of No. 10: 0 retained (no
+//! retained node waits then), and a parent that is not retained (its chain does not
+//! end at node 0).
+//!
+//! No search shows these, but rooms that begin wrote or another hand changed do, so
+//! they are among those of No. 10: the start's estimate (it waits alone); a re-push
+//! whose estimate is equal (a cost lower by E lowers every estimate below 4.5e8,
+//! and range 64 keeps them there); a node other than the start at the goal
+//! (whatever discovers it has a connector).
 //!
 //! Three misreadings show only where `supported` is asked by itself: in a search
 //! the body stands at the segment's start and the target is standable, so that
 //! some interval begins at 0 and one ends at 1. Those of 02's No. 3 show only in
 //! the reason of an edge or of a walk-back, or in its place. Two of No. 5 show only
 //! in rooms that are too short, and two of lengths only in lists that no search
-//! gives: a found list has whole records, and its start's lift is 0.
+//! gives: a found list has whole records, and its start's lift is 0. Those of No. 10
+//! show only in calls of begin and continue.
 
 macro_rules! variants {
     (
@@ -31,6 +37,7 @@ macro_rules! variants {
         roomed { $($part_roomed:literal { $($sentence_roomed:literal { $($roomed:ident: $edit_roomed:literal,)* })* })* }
         listed { $($part_listed:literal { $($sentence_listed:literal { $($listed:ident: $edit_listed:literal,)* })* })* }
         told { $($part_told:literal { $($sentence_told:literal { $($told:ident: $edit_told:literal,)* })* })* }
+        ticked { $($part_ticked:literal { $($sentence_ticked:literal { $($ticked:ident: $edit_ticked:literal,)* })* })* }
     ) => {
         /// A way to read 01: as written, or with one sentence misread.
         #[derive(Debug, Clone, Copy, PartialEq, Eq, Hash)]
@@ -42,6 +49,7 @@ macro_rules! variants {
             $($($(#[doc = $edit_roomed] $roomed,)*)*)*
             $($($(#[doc = $edit_listed] $listed,)*)*)*
             $($($(#[doc = $edit_told] $told,)*)*)*
+            $($($(#[doc = $edit_ticked] $ticked,)*)*)*
         }
 
         /// Every variant that a search can show, in 01's order.
@@ -59,6 +67,9 @@ macro_rules! variants {
         /// The variants that only a reason shows, of an edge or of a walk-back.
         pub const TOLD: &[Variant] = &[$($($(Variant::$told,)*)*)*];
 
+        /// The variants that only a call of begin or of continue shows.
+        pub const TICKED: &[Variant] = &[$($($(Variant::$ticked,)*)*)*];
+
         impl Variant {
             /// The part of 01, the sentence, and what the variant does instead.
             pub fn about(self) -> [&'static str; 3] {
@@ -69,6 +80,7 @@ macro_rules! variants {
                     $($($(Variant::$roomed => [$part_roomed, $sentence_roomed, $edit_roomed],)*)*)*
                     $($($(Variant::$listed => [$part_listed, $sentence_listed, $edit_listed],)*)*)*
                     $($($(Variant::$told => [$part_told, $sentence_told, $edit_told],)*)*)*
+                    $($($(Variant::$ticked => [$part_ticked, $sentence_ticked, $edit_ticked],)*)*)*
                 }
             }
         }
@@ -695,6 +707,149 @@ variants! {
             }
             "the start has none" {
                 ToldStartDoorUnread: "the start's door is not read",
+            }
+        }
+    }
+    ticked {
+        "02, No. 10, begin" {
+            "Begin makes 01's checks" {
+                TickBeginEndsUnread: "begin does not judge the ends",
+                TickBeginOutputUnread: "begin does not judge the output's size",
+                TickBeginFinds: "a start at the goal is found by begin",
+            }
+            "zeroes the frontier room" {
+                TickBeginFrontierKept: "begin does not zero it",
+                TickBeginFrontierToBudget: "begin zeroes the budget's records",
+            }
+            "and retains the start" {
+                TickStartEstimated: "the start's estimate is 1.5 × distance",
+                TickStartUnpushed: "pushed is 0 after begin",
+            }
+        }
+        "02, No. 10, continue" {
+            "each continue with a number of expansions" {
+                TickOneExpansionMore: "one expansion more",
+                TickOneExpansionFewer: "one expansion fewer",
+                TickOneExpansion: "one expansion, whatever the number",
+            }
+            "the outcome is answered by the call whose expansion finds the goal or leaves nothing waiting" {
+                TickOutcomeLate: "a call too late: the frontier is not asked after the last expansion",
+            }
+            "The frontier room is zeroed when it ends" {
+                TickFrontierKept: "it stays",
+                TickFrontierKeptWhereFound: "it stays where the goal is found",
+                TickFrontierZeroedToRetained: "the retained nodes' records are zeroed",
+                TickFrontierZeroedToBudget: "the budget's records are zeroed",
+            }
+            "Rooms or counts that another hand changed are answered by the step's definition on them" {
+                TickFrontierPastZeroed: "the records past the retained ones are zeroed in each call",
+                TickStaleZeroed: "a record that does not wait is zeroed",
+                TickWokenWithOldWords: "a woken node keeps its old estimate and order if that is no higher",
+                TickEqualReplaces: "a re-push whose estimate is equal takes the entry",
+                TickIdleNotWoken: "an open node that does not wait is not woken by a cheaper way",
+                TickEstimatesByBits: "-0.0 comes before 0.0",
+                TickGoalByEdge: "a node at the goal, not the start, needs an edge",
+                TickReparentTakesZero: "a re-parented node takes the sign of the edge's zero",
+            }
+            "the lower node first where push orders tie" {
+                TickHigherNodeFirst: "the higher node first",
+            }
+            "the counts (retained, closed, pushed, dropped) pass by value" {
+                TickKeptUnpushed: "pushed does not advance where a re-push keeps the lower entry",
+                TickDroppedOnce: "dropped says whether, not how often",
+                TickDropsOfTheCall: "the outcome counts the drops of its own call",
+                TickClosedByMarks: "closed is counted by the marks",
+                TickFinderUncounted: "the node that finds the goal does not count as closed",
+            }
+            "lookups scan" {
+                TickLastRecordAnswers: "of two records at one point the last answers",
+            }
+            "nothing written" {
+                TickProgressOnRefusal: "a refusal writes the progress record",
+                TickProgressCut: "a progress record that does not fit is written as far as it does",
+            }
+        }
+        "02, No. 10, the order of refusals" {
+            "continue judges 3, `valid_request` (1), 4, 5, then 12" {
+                TickProgressBeforeRooms: "12 is judged before 5",
+                TickProgressBeforeLimits: "12 is judged before 4",
+                TickProgressBeforeRequest: "12 is judged before the request",
+                TickProgressFirst: "12 is judged first",
+                TickRoomsBeforeLimits: "5 is judged before 4",
+                TickLimitsBeforeRequest: "4 is judged before the request",
+                TickRequestBeforeWorld: "the request is judged before 3",
+                TickBudgetZeroAgain: "budget 0 is 2",
+                TickEndsAgain: "the ends are judged again",
+                TickJudgedEachExpansion: "12 is judged before each expansion",
+            }
+        }
+        "02, No. 10, 12" {
+            "expansions outside 1 to 4,096" {
+                TickNoExpansion: "0 is accepted",
+                Tick4097Expansions: "4,097 is accepted",
+                TickExpansionsHalfRead: "the low half of the number is read",
+            }
+            "a search already ended" {
+                TickEndedAgain: "it answers its outcome again",
+            }
+            "retained is 1 to budget" {
+                TickRetainedOneMore: "budget + 1 is accepted",
+            }
+            "closed at most that" {
+                TickClosedToBudget: "at most the budget",
+                TickCountForMarks: "as many as are marked",
+            }
+            "pushed and dropped below 2^32" {
+                TickPushedAtTheEnd: "2^32 pushed are accepted",
+                TickDroppedAtTheEnd: "2^32 dropped are accepted",
+            }
+            "each retained point in range" {
+                TickRangeUnread: "points are not read",
+                TickStartRangeUnread: "node 0's point is not read",
+                TickPointsDiffer: "no two nodes at one point",
+                TickFirstIsTheStart: "node 0 is the request's start",
+            }
+            "with finite cost" {
+                TickInfiniteCost: "an infinite cost is accepted",
+                TickNanCost: "a NaN is accepted",
+                TickNegativeCost: "a cost below 0 is refused",
+            }
+            "movement at most 3" {
+                TickMovementHalfRead: "the low half is read",
+                TickMovementOf4: "4 is accepted",
+                TickMovementUnread: "it is not read",
+            }
+            "and marks 0 or 1" {
+                TickClosedMarkOf2: "a closed mark of 2 is accepted",
+                TickWaitingMarkUnread: "the waiting mark is not read",
+                TickWaitingMarkHalfRead: "the low half of the waiting mark is read",
+                TickStaleRefused: "a record that does not wait is all zero",
+            }
+            "each parent is retained and closed" {
+                TickParentLower: "and lower than its node",
+                TickParentOpen: "an open parent is accepted",
+                TickOrphan: "a node without a parent has none to be judged",
+            }
+            "each parent chain ends at node 0" {
+                TickCycle: "a cycle is accepted",
+                TickStartWithParent: "node 0 may have a parent",
+            }
+            "and some node waits" {
+                TickOpenNodesWait: "and each open one",
+            }
+            "each that does retained" {
+                TickWaitingPastRetained: "waiting records past retained are not judged",
+                TickWaitingPastBudget: "waiting records past the budget are not judged",
+                TickIdleWordsPastRetained: "past retained every waiting word is 0",
+                TickPartialRecord: "a part of a record at the end is judged as if zeros followed",
+            }
+            "open" {
+                TickWaitingClosed: "a closed node may wait",
+            }
+            "and of finite estimate" {
+                TickInfiniteEstimate: "an infinite estimate is accepted",
+                TickNanEstimate: "a NaN is accepted",
+                TickIdleEstimate: "also where the node does not wait",
             }
         }
     }

@@ -1,6 +1,6 @@
 //! 01's records as the bytes that a caller lends and is given, little-endian.
 
-use crate::{Body, NodeRecord, Request, Waypoint, Window};
+use crate::{Body, FrontierRecord, NodeRecord, Request, Waypoint, Window};
 
 /// Bytes of a waypoint, of a node record, which is a waypoint and 16 bytes more,
 /// and of a frontier record.
@@ -76,6 +76,36 @@ impl NodeRecord {
         out[56..60].copy_from_slice(&self.parent.to_le_bytes());
         out[60..].copy_from_slice(&self.closed.to_le_bytes());
         out
+    }
+
+    /// The node of a record, whatever its words.
+    pub fn from_bytes(record: &[u8]) -> Self {
+        Self {
+            point: Waypoint::from_bytes(record),
+            cost: f64_at(record, WAYPOINT),
+            parent: u32_at(record, 56),
+            closed: u32_at(record, 60),
+        }
+    }
+}
+
+impl FrontierRecord {
+    /// Estimate, push order, waiting.
+    pub fn bytes(&self) -> [u8; WAITING] {
+        let mut out = [0; WAITING];
+        put_floats(&mut out, &[self.estimate]);
+        out[8..16].copy_from_slice(&self.push.to_le_bytes());
+        out[16..].copy_from_slice(&self.waiting.to_le_bytes());
+        out
+    }
+
+    /// What a record says, whatever its words.
+    pub fn from_bytes(record: &[u8]) -> Self {
+        Self {
+            estimate: f64_at(record, 0),
+            push: u64_at(record, 8),
+            waiting: u64_at(record, 16),
+        }
     }
 }
 

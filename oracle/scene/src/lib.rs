@@ -124,6 +124,28 @@ pub struct NodeRecord {
     pub closed: u32,
 }
 
+/// A frontier record: the estimate of a node, the number of its push, and 1 where
+/// it waits. All three are 0 where it does not, unless another hand left others.
+#[derive(Debug, Clone, Copy, PartialEq)]
+pub struct FrontierRecord {
+    pub estimate: f64,
+    pub push: u64,
+    pub waiting: u64,
+}
+
+impl FrontierRecord {
+    /// That of a node that does not wait.
+    pub const IDLE: Self = Self {
+        estimate: 0.0,
+        push: 0,
+        waiting: 0,
+    };
+
+    pub fn waits(&self) -> bool {
+        self.waiting == 1
+    }
+}
+
 /// The answer to a scene that was not refused.
 #[derive(Debug, Clone, PartialEq)]
 pub struct Answer {
