@@ -7,9 +7,10 @@ use mathlib.Core.List.{List, [], _∷_}
 use mathlib.Core.Logic.{⊎-elim, _≢_}
 use lib.ListN.{getD, set, replicate}
 use lib.Seq.{getD-set-other}
-use borrow.Author.Tests.{eqb-true, eqb-false}
+use borrow.Author.Tests.{eq-eqb, eqb-true, eqb-false}
 use lib.Dec.{eqb}
 use Rattle.exploration.specs.Laws.Lists.{true-or-false, true-false}
+use Rattle.rooms.specs.Records.{nodeAt}
 use Rattle.chains.specs.Chains.{eachBelow, goodParent, parentBack, parentsBack, endsAtStart, goodChains}
 use Rattle.chains.specs.Laws as laws
 pub use Rattle.chains.specs.Laws.{ParentsInside}
@@ -77,3 +78,42 @@ module _ {a done : List ℕ} {n k : ℕ} where
 -- a node whose parent reaches node 0 reaches it
 pub reaches-on : (a : List ℕ) (k : ℕ) → Reaches a (parentBack a k) → Reaches a k
 reaches-on a k r = (suc (r .0), r .1)
+
+-- ---- a first look
+
+-- what a look says: with 1 that each of n nodes reaches node 0, with 1 or 2 that each has a good parent
+pub record ParentsLooked (a : List ℕ) (n : ℕ) (done : List ℕ) (r : ℕ) : Type 0 where
+  pub sound : MarksSound a done
+  pub linked : r ≢ 0 → eachBelow (goodParent a n) n ≡ true
+  pub ended : r ≡ 1 → (k : ℕ) → k < n → Reaches a k
+
+-- a mark that is copied
+set-at : (done : List ℕ) (k v : ℕ) → getD (set done k v) k 0 ≢ 0 → v ≢ 0
+set-at [] k v d = absurd (d refl)
+set-at (x ∷ xs) zero v d = d
+set-at (x ∷ xs) (suc k) v d = set-at xs k v d
+
+pub sound-copy : (a done : List ℕ) (at v : ℕ) → (v ≢ 0 → Reaches a at) → MarksSound a done → MarksSound a (set done at v)
+sound-copy a done at v r s k d = ⊎-elim (λ e. go k (eqb-true k at e) d) (λ e. s k (rw (getD-set-other done at k v 0 (eqb-false k at e)) at d)) (true-or-false (eqb k at))
+  where
+    go : (k : ℕ) → k ≡ at → getD (set done at v) k 0 ≢ 0 → Reaches a k
+    go k e d = rw e (r (set-at done at v (rw e at d)))
+
+-- a node whose parent is p, one of n and closed
+module _ (a : List ℕ) (n k p : ℕ) (later : 1 ≤ k) (is : p ≡ nodeAt a k .parent) where
+  not-start : k ≢ 0
+  not-start e = omega (arith, later)
+
+  pub look-good : p < n → nodeAt a p .closed ≡ 1 → goodParent a n k ≡ true
+  look-good l e = sym (laws.linked-in a n k not-start (omega (arith, is, l))) ∙ eq-eqb _ 1 (ap (λ (x : ℕ). nodeAt a x .closed) (sym is) ∙ e)
+
+  pub look-reaches : (done : List ℕ) → MarksSound a done → getD done p 0 ≢ 0 → Reaches a k
+  look-reaches done s d = let e : p ≡ parentBack a k = is ∙ laws.step-on a n k not-start in reaches-on a k (rw e at (s p d))
+
+pub looked-none : {a done : List ℕ} {n : ℕ} → MarksSound a done → ParentsLooked a n done 0
+looked-none s = record { sound = s; linked = λ d. absurd (d refl); ended = λ e. absurd (omega arith) }
+
+-- what is found is good, so the chains are
+pub looked-good : (a : List ℕ) (n : ℕ) → n ≤ 4096 → eachBelow (goodParent a n) n ≡ true → ((k : ℕ) → k < n → Reaches a k) → true ≡ goodChains a n
+unfolding endsAtStart
+looked-good a n few linked h = laws.good-all a n few linked (laws.each-all (endsAtStart a n) n (λ k l. eq-eqb (parentsBack a n k) 0 (laws.ends-within a n (laws.linked-closed a n linked) (h k l .0) k l (h k l .1))))

@@ -4,9 +4,12 @@
 // reached, and its nodes are marked then. The marks are the function's own; no room is written.
 use rooms::get_node;
 ghost use mathlib.Core.Path.{_≡_};
+ghost use mathlib.Core.Bool.{true};
+ghost use mathlib.Core.Logic.{_≢_};
 ghost use Prim.Native.Nat.{_≤_, _<_};
+ghost use Rattle.rooms.specs.Records.{nodeAt};
 ghost use Rattle.chains.specs.Chains.{goodParent, parentBack, eachBelow, endsAtStart, goodChains};
-ghost use Rattle.chains.specs.Marks.{ParentsInside, MarksSound, Climbed, Reaches, ChainMarked};
+ghost use Rattle.chains.specs.Marks.{ParentsInside, MarksSound, Climbed, Reaches, ChainMarked, ParentsLooked};
 
 // The most nodes that a search can have.
 const MOST: usize = 4096;
@@ -40,6 +43,60 @@ fn all_linked(nodes: &[u8], n: usize) -> bool
         k += 1;
     }
     true
+}
+
+// Node k's parent, where it is one of n nodes and closed; else n. For a room whose length is judged once, as the words are read at offsets.
+fn near_parent(nodes: &[u8], n: usize, k: usize) -> usize
+    requires { ⌜ (k < n) × (n ≤ 4096) ⌝ }
+    ensures { λ r. ⌜ (r < n → (r ≡ nodeAt (now (nodes .entry)) k .parent) × (nodeAt (now (nodes .entry)) r .closed ≡ 1)) ⌝ }
+{
+    let parent = fields::u32_at(nodes, 64 * k + 56) as usize;
+    if n <= parent {
+        return n;
+    }
+    let closed = fields::u32_at(nodes, 64 * parent + 60);
+    if closed != 1 {
+        return n;
+    }
+    parent
+}
+
+// A first look at n nodes: 1 where each has a good parent that is marked before it, as most often; 2 where each has a good parent; else 0, which says nothing.
+fn look(nodes: &[u8], done: &mut [u8; 4096], n: usize) -> u8
+    requires { ⌜ (n ≤ 4096) × MarksSound (now nodes) (now done) ⌝ }
+    ensures { λ r. ⌜ ParentsLooked (now (nodes .entry)) n (now (done .exit)) r ⌝ }
+{
+    if nodes.len() < 64 * n {
+        return 0;
+    }
+    if !is_linked(nodes, n, 0) {
+        return 0;
+    }
+    done[0] = 1;
+    let mut all = true;
+    let mut k: usize = 1;
+    while k < n {
+        let parent = near_parent(nodes, n, k);
+        if n <= parent {
+            return 0;
+        }
+        let mark = done[parent];
+        done[k] = mark;
+        all = all & (mark != 0);
+        k += 1;
+    }
+    if all { 1 } else { 2 }
+}
+
+// Whether each parent is good, where a look has been taken.
+fn linked_by(nodes: &[u8], n: usize, seen: u8) -> bool
+    requires { ⌜ (seen ≢ 0 → eachBelow (goodParent (now nodes) n) n ≡ true) ⌝ }
+    ensures { λ r. ⌜ r ≡ eachBelow (goodParent (now (nodes .entry)) n) n ⌝ }
+{
+    if seen != 0 {
+        return true;
+    }
+    all_linked(nodes, n)
 }
 
 // One parent back from node k; from node 0 there is none.
@@ -113,10 +170,14 @@ pub fn chains_end(nodes: &[u8], n: usize) -> bool
     if MOST < n {
         return false;
     }
-    if !all_linked(nodes, n) {
+    let mut done = [0u8; 4096];
+    let seen = look(nodes, &mut done, n);
+    if seen == 1 {
+        return true;
+    }
+    if !linked_by(nodes, n, seen) {
         return false;
     }
-    let mut done = [0u8; 4096];
     let mut k: usize = 0;
     while k < n {
         if !settle(nodes, &mut done, n, k) {

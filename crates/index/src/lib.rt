@@ -13,8 +13,13 @@ use equal_points::same_point;
 use rooms::Feet;
 use rooms::get_feet;
 ghost use mathlib.Core.Path.{_≡_};
-ghost use Prim.Native.Nat.{_<_};
-ghost use Rattle.index.specs.Index.{stir, mix, home, nextSlot, probed, lookedUp, freeFor, extended};
+ghost use Prim.Native.Nat.{_-_, _<_};
+ghost use lib.ListN.{length};
+ghost use Rattle.rooms.specs.Records.{nodeAt};
+ghost use Rattle.index.specs.Index.{stir, mix, home, nextSlot, probed, lookedUp, freeFor, extendBy, extended};
+
+// More nodes than a room can tell apart: a parent's number is a u32.
+const NODES: usize = 4294967296;
 
 // A hash stirred, by shifts and sums that wrap.
 fn stir(h: u64) -> u64
@@ -108,11 +113,43 @@ fn free_slot(index: &[u8], q: Feet) -> usize
     n
 }
 
+// Where node k is, read at its offset: for a room whose length is judged once.
+fn near_feet(nodes: &[u8], k: usize) -> Feet
+    requires { ⌜ k < 4294967296 ⌝ }
+    ensures { λ r. ⌜ r ≡ nodeAt (now (nodes .entry)) k .feet ⌝ }
+{
+    let at = 64 * k;
+    let x = fields::u64_at(nodes, at);
+    let y = fields::u64_at(nodes, at + 8);
+    let z = fields::u64_at(nodes, at + 16);
+    Feet { x, y, z }
+}
+
+// Enters nodes as `extend` does, in a room that has n of them: the length is judged once, so that the loop need not. What is left is as `extend` would leave it.
+fn enter(index: &mut [u8], nodes: &[u8], from: usize, n: usize) -> usize
+    ensures { λ r. ⌜ (length (now (index .exit)) ≡ length (now (index .entry))) × (extended (now (index .entry)) (now (nodes .entry)) from n ≡ extendBy (n - r) (now (index .exit)) (now (nodes .entry)) r) ⌝ }
+{
+    let border = n % NODES;
+    let mut k = from;
+    if nodes.len() < 64 * border {
+        return k;
+    }
+    while k < border {
+        let s = free_slot(index, near_feet(nodes, k));
+        if index.len() / 4 <= s {
+            return k;
+        }
+        stores::put_u32(index, 4 * s, ((k + 1) % 4294967296) as u32);
+        k += 1;
+    }
+    k
+}
+
 // Enters the nodes `from`, `from` + 1, .. below n while a slot is free; answers the first one that is not entered.
 pub fn extend(index: &mut [u8], nodes: &[u8], from: usize, n: usize) -> usize
     ensures { λ r. ⌜ (r ≡ extended (now (index .entry)) (now (nodes .entry)) from n .1) × (now (index .exit) ≡ extended (now (index .entry)) (now (nodes .entry)) from n .0) ⌝ }
 {
-    let mut k = from;
+    let mut k = enter(index, nodes, from, n);
     while k < n {
         let s = free_slot(index, get_feet(nodes, k));
         if index.len() / 4 <= s {

@@ -1,20 +1,23 @@
 -- What a continued search may rely on.
-use Prim.Native.Nat.{ℕ, zero, suc, _-_, _/_, _≤_, _<_}
+use Prim.Native.Nat.{ℕ, zero, suc, _+_, _-_, _*_, _/_, _≤_, _<_}
 use native.Mathlib.Omega.{arith}
-use mathlib.Core.Path.{_≡_, refl, ap}
+use mathlib.Core.Path.{_≡_, refl, sym, ap, subst, _∙_}
 use mathlib.Core.Bool.{Bool, true, false, not, _&&_, cond}
 use mathlib.Core.List.{List}
 use mathlib.Core.Logic.{⊎-elim, _≢_}
-use lib.Dec.{leb, ltb}
+use lib.Dec.{eqb, leb, ltb}
 use lib.ListN.{length}
 use borrow.Author.Tests.{eq-eqb, ne-eqb, leb-true, ltb-true, ltb-false}
 use Rattle.exploration.specs.Laws.Lists.{and-first, and-second}
 use Rattle.world.specs.declared.Request.{Request}
 use Rattle.rooms.specs.declared.Counts.{Counts}
+use Rattle.fields.specs.Little.{field}
+use Rattle.rooms.specs.declared.Entry.{Entry}
 use Rattle.rooms.specs.Records.{entryAt}
 use Rattle.rooms.specs.Scans.{firstOf, waits}
 use Rattle.rooms.specs.Laws.Scans.{First, first-is}
 use Rattle.rooms.specs.Laws.Lists.{in-or-out}
+use Rattle.scans.specs.Laws.{Idle, idle-none, idle-more, first-past}
 use Rattle.chains.specs.Chains.{eachBelow, goodChains}
 use Rattle.chains.specs.Laws.{each-all, each-at, each-not}
 use Rattle.progress.specs.Progress.{goodAsked, goodRetained, goodClosed, goodPushed, goodDropped, goodCounts, goodNode, goodWait, isIdle, someWaits, goodProgress}
@@ -94,6 +97,26 @@ waits-skip a f n m k r e l h = (rw e (first-least (waitsAt f) (m - k) k), omega 
 
     idle : (j : ℕ) → k ≤ j → j < r → goodWait a f n j ≡ true
     idle j b i = let z = first .missed j b i in rw z
+
+-- ---- over idle records
+
+pub idle-join : (e : ℕ → Entry) (i m r : ℕ) → Idle e i m → Idle e m r → Idle e i r
+idle-join e i m r g h = record { order = omega (arith, g .order, h .order); idle = λ j p q. ⊎-elim (λ l. g .idle j p l) (λ l. h .idle j l q) (in-or-out j m) }
+
+-- four of them, as the code reads them
+pub idle-four : (f : List ℕ) (k : ℕ) → eqb (field 8 f (24 * k + 16)) 1 ≡ false → eqb (field 8 f (24 * k + 40)) 1 ≡ false → eqb (field 8 f (24 * k + 64)) 1 ≡ false → eqb (field 8 f (24 * k + 88)) 1 ≡ false → Idle (entryAt f) k (k + 4)
+idle-four f k p q r s =
+    let x : 24 * (k + 1) + 16 ≡ 24 * k + 40 = omega arith in
+    let y : 24 * (k + 1 + 1) + 16 ≡ 24 * k + 64 = omega arith in
+    let z : 24 * (k + 1 + 1 + 1) + 16 ≡ 24 * k + 88 = omega arith in
+    let e : k + 1 + 1 + 1 + 1 ≡ k + 4 = omega arith in
+    let at : (i j : ℕ) → i ≡ j → eqb (field 8 f j) 1 ≡ false → eqb (field 8 f i) 1 ≡ false = λ i j h b. ap (λ (m : ℕ). eqb (field 8 f m) 1) h ∙ b in
+    subst (Idle (entryAt f) k) e (idle-more f (idle-more f (idle-more f (idle-more f (idle-none (entryAt f) k) p) (at _ _ x q)) (at _ _ y r)) (at _ _ z s))
+
+pub idle-past : (f : List ℕ) (from r n : ℕ) → Idle (entryAt f) from r → r ≤ n → firstOf (waitsAt f) r (n - r) ≡ firstOf (waitsAt f) from (n - from)
+idle-past f from r n h l =
+    let e : from + (r - from) ≡ r = omega (arith, h .order) in
+    sym (first-past (waitsAt f) (r - from) from n (omega (arith, h .order)) (λ j p q. h .idle j p (omega (arith, h .order))) ∙ ap (λ (m : ℕ). firstOf (waitsAt f) m (n - m)) e)
 
 -- ---- the ways out of `good_progress`
 

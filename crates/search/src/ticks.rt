@@ -12,10 +12,10 @@ ghost use mathlib.Core.Path.{_≡_};
 ghost use Rattle.outcomes.specs.Ticks.{Gives, GoesFrom};
 ghost use Rattle.search.specs.Ticks.{continuedSearch, expandedIn};
 
-// The bytes of an index for as many nodes as a search can have.
+// The bytes of an index for as many nodes as a search can have. It is the call's own: none is lent, and none is kept.
 const INDEX: usize = 32768;
 
-// At most so many expansions, 1 to 4,096, of the search that the rooms and the counts hold; lookups scan, for there is no index.
+// At most so many expansions, 1 to 4,096, of the search that the rooms and the counts hold.
 pub fn continue_search(
     w: Window, cells: &[u8], perms: &[u8], shapes: &[u8], boxes: &[u8], r: Request, body: Body,
     c: Counts, expansions: u64, nodes: &mut [u8], front: &mut [u8], out: &mut [u8],

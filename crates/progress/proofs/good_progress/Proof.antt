@@ -1,4 +1,5 @@
 -- `progress::good_progress` meets its contract. Assumes nothing.
+use native.Mathlib.Omega.{arith}
 use mathlib.Core.Path.{_≡_, sym, _∙_}
 use borrow.Author.Tests.{not-true, not-false}
 use denote.Ref.{now}
@@ -20,8 +21,8 @@ nodes-good-requires c κs = tt
 chains-end-requires : tie.Need-chains-end-requires
 chains-end-requires c κs = tt
 
-first-waiting-requires : tie.Need-first-waiting-requires
-first-waiting-requires c κs = tt
+next-wait-requires : tie.Need-next-wait-requires
+next-wait-requires c κs = omega arith
 
 waits-good-requires : tie.Need-waits-good-requires
 waits-good-requires c κs = tt
@@ -29,7 +30,7 @@ waits-good-requires c κs = tt
 returns-2 : tie.Need-returns-2
 returns-2 c =
     let a = c .before .before .before .before .before .before .before .before .args in
-    let some = waits-first (now (a .front)) (a .c .retained) (c .before .first-waiting .result) (c .before .first-waiting .ensures) in
+    let some = waits-first (now (a .front)) (a .c .retained) (c .before .next-wait .result) (c .before .next-wait .ensures) in
     rw (c .waits-good .ensures, some, c .before .before .chains-end .ensures, c .before .before .before .nodes-good .ensures)
     (progress-by (a .r) (now (a .nodes)) (now (a .front)) (a .c) (a .expansions) (sym (c .before .before .before .before .before .counts-good .ensures) ∙ not-false _ (c .before .before .before .before .if1 .left)))
 
@@ -41,6 +42,6 @@ good-progress-spec =
     returns
     nodes-good-requires
     chains-end-requires
-    first-waiting-requires
+    next-wait-requires
     waits-good-requires
     returns-2)

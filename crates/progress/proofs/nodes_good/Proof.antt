@@ -1,7 +1,7 @@
 -- `progress::nodes_good` meets its contract. Assumes nothing.
 use native.Mathlib.Omega.{arith}
 use Prim.Native.Nat.{ℕ, _≤_, _-_}
-use mathlib.Core.Path.{_≡_, refl, sym, ap, _∙_}
+use mathlib.Core.Path.{_≡_, sym, ap, _∙_}
 use mathlib.Core.Bool.{true}
 use borrow.Author.Tests.{not-true, not-false}
 use denote.Ref.{now}
@@ -17,15 +17,18 @@ Inv-loop r nodes front n k₀ k = (k ≤ n) × (eachBelow (goodNode r nodes fron
 abbrev μ-loop : tie.MeasureT-loop
 μ-loop r nodes front n k₀ k = n - k
 
+pass-good-requires : tie.Need-pass-good-requires Inv-loop μ-loop
+pass-good-requires c κs = tt
+
 loop-holds : tie.Need-loop-holds Inv-loop μ-loop
-loop-holds c = (omega arith, refl)
+loop-holds c = c .pass-good .ensures
 
 node-good-requires : tie.Need-node-good-requires Inv-loop μ-loop
 node-good-requires c κs = tt
 
 returns : tie.Need-returns Inv-loop μ-loop
 returns c =
-    let a = c .before .before .before .before .before .before .args in
+    let a = c .before .before .before .before .before .before .before .args in
     sym (each-not (goodNode (a .r) (now (a .nodes)) (now (a .front))) (a .n) (c .before .before .before .loop .k) (c .before .before .loop-test .taken) (sym (c .before .node-good .ensures) ∙ not-true _ (c .if1 .taken)))
 
 add-k : tie.Need-add-k Inv-loop μ-loop
@@ -36,12 +39,12 @@ loop-less c = omega arith
 
 loop-again : tie.Need-loop-again Inv-loop μ-loop
 loop-again c =
-    let a = c .before .before .before .before .before .before .args in
+    let a = c .before .before .before .before .before .before .before .args in
     (omega arith, each-more (goodNode (a .r) (now (a .nodes)) (now (a .front))) (c .before .before .before .loop .k) (c .before .before .before .loop .inv .1) (sym (c .before .node-good .ensures) ∙ not-false _ (c .if1 .left)))
 
 returns-2 : tie.Need-returns-2 Inv-loop μ-loop
 returns-2 c =
-    let a = c .before .before .before .before .args in
+    let a = c .before .before .before .before .before .args in
     let e : c .before .loop .k ≡ a .n = omega arith in
     sym (ap (eachBelow (goodNode (a .r) (now (a .nodes)) (now (a .front)))) (sym e) ∙ c .before .loop .inv .1)
 
@@ -51,6 +54,7 @@ nodes-good-spec =
     (tie.spec
     Inv-loop
     μ-loop
+    pass-good-requires
     loop-holds
     node-good-requires
     returns

@@ -19,13 +19,13 @@ Inv-loop nodes front n m k₀ k = (k ≤ length front / 24) × (eachBelow (goodW
 abbrev μ-loop : tie.MeasureT-loop
 μ-loop nodes front n m k₀ k = length front / 24 - k
 
-first-waiting-requires : tie.Need-first-waiting-requires Inv-loop μ-loop
-first-waiting-requires c κs = tt
+next-wait-requires : tie.Need-next-wait-requires Inv-loop μ-loop
+next-wait-requires c κs = omega arith
 
 loop-holds : tie.Need-loop-holds Inv-loop μ-loop
 loop-holds c =
     let a = c .before .before .before .args in
-    let s = waits-skip (now (a .nodes)) (now (a .front)) (a .n) (length (now (a .front)) / 24) 0 (c .first-waiting .result) (c .first-waiting .ensures) (omega arith) refl in
+    let s = waits-skip (now (a .nodes)) (now (a .front)) (a .n) (length (now (a .front)) / 24) 0 (c .next-wait .result) (c .next-wait .ensures) (omega arith) refl in
     (s .1, s .2)
 
 wait-good-requires : tie.Need-wait-good-requires Inv-loop μ-loop
@@ -36,18 +36,18 @@ returns c =
     let a = c .before .before .before .before .before .before .before .args in
     sym (each-not (goodWait (now (a .nodes)) (now (a .front)) (a .n)) (length (now (a .front)) / 24) (c .before .before .before .loop .k) (c .before .before .loop-test .taken) (sym (c .before .wait-good .ensures) ∙ not-true _ (c .if1 .taken)))
 
-add-first-waiting : tie.Need-add-first-waiting Inv-loop μ-loop
-add-first-waiting c = omega (arith, c .before .before .loop-test .taken)
+add-next-wait : tie.Need-add-next-wait Inv-loop μ-loop
+add-next-wait c = omega (arith, c .before .before .loop-test .taken)
 
-first-waiting-requires-2 : tie.Need-first-waiting-requires-2 Inv-loop μ-loop
-first-waiting-requires-2 c κs = tt
+next-wait-requires-2 : tie.Need-next-wait-requires-2 Inv-loop μ-loop
+next-wait-requires-2 c κs = omega (arith, c .before .before .loop-test .taken)
 
 -- one good record more, and those that do not wait
-skipped : (c : tie.After-first-waiting2 Inv-loop μ-loop) → let a = c .before .before .before .before .before .before .before .before .args in (c .before .before .before .before .loop .k + 1 ≤ c .first-waiting2 .result) × (c .first-waiting2 .result ≤ length (now (a .front)) / 24) × (eachBelow (goodWait (now (a .nodes)) (now (a .front)) (a .n)) (c .first-waiting2 .result) ≡ true)
+skipped : (c : tie.After-next-wait2 Inv-loop μ-loop) → let a = c .before .before .before .before .before .before .before .before .args in (c .before .before .before .before .loop .k + 1 ≤ c .next-wait2 .result) × (c .next-wait2 .result ≤ length (now (a .front)) / 24) × (eachBelow (goodWait (now (a .nodes)) (now (a .front)) (a .n)) (c .next-wait2 .result) ≡ true)
 skipped c =
     let a = c .before .before .before .before .before .before .before .before .args in
     let l = c .before .before .before .before .loop in
-    waits-skip (now (a .nodes)) (now (a .front)) (a .n) (length (now (a .front)) / 24) (l .k + 1) (c .first-waiting2 .result) (c .first-waiting2 .ensures) (omega (arith, c .before .before .before .loop-test .taken))
+    waits-skip (now (a .nodes)) (now (a .front)) (a .n) (length (now (a .front)) / 24) (l .k + 1) (c .next-wait2 .result) (c .next-wait2 .ensures) (omega (arith, c .before .before .before .loop-test .taken))
     (each-more (goodWait (now (a .nodes)) (now (a .front)) (a .n)) (l .k) (l .inv .1) (sym (c .before .before .wait-good .ensures) ∙ not-false _ (c .before .if1 .left)))
 
 loop-less : tie.Need-loop-less Inv-loop μ-loop
@@ -68,12 +68,12 @@ waits-good-spec =
     (tie.spec
     Inv-loop
     μ-loop
-    first-waiting-requires
+    next-wait-requires
     loop-holds
     wait-good-requires
     returns
-    add-first-waiting
-    first-waiting-requires-2
+    add-next-wait
+    next-wait-requires-2
     loop-less
     loop-again
     returns-2)
