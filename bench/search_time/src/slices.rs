@@ -7,14 +7,18 @@ use crate::clock::{Time, timed};
 use crate::figures::figures;
 use crate::load;
 use crate::proved::{Proved, STILL_SEARCHING};
-use crate::worlds::{each, world};
+use crate::worlds::{ORDINARY, each, world};
 
 const WORLDS: [&str; 4] = ["wide", "maze", "tower", "stairs-4096"];
 
-const ROUNDS: usize = 50;
-
 /// Expansions a slice; with the last number the whole search is one slice.
 const SLICES: [u64; 5] = [1, 16, 64, 256, 4096];
+
+/// How many rounds a world has: as in an ordinary run.
+fn rounds_of(name: &str) -> usize {
+    let known = ORDINARY.iter().find(|(ordinary, _)| *ordinary == name);
+    known.map_or(20, |&(_, rounds)| rounds)
+}
 
 /// The median by the processor's clock, in microseconds.
 fn median(times: &[Time]) -> f64 {
@@ -24,9 +28,12 @@ fn median(times: &[Time]) -> f64 {
 /// The times of the whole search, and of that in slices of each size; none if one of
 /// them ended in another way than the whole one. Rooms are filled with a pattern
 /// before each, outside its time, so that no end can pass for another's.
-fn rounds(whole: &mut Proved, sliced: &mut Proved) -> Option<(Vec<Time>, [Vec<Time>; 5])> {
+fn take_turns(
+    [whole, sliced]: &mut [Proved; 2],
+    rounds: usize,
+) -> Option<(Vec<Time>, [Vec<Time>; 5])> {
     let (mut times, mut times_in_slices) = (Vec::new(), [const { Vec::new() }; 5]);
-    for _ in 0..ROUNDS {
+    for _ in 0..rounds {
         whole.spoil();
         let (number, time) = timed(|| black_box(whole.run()));
         times.push(time);
@@ -42,48 +49,81 @@ fn rounds(whole: &mut Proved, sliced: &mut Proved) -> Option<(Vec<Time>, [Vec<Ti
     Some((times, times_in_slices))
 }
 
-/// The median time of one slice of so many expansions, when so many nodes are closed;
-/// none if the search does not go on behind it.
-fn late(sliced: &mut Proved, closed: u64, expansions: u64) -> Option<f64> {
-    let mut times = Vec::new();
-    for _ in 0..ROUNDS {
-        sliced.begin();
+/// The time of one slice, where so many nodes are closed; none if the search ends
+/// with it.
+fn slice_behind(sliced: &mut Proved, closed: u64, expansions: u64) -> Option<Time> {
+    sliced.begin();
+    if closed > 0 {
         sliced.advance(closed);
-        let (number, time) = timed(|| black_box(sliced.advance(expansions)));
-        if number != STILL_SEARCHING {
-            return None;
-        }
-        times.push(time);
     }
-    Some(median(&times))
+    let (number, time) = timed(|| black_box(sliced.advance(expansions)));
+    (number == STILL_SEARCHING).then_some(time)
 }
 
-/// The line on slices near the end, from which 17 closings are left: what a slice of
-/// one costs, and how much of that is the call and not the expansion. None if the
-/// world has fewer closings.
-fn near_the_end(sliced: &mut Proved, [retained, closed]: [u64; 2]) -> Option<String> {
-    let before = closed.checked_sub(17)?;
-    let (one, sixteen) = (late(sliced, before, 1)?, late(sliced, before, 16)?);
-    let expansion = (sixteen - one) / 15.0;
-    let call = one - expansion;
-    Some(format!(
-        "near the end: a slice of 1 {one:.1} us, of 16 {sixteen:.1} us; so an expansion {expansion:.1} us, a call without it {call:.1} us, {:.0} ns a node",
-        1e3 * call / retained as f64,
-    ))
+/// What slices cost at one place of a search: one of 1 expansion, and one of 16.
+struct Cost {
+    one: f64,
+    sixteen: f64,
+}
+
+impl Cost {
+    fn expansion(&self) -> f64 {
+        (self.sixteen - self.one) / 15.0
+    }
+
+    /// What a call costs before its first expansion: it judges what it is handed.
+    fn judging(&self) -> f64 {
+        self.one - self.expansion()
+    }
+
+    fn print(&self, place: &str) {
+        println!(
+            "  {place}: a slice of 1 {:6.1} us, of 16 {:6.1} us; so an expansion {:5.1} us, the rest of a call {:5.1} us",
+            self.one,
+            self.sixteen,
+            self.expansion(),
+            self.judging(),
+        );
+    }
+}
+
+/// The lines on single slices, behind begin and near the end; none if there are too
+/// few closings.
+fn single_slices(sliced: &mut Proved, rounds: usize, [retained, closed]: [u64; 2]) -> Option<()> {
+    let places = [0, closed.checked_sub(17)?];
+    let mut times = [const { [const { Vec::new() }; 2] }; 2];
+    for _ in 0..rounds {
+        for (place, times) in places.into_iter().zip(&mut times) {
+            for (expansions, times) in [1, 16].into_iter().zip(times) {
+                times.push(slice_behind(sliced, place, expansions)?);
+            }
+        }
+    }
+    let [first, last] = times.map(|times| {
+        let [one, sixteen] = times.map(|times| median(&times));
+        Cost { one, sixteen }
+    });
+    first.print("behind begin");
+    last.print("near the end");
+    let more = 1e3 * (last.judging() - first.judging()) / retained as f64;
+    println!("  that rest is longer by {more:.0} ns for each retained node");
+    Some(())
 }
 
 /// The lines of a world. False if an end is another than the whole search's, none if
 /// there is no such world.
 fn told(name: &str) -> Option<bool> {
     let scene = world(name)?;
-    let (mut whole, mut sliced) = (Proved::new(&scene), Proved::new(&scene));
-    let Some((times, in_slices)) = rounds(&mut whole, &mut sliced) else {
+    let mut both = [Proved::new(&scene), Proved::new(&scene)];
+    let rounds = rounds_of(name);
+    let Some((times, in_slices)) = take_turns(&mut both, rounds) else {
         println!("{name}: THE ENDS DIFFER");
         return Some(false);
     };
+    let [whole, sliced] = &mut both;
     let [retained, closed] = whole.counts();
     println!(
-        "{name}: {} waypoints, {retained} retained, {closed} closed; {ROUNDS} rounds, load {}",
+        "{name}: {} waypoints, {retained} retained, {closed} closed; {rounds} rounds, load {}",
         whole.points(),
         load(),
     );
@@ -96,9 +136,7 @@ fn told(name: &str) -> Option<bool> {
             time / all
         );
     }
-    if let Some(line) = near_the_end(&mut sliced, [retained, closed]) {
-        println!("  {line}");
-    }
+    single_slices(sliced, rounds, [retained, closed]);
     Some(true)
 }
 
