@@ -36,7 +36,7 @@ extern "C" {
 /* ---- The version ---------------------------------------------------------- */
 
 #define WALKPRINT_VERSION_MAJOR 0
-#define WALKPRINT_VERSION_MINOR 5
+#define WALKPRINT_VERSION_MINOR 6
 #define WALKPRINT_VERSION_PATCH 0
 #define WALKPRINT_VERSION (WALKPRINT_VERSION_MAJOR * 1000000 + WALKPRINT_VERSION_MINOR * 1000 + WALKPRINT_VERSION_PATCH)
 
@@ -64,6 +64,10 @@ enum {
   WALKPRINT_BAD_SCENE = 7,       /* the first bad record, counted from 0 */
   WALKPRINT_BAD_TABLE = 8,       /* flag and permission tables differ in length */
   WALKPRINT_BAD_NUMBER = 9,      /* square root of a refused number */
+  WALKPRINT_BAD_PROGRESS = 12,   /* continue: the search has ended, rooms or counts are no search's, or the expansions not 1 to 4,096 */
+
+  /* A search in slices: nothing is decided yet. */
+  WALKPRINT_STILL_SEARCHING = 100,
 
   /* Why there is no edge: the first that is so, in this order. Told by the edge, and by the walk-back of a pair. */
   WALKPRINT_TOO_HIGH = 101,             /* the target is higher than a step or a jump reaches */
@@ -228,6 +232,16 @@ typedef struct walkprint_answer {
   uint64_t outcome, count, retained, closed;
 } walkprint_answer;
 
+/*
+ * What begin and continue answer: the number that they return; the list's count;
+ * how many nodes are retained and how many of them closed; how often a node was
+ * pushed, that is, made to wait; and how often a new point was dropped because the
+ * budget was used up, the same point each time that it is met. 48 bytes.
+ */
+typedef struct walkprint_progress {
+  uint64_t number, count, retained, closed, pushed, dropped;
+} walkprint_progress;
+
 /* What a scene says, and how many bytes of each table it made. 168 bytes. */
 typedef struct walkprint_scene {
   walkprint_request request;
@@ -373,6 +387,142 @@ uint64_t walkprint_find_path(
     uint8_t *out, size_t out_length,
     uint8_t *answer, size_t answer_length);
 
+/* ---- The search, a little each tick --------------------------------------- */
+
+/*
+ * A long search holds up the server that waits for it. These two calls make it a
+ * little at a time: walkprint_begin once, then walkprint_continue tick by tick,
+ * each time with a number of expansions, until it answers something else than 100.
+ * An expansion is one node closed, with its connector and its columns.
+ *
+ * Between two calls a search is its rooms `nodes` and `front` and its four counts:
+ * retained, closed, pushed and dropped. The library keeps nothing. So the caller
+ * leaves the rooms, the tables, the request and the body as they are, and hands on
+ * the counts that the last call gave back. What is promised then:
+ *
+ * - However the expansions are divided, the end is that of
+ *   walkprint_find_walk_path with these tables, this request and this body: the
+ *   same outcome, list, counts and node records, byte for byte.
+ * - It comes after at most node_budget expansions in all, and no call before it
+ *   answers 12, if its expansions are 1 to 4,096.
+ *
+ * `out` is no part of the search: no call reads it, and only the one that finds
+ * the list writes it. It may be another slice each time, or one for many searches.
+ * There is no index room. A point is looked up as by a scan of the node room, the
+ * first record at it; continue makes an index of its own for that, on the stack, of
+ * which it needs some 64 KB.
+ *
+ * What a call costs. Before its first expansion it judges the tables, as every
+ * call does, and then 12, for which it passes over all of the lent `front` and over
+ * the retained nodes; these it also enters in its index. Late in a search of
+ * thousands of nodes that takes as long as a dozen expansions and more, so a slice
+ * of one expansion costs far more in judging than in searching. 64 to 256
+ * expansions a call are sensible. In the worlds that docs/SPEED.md times ("The
+ * search in slices"), slices of 64 make a search at most a tenth longer, slices of
+ * 16 up to 1.4 times as long, and slices of 1 two to eight times.
+ *
+ * Where another hand changed the rooms or the counts, continue answers 12, or it
+ * makes its expansions on what it finds there: the lowest estimate first, then the
+ * lowest push order, then the lower node; of two nodes at one point the first
+ * answers for it; an open node that does not wait does so again when a cheaper way
+ * to it is met; and a node at the goal ends the search. Each call goes by the
+ * tables, the request and the body that it is lent. It ends, and writes only what
+ * is said below, whatever they are; but a list that is found so need be no route.
+ * walkprint_walk_back tells.
+ */
+
+/*
+ * Begins a search. Judged in this order: 3; an invalid request (1); 4; 5, where
+ * `nodes` has fewer than node_budget records of 64 bytes, `front` fewer than
+ * node_budget of 24, or `out` fewer than node_budget + 1 of 48; goal in range,
+ * start standable, goal standable (else 1); budget 0 (2). On these nothing at all
+ * is written. Else the search is begun, with the start retained, and the answer is
+ * 100, also where the start is the goal: what the search comes to is left to
+ * continue. The old bytes of the rooms decide nothing.
+ *
+ * Returns the number. Afterwards, on 100:
+ *   nodes   record 0 is the start: Walk, lift 0, no door, cost 0, no parent, not
+ *           closed. Past it the old bytes.
+ *   front   record 0 is that of the start, which waits: estimate 0, order 0,
+ *           waiting 1. Past it all zero, to the end of the slice.
+ *   progress
+ *           100, 0, 1, 0, 1, 0 (number, count, retained, closed, pushed, dropped)
+ *           in its first 48 bytes; past them its old bytes. Shorter than 48 bytes:
+ *           untouched.
+ * Of `out` only the length is looked at. No byte of it is read or written.
+ */
+uint64_t walkprint_begin(
+    const uint8_t *window, size_t window_length,
+    const uint8_t *cells, size_t cells_length,
+    const uint8_t *permissions, size_t permissions_length,
+    const uint8_t *shapes, size_t shapes_length,
+    const uint8_t *boxes, size_t boxes_length,
+    const uint8_t *request, size_t request_length,
+    const uint8_t *body, size_t body_length,
+    uint8_t *nodes, size_t nodes_length,
+    uint8_t *front, size_t front_length,
+    const uint8_t *out, size_t out_length,
+    uint8_t *progress, size_t progress_length);
+
+/*
+ * Goes on with a search by at most `expansions` expansions. Judged in this order:
+ * 3; an invalid request (1); 4; 5, as begin has it; 12. The ends are not judged
+ * again. 12 is judged once a call, before its first expansion; it is the answer
+ * unless all of this is so:
+ *
+ * - `expansions` is from 1 to 4,096.
+ * - retained is from 1 to node_budget (so with budget 0 it is 12), closed at most
+ *   retained, pushed and dropped below 2^32. These are the numbers that are handed
+ *   over; closed is not held against the records.
+ * - Each retained node, one of the first `retained` records of `nodes`, has a point
+ *   in range, a finite cost, a movement of at most 3, and 0 or 1 for closed; and
+ *   the frontier record of its number has 0 or 1 for waiting. Lift and door may be
+ *   any.
+ * - Node 0 has no parent (4294967295). Every other retained node has one that is
+ *   retained and closed, and from parent to parent it leads back to node 0.
+ * - Some node waits, that is, has 1 for waiting. After the end of a search none
+ *   does.
+ * - Every whole record of the lent `front`, also past the budget, that has 1 for
+ *   waiting is a retained node's that is not closed, with a finite estimate.
+ *
+ * On 3, 4, 5, 12 and the 1 of an invalid request nothing at all is written: rooms,
+ * output and progress keep every byte. So no caller loses its search to a short
+ * room or a wrong number; it calls again with the right ones and the same counts.
+ * Else the answer comes from the search: 0, 1 or 2 in the very call whose expansion
+ * finds the goal or leaves nothing waiting, and otherwise 100.
+ *
+ * So 1 says two things, and `progress` tells them apart. It has number 100 from the
+ * call before; where the search has ended it now has 1, and where the request is
+ * invalid it still has 100. (A next call answers 12 or again 1.)
+ *
+ * Returns the number. Afterwards, where it is no refusal:
+ *   progress
+ *           the number, the list's count (0 unless 0 Found) and the four counts in
+ *           its first 48 bytes; past them its old bytes. Shorter than 48 bytes:
+ *           untouched, and the search cannot go on, for its counts are lost.
+ *   nodes   the retained nodes in discovery order, then its old bytes.
+ *   front   on 100 the frontier records of the retained nodes, then its old bytes;
+ *           on 0, 1 and 2 all zero, to the end of the slice.
+ *   out     on 0 the list, `count` waypoint records, then its old bytes; else
+ *           untouched.
+ */
+uint64_t walkprint_continue(
+    uint64_t retained, uint64_t closed, uint64_t pushed, uint64_t dropped,
+    uint64_t expansions,
+    const uint8_t *window, size_t window_length,
+    const uint8_t *cells, size_t cells_length,
+    const uint8_t *permissions, size_t permissions_length,
+    const uint8_t *shapes, size_t shapes_length,
+    const uint8_t *boxes, size_t boxes_length,
+    const uint8_t *request, size_t request_length,
+    const uint8_t *body, size_t body_length,
+    uint8_t *nodes, size_t nodes_length,
+    uint8_t *front, size_t front_length,
+    uint8_t *out, size_t out_length,
+    uint8_t *progress, size_t progress_length);
+
+/* ---- Routes, edges and lengths -------------------------------------------- */
+
 /*
  * Whether a list of waypoint records is a route of the request, and if not, why:
  * 0 exactly for a route, else the first of these. 3; 111 for an invalid request;
@@ -517,6 +667,7 @@ WALKPRINT_SIZE(sizeof(walkprint_node), 64);
 WALKPRINT_SIZE(sizeof(walkprint_front), 24);
 WALKPRINT_SIZE(sizeof(walkprint_ends), 48);
 WALKPRINT_SIZE(sizeof(walkprint_answer), 32);
+WALKPRINT_SIZE(sizeof(walkprint_progress), 48);
 WALKPRINT_SIZE(sizeof(walkprint_scene), 168);
 WALKPRINT_SIZE(WALKPRINT_NODES_BYTES(WALKPRINT_PATH_NODE_BUDGET), WALKPRINT_PATH_NODES_BYTES);
 WALKPRINT_SIZE(WALKPRINT_FRONT_BYTES(WALKPRINT_PATH_NODE_BUDGET), WALKPRINT_PATH_FRONT_BYTES);

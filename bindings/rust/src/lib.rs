@@ -6,6 +6,7 @@ pub mod raw;
 mod reasons;
 mod records;
 mod rooms;
+mod slices;
 
 pub use reasons::{Reason, WORD, WalkBack, word};
 pub use records::{Body, Movement, NO_DOOR, Point, Policy, Request, Waypoint, Window};
@@ -13,6 +14,7 @@ pub use rooms::{
     MOST_INDEX_BYTES, PATH_FRONT_BYTES, PATH_INDEX_BYTES, PATH_NODE_BUDGET, PATH_NODES_BYTES, PATH_OUT_BYTES, Rooms, front_bytes,
     index_bytes, nodes_bytes, out_bytes,
 };
+pub use slices::{Counts, Search, Tick};
 
 /// The largest sizes in bytes that a scene's tables can have: cells,
 /// permissions, shapes and boxes.
@@ -49,6 +51,7 @@ pub enum Error {
     BadScene(u64),
     BadTable,
     BadNumber,
+    BadProgress,
 }
 
 impl Error {
@@ -63,6 +66,7 @@ impl Error {
             Self::BadScene(_) => 7,
             Self::BadTable => 8,
             Self::BadNumber => 9,
+            Self::BadProgress => 12,
         }
     }
 }
@@ -263,6 +267,7 @@ fn refusal(number: u64, record: u64) -> Error {
         7 => Error::BadScene(record),
         8 => Error::BadTable,
         9 => Error::BadNumber,
+        12 => Error::BadProgress,
         _ => unreachable!("no number of the interface: {number}"),
     }
 }

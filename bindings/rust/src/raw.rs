@@ -29,60 +29,74 @@ pub struct Lent<'a> {
     pub answer: &'a mut [u8],
 }
 
-/// Calls a function of the interface. A slice is a pointer and a length: those
-/// that are read, then those that are lent, then the numbers.
+/// Calls a function of the interface with its arguments in the header's order:
+/// numbers, slices that are read, and slices that are lent. A slice is a pointer
+/// and a length.
 macro_rules! call {
-    ($name:ident($($read:expr),*; $($lent:expr),*; $($number:expr),*)) => {
-        unsafe { $name($($read.as_ptr(), $read.len(),)* $($lent.as_mut_ptr(), $lent.len(),)* $($number,)*) }
+    ($name:ident [$($done:expr,)*]) => {
+        unsafe { $name($($done,)*) }
+    };
+    ($name:ident [$($done:expr,)*] number($($number:expr),*) $($rest:tt)*) => {
+        call!($name [$($done,)* $($number,)*] $($rest)*)
+    };
+    ($name:ident [$($done:expr,)*] read($($slice:expr),*) $($rest:tt)*) => {
+        call!($name [$($done,)* $($slice.as_ptr(), $slice.len(),)*] $($rest)*)
+    };
+    ($name:ident [$($done:expr,)*] lent($($slice:expr),*) $($rest:tt)*) => {
+        call!($name [$($done,)* $($slice.as_mut_ptr(), $slice.len(),)*] $($rest)*)
+    };
+    ($name:ident $($arguments:tt)*) => {
+        call!($name [] $($arguments)*)
     };
 }
 
 #[inline]
 pub fn find_walk_path(asked: &Asked, lent: Lent) -> u64 {
     let [cells, permissions, shapes, boxes] = asked.tables;
-    call!(walkprint_find_walk_path(
-        asked.window, cells, permissions, shapes, boxes, asked.request, asked.body;
-        lent.nodes, lent.front, lent.index, lent.out, lent.answer;
-    ))
+    call!(walkprint_find_walk_path
+        read(asked.window, cells, permissions, shapes, boxes, asked.request, asked.body)
+        lent(lent.nodes, lent.front, lent.index, lent.out, lent.answer))
 }
 
 /// Of the tables the permissions are not read: the lent ones are filled.
 #[inline]
 pub fn find_path(policy: u64, jump_height: f64, flags: &[u8], asked: &Asked, permissions: &mut [u8], lent: Lent) -> u64 {
     let [cells, _, shapes, boxes] = asked.tables;
-    // Read and lent slices stand mixed, so the pointers and lengths are written out.
-    unsafe {
-        walkprint_find_path(
-            policy,
-            jump_height,
-            flags.as_ptr(),
-            flags.len(),
-            asked.window.as_ptr(),
-            asked.window.len(),
-            cells.as_ptr(),
-            cells.len(),
-            permissions.as_mut_ptr(),
-            permissions.len(),
-            shapes.as_ptr(),
-            shapes.len(),
-            boxes.as_ptr(),
-            boxes.len(),
-            asked.request.as_ptr(),
-            asked.request.len(),
-            asked.body.as_ptr(),
-            asked.body.len(),
-            lent.nodes.as_mut_ptr(),
-            lent.nodes.len(),
-            lent.front.as_mut_ptr(),
-            lent.front.len(),
-            lent.index.as_mut_ptr(),
-            lent.index.len(),
-            lent.out.as_mut_ptr(),
-            lent.out.len(),
-            lent.answer.as_mut_ptr(),
-            lent.answer.len(),
-        )
-    }
+    call!(walkprint_find_path
+        number(policy, jump_height)
+        read(flags, asked.window, cells) lent(permissions) read(shapes, boxes, asked.request, asked.body)
+        lent(lent.nodes, lent.front, lent.index, lent.out, lent.answer))
+}
+
+/// 100 where a search is begun, else 1 to 5. Of `out` only the length is looked
+/// at.
+#[inline]
+pub fn begin_search(asked: &Asked, nodes: &mut [u8], front: &mut [u8], out: &[u8], progress: &mut [u8]) -> u64 {
+    let [cells, permissions, shapes, boxes] = asked.tables;
+    call!(walkprint_begin
+        read(asked.window, cells, permissions, shapes, boxes, asked.request, asked.body)
+        lent(nodes, front) read(out) lent(progress))
+}
+
+/// 0, 1 or 2 where the search has ended, 100 where it has not; 3, 1, 4, 5 or 12
+/// where it did not go on, and then nothing is written. The counts are retained,
+/// closed, pushed and dropped, as the last call gave them back.
+#[inline]
+pub fn continue_search(
+    counts: [u64; 4],
+    expansions: u64,
+    asked: &Asked,
+    nodes: &mut [u8],
+    front: &mut [u8],
+    out: &mut [u8],
+    progress: &mut [u8],
+) -> u64 {
+    let [cells, permissions, shapes, boxes] = asked.tables;
+    let [retained, closed, pushed, dropped] = counts;
+    call!(walkprint_continue
+        number(retained, closed, pushed, dropped, expansions)
+        read(asked.window, cells, permissions, shapes, boxes, asked.request, asked.body)
+        lent(nodes, front, out, progress))
 }
 
 /// 0 for a route, 3, 4, or the first reason why it is none: 101 to 109 and 111 to
@@ -91,7 +105,9 @@ pub fn find_path(policy: u64, jump_height: f64, flags: &[u8], asked: &Asked, per
 #[inline]
 pub fn walk_back(asked: &Asked, list: &[u8], place: &mut [u8]) -> u64 {
     let [cells, permissions, shapes, boxes] = asked.tables;
-    call!(walkprint_walk_back(asked.window, cells, permissions, shapes, boxes, asked.request, asked.body, list; place;))
+    call!(walkprint_walk_back
+        read(asked.window, cells, permissions, shapes, boxes, asked.request, asked.body, list)
+        lent(place))
 }
 
 /// 130 Walk, 131 Step, 132 Jump, 133 Drop, 101 to 109 for the first reason why
@@ -99,44 +115,43 @@ pub fn walk_back(asked: &Asked, list: &[u8], place: &mut [u8]) -> u64 {
 #[inline]
 pub fn edge(asked: &Asked, from: [f64; 3], to: [f64; 3]) -> u64 {
     let [cells, permissions, shapes, boxes] = asked.tables;
-    call!(walkprint_edge(
-        asked.window, cells, permissions, shapes, boxes, asked.request, asked.body;;
-        from[0], from[1], from[2], to[0], to[1], to[2]
-    ))
+    call!(walkprint_edge
+        read(asked.window, cells, permissions, shapes, boxes, asked.request, asked.body)
+        number(from[0], from[1], from[2], to[0], to[1], to[2]))
 }
 
 /// The length of a list's whole records, as the body goes.
 #[inline]
 pub fn length(list: &[u8]) -> f64 {
-    call!(walkprint_length(list;;))
+    call!(walkprint_length read(list))
 }
 
 /// The tables are cells, permissions, shapes and boxes.
 pub fn read_scene(bytes: &[u8], tables: [&mut [u8]; 4], made: &mut [u8]) -> u64 {
     let [cells, permissions, shapes, boxes] = tables;
-    call!(walkprint_read_scene(bytes; cells, permissions, shapes, boxes, made;))
+    call!(walkprint_read_scene read(bytes) lent(cells, permissions, shapes, boxes, made))
 }
 
 pub fn jump_apex(power: f32, gravity: f64, height: &mut [u8]) -> u64 {
-    unsafe { walkprint_jump_apex(power, gravity, height.as_mut_ptr(), height.len()) }
+    call!(walkprint_jump_apex number(power, gravity) lent(height))
 }
 
 pub fn root(x: f64, root: &mut [u8]) -> u64 {
-    unsafe { walkprint_root(x, root.as_mut_ptr(), root.len()) }
+    call!(walkprint_root number(x) lent(root))
 }
 
 pub fn square_root(x: f64) -> f64 {
-    unsafe { walkprint_square_root(x) }
+    call!(walkprint_square_root number(x))
 }
 
 /// How many bytes a number's words have; they are in the first bytes of `word`,
 /// where they fit.
 pub fn word(number: u64, word: &mut [u8]) -> u64 {
-    unsafe { walkprint_word(number, word.as_mut_ptr(), word.len()) }
+    call!(walkprint_word number(number) lent(word))
 }
 
 pub fn version() -> u64 {
-    unsafe { walkprint_version() }
+    call!(walkprint_version)
 }
 
 unsafe extern "C" {
@@ -196,6 +211,61 @@ unsafe extern "C" {
         out_length: usize,
         answer: *mut u8,
         answer_length: usize,
+    ) -> u64;
+
+    fn walkprint_begin(
+        window: *const u8,
+        window_length: usize,
+        cells: *const u8,
+        cells_length: usize,
+        permissions: *const u8,
+        permissions_length: usize,
+        shapes: *const u8,
+        shapes_length: usize,
+        boxes: *const u8,
+        boxes_length: usize,
+        request: *const u8,
+        request_length: usize,
+        body: *const u8,
+        body_length: usize,
+        nodes: *mut u8,
+        nodes_length: usize,
+        front: *mut u8,
+        front_length: usize,
+        out: *const u8,
+        out_length: usize,
+        progress: *mut u8,
+        progress_length: usize,
+    ) -> u64;
+
+    fn walkprint_continue(
+        retained: u64,
+        closed: u64,
+        pushed: u64,
+        dropped: u64,
+        expansions: u64,
+        window: *const u8,
+        window_length: usize,
+        cells: *const u8,
+        cells_length: usize,
+        permissions: *const u8,
+        permissions_length: usize,
+        shapes: *const u8,
+        shapes_length: usize,
+        boxes: *const u8,
+        boxes_length: usize,
+        request: *const u8,
+        request_length: usize,
+        body: *const u8,
+        body_length: usize,
+        nodes: *mut u8,
+        nodes_length: usize,
+        front: *mut u8,
+        front_length: usize,
+        out: *mut u8,
+        out_length: usize,
+        progress: *mut u8,
+        progress_length: usize,
     ) -> u64;
 
     fn walkprint_walk_back(
