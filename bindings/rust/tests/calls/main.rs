@@ -1,11 +1,14 @@
 //! The calls on the flat scene, with rooms and tables that are filled with a
 //! pattern: exactly long, too long and one byte short, the index room of every
 //! right and wrong size, every byte compared. Why a step is refused is in
-//! `reasons`, which door is named in `doors`, how long a list is in `lengths`.
+//! `reasons`, which door is named in `doors`, how long a list is in `lengths`, and
+//! the search a little each tick in `slices` and `states`.
 
 mod doors;
 mod lengths;
 mod reasons;
+mod slices;
+mod states;
 mod world;
 
 use walkprint::{
@@ -586,10 +589,10 @@ fn lone_record() -> Vec<u8> {
     [vec![0; WAYPOINT - 8], NO_DOOR.to_le_bytes().to_vec()].concat()
 }
 
-/// The numbers of a search, a walk-back of that record, and an edge that are
-/// handed records of so many bytes, over the flat tables a layer lower, so that a
-/// request of zeros would be answered.
-fn cut(window: usize, request: usize, body: usize) -> [u64; 3] {
+/// The numbers of a search, a walk-back of that record, an edge, and a search's
+/// begin and continue that are handed records of so many bytes, over the flat
+/// tables a layer lower, so that a request of zeros would be answered.
+fn cut(window: usize, request: usize, body: usize) -> [u64; 5] {
     let t = flat();
     let [cells, permissions, shapes, boxes] = &t;
     let asked = raw::Asked {
@@ -598,27 +601,30 @@ fn cut(window: usize, request: usize, body: usize) -> [u64; 3] {
         request: &[0; 96][..request],
         body: &floats(&[0.625, 1.75, 0.5, 9.0])[..body],
     };
-    let (mut index, mut out, mut answer) = (pattern(4), pattern(WAYPOINT), [0; 32]);
+    let (mut index, mut out, mut answer, mut progress) = (pattern(4), pattern(WAYPOINT), [0; 32], pattern(48));
     let lent = raw::Lent { nodes: &mut [], front: &mut [], index: &mut index, out: &mut out, answer: &mut answer };
     let search = raw::find_walk_path(&asked, lent);
-    assert_eq!((index, out), (pattern(4), pattern(WAYPOINT)));
     assert_eq!(answer, [search.to_le_bytes(), [0; 8], [0; 8], [0; 8]].concat()[..]);
-    [search, raw::walk_back(&asked, &lone_record(), &mut []), raw::edge(&asked, [0.0; 3], [0.0; 3])]
+    let begun = raw::begin_search(&asked, &mut [], &mut [], &out, &mut progress);
+    let gone_on = raw::continue_search([1, 0, 1, 0], 1, &asked, &mut [], &mut [], &mut out, &mut progress);
+    assert_eq!((index, out, progress), (pattern(4), pattern(WAYPOINT), pattern(48)));
+    let back = raw::walk_back(&asked, &lone_record(), &mut []);
+    [search, back, raw::edge(&asked, [0.0; 3], [0.0; 3]), begun, gone_on]
 }
 
 #[test]
 fn a_record_that_is_cut_short_makes_an_invalid_request() {
-    // Whole, and longer: budget 0, a route of one point, and an edge from it to itself.
+    // Whole, and longer: budget 0, a route of one point, an edge from it to itself, and nothing to go on with.
     for (window, request, body) in [(24, 88, 24), (25, 95, 31), (32, 96, 32)] {
-        assert_eq!(cut(window, request, body), [2, 0, 130]);
+        assert_eq!(cut(window, request, body), [2, 0, 130, 2, 12]);
     }
     for short in 0..88 {
-        assert_eq!(cut(24, short, 24), [1, 111, 1]);
+        assert_eq!(cut(24, short, 24), [1, 111, 1, 1, 1]);
     }
     for short in 0..24 {
-        assert_eq!(cut(24, 88, short), [1, 111, 1]);
+        assert_eq!(cut(24, 88, short), [1, 111, 1, 1, 1]);
         // Without its last size the window is none for these cells: 3 comes first.
-        assert_eq!(cut(short, 0, 0), [3, 3, 3]);
+        assert_eq!(cut(short, 0, 0), [3; 5]);
     }
 }
 

@@ -194,7 +194,7 @@ fn a_wrong_end() {
 // ---- numbers and words
 
 /// Every number that has words.
-const WORDS: [(u64, &str); 32] = [
+const WORDS: [(u64, &str); 34] = [
     (0, "found"),
     (1, "unreachable"),
     (2, "budget exceeded"),
@@ -205,6 +205,8 @@ const WORDS: [(u64, &str); 32] = [
     (7, "bad scene"),
     (8, "bad table"),
     (9, "bad number"),
+    (12, "bad progress"),
+    (100, "still searching"),
     (101, "too high"),
     (102, "too deep"),
     (103, "target out of range"),
@@ -260,7 +262,7 @@ fn numbers_without_words() {
 #[test]
 fn a_reason_has_its_number_and_words() {
     let told: Vec<(u64, String)> = Reason::ALL.iter().map(|reason| (reason.number(), reason.to_string())).collect();
-    let must: Vec<(u64, String)> = WORDS[10..28].iter().map(|&(number, words)| (number, words.to_string())).collect();
+    let must: Vec<(u64, String)> = WORDS[12..30].iter().map(|&(number, words)| (number, words.to_string())).collect();
     assert_eq!(told, must);
     for number in 0..300 {
         let reason = Reason::numbered(number);
@@ -293,5 +295,6 @@ fn numbers_of_the_header() {
     };
     let reasons = Reason::ALL.iter().map(|reason| (shouted(format!("{reason:?}")), reason.number()));
     let moves = ["WALK", "STEP", "JUMP", "DROP"].iter().zip(130..).map(|(name, number)| (format!("EDGE_{name}"), number));
-    assert_eq!(own, reasons.chain(moves).collect::<Vec<_>>());
+    let searching = [("STILL_SEARCHING".to_string(), 100)].into_iter();
+    assert_eq!(own, searching.chain(reasons).chain(moves).collect::<Vec<_>>());
 }

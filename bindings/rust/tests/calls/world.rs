@@ -1,5 +1,5 @@
 //! Small worlds made of the flat scene, searches in them, and lists to be walked
-//! back, for `reasons`, `doors` and `lengths`.
+//! back, for `reasons`, `doors`, `lengths` and `slices`.
 
 use walkprint::{Body, Error, NO_DOOR, Outcome, Point, Reason, Request, Rooms, Tables, WalkBack, Window, raw};
 
@@ -66,6 +66,12 @@ impl World {
         Self::flat().stone([1, 1, 0])
     }
 
+    /// A wall between them, three blocks high, from z -2 to this one: to 1 it leaves a
+    /// way around its end, and to 2 none.
+    pub fn barrier(last: i32) -> Self {
+        (-2..=last).fold(Self::flat(), |world, z| (1..=3).fold(world, |world, y| world.stone([1, y, z])))
+    }
+
     /// No floor between them.
     pub fn gap() -> Self {
         (-2..=2).fold(Self::flat(), |world, z| world.air([1, 0, z]))
@@ -92,18 +98,17 @@ impl World {
         Tables { window: self.window, cells, permissions, shapes, boxes }
     }
 
-    /// The walk-back by its call on bytes.
-    fn back(&self, request: &Request, body: &Body, list: &[u8], place: &mut [u8]) -> u64 {
+    /// Calls `ask` with the world, a request and a body in bytes.
+    pub fn asked<T>(&self, request: &Request, body: &Body, ask: impl FnOnce(&raw::Asked) -> T) -> T {
         let Window { origin, sizes } = self.window;
         let window = [origin.map(i32::to_le_bytes), sizes.map(u32::to_le_bytes)].concat().concat();
         let [cells, permissions, shapes, boxes] = &self.tables;
-        let asked = raw::Asked {
+        ask(&raw::Asked {
             window: &window,
             tables: [cells, permissions, shapes, boxes],
             request: &request_bytes(request),
             body: &floats(&[body.width, body.height, body.step_height]),
-        };
-        raw::walk_back(&asked, list, place)
+        })
     }
 }
 
@@ -165,7 +170,7 @@ pub fn walked(world: &World, request: &Request, body: &Body, list: &[u8]) -> Res
         if let (Some(place), 8..) = (place, length) {
             must[..8].copy_from_slice(&(place as u64).to_le_bytes());
         }
-        assert_eq!(world.back(request, body, list, &mut lent), number);
+        assert_eq!(world.asked(request, body, |asked| raw::walk_back(asked, list, &mut lent)), number);
         assert_eq!(lent, must);
     }
     answer
