@@ -6,22 +6,12 @@
 
 use std::error::Error;
 
-use walkprint::{Outcome, Rooms, SCENE_TABLES, Tables, Waypoint, front_bytes, index_bytes, nodes_bytes, out_bytes};
+use examples::{World, print_route};
+use walkprint::{Outcome, Rooms, Waypoint, front_bytes, index_bytes, nodes_bytes, out_bytes};
 
 fn main() -> Result<(), Box<dyn Error>> {
-    let file = std::env::args().nth(1).ok_or("usage: route SCENE")?;
-    let bytes = std::fs::read(file)?;
-
-    let [mut cells, mut permissions, mut shapes, mut boxes] = SCENE_TABLES.map(|n| vec![0; n]);
-    let scene = walkprint::read_scene(&bytes, &mut cells, &mut permissions, &mut shapes, &mut boxes)?;
-    let [a, b, c, d] = scene.in_use;
-    let tables = Tables {
-        window: scene.window,
-        cells: &cells[..a],
-        permissions: &permissions[..b],
-        shapes: &shapes[..c],
-        boxes: &boxes[..d],
-    };
+    let world = World::named()?;
+    let (tables, scene) = (world.tables(), &world.scene);
 
     let budget = usize::try_from(scene.request.node_budget)?;
     let sizes = [nodes_bytes(budget), front_bytes(budget), index_bytes(budget), out_bytes(budget)];
@@ -43,15 +33,6 @@ fn main() -> Result<(), Box<dyn Error>> {
     raise_last(list)?;
     println!("its last point a block higher: {}", walkprint::walk_back(&tables, &scene.request, &scene.body, list)?);
     Ok(())
-}
-
-/// Before it goes on to a waypoint, a guide opens the door that is named with
-/// it, if that is still shut.
-fn print_route(list: &[Waypoint]) {
-    for (i, w) in list.iter().enumerate() {
-        let door = w.door.map_or(String::new(), |state| format!(" door {state}"));
-        println!("{i} {} {} {} {} lift {}{door}", w.movement, w.feet[0], w.feet[1], w.feet[2], w.lift);
-    }
 }
 
 /// The last point a block higher: y is the second number of a record.
