@@ -6,7 +6,7 @@ use std::hint::black_box;
 use crate::clock::timed;
 use crate::figures::{FIGURES, figures};
 use crate::proved::Proved;
-use crate::worlds::{ORDINARY, world};
+use crate::worlds::{ORDINARY, each, world};
 
 const ROUNDS: usize = 100;
 
@@ -39,12 +39,7 @@ fn told(name: &str) -> Option<bool> {
     Some(true)
 }
 
-/// The worlds of an ordinary run, or those that are named. False if a list is
-/// answered to be no route, none if a name is no world's.
+/// The worlds of an ordinary run, or those that are named.
 pub fn all(names: &[&str]) -> Option<bool> {
-    let ordinary = ORDINARY.map(|(name, _)| name);
-    let names = if names.is_empty() { &ordinary } else { names };
-    names
-        .iter()
-        .try_fold(true, |right, name| Some(right & told(name)?))
+    each(names, &ORDINARY.map(|(name, _)| name), told)
 }

@@ -1,7 +1,8 @@
 //! The proved search's time beside the original's (request No. 8): in each
 //! round of one run both search the same world, turn by turn. bench/search
 //! builds and runs it; docs/SPEED.md, "The search's time", says what it prints.
-//! And the proved walk-back's time: docs/SPEED.md, "The walk-back's time".
+//! And the proved search's time in slices, and the proved walk-back's: "The search
+//! in slices" and "The walk-back's time" there.
 
 mod back;
 mod clock;
@@ -9,6 +10,7 @@ mod figures;
 mod ground;
 mod pair;
 mod proved;
+mod slices;
 mod worlds;
 mod worst;
 
@@ -122,6 +124,7 @@ fn main() -> ExitCode {
         [] => Some(all()),
         ["worst", ref names @ ..] => all_worst(names),
         ["back", ref names @ ..] => back::all(names),
+        ["slices", ref names @ ..] => slices::all(names),
         ["only", side, name, times] => alone(side, name, times),
         _ => None,
     };

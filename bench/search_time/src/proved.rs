@@ -1,6 +1,6 @@
-//! The proved search and walk-back as a server links them (include/walkprint.h):
-//! a scene in the bytes that they read, the search's rooms, and what it left in
-//! them.
+//! The proved search, whole and in slices, and the walk-back as a server links
+//! them (include/walkprint.h): a scene in the bytes that they read, the search's
+//! rooms, and what it left in them.
 
 use scene::{Answer, NODE, RawTables, Scene, WAITING, WAYPOINT};
 use walkprint::index_bytes;
@@ -31,7 +31,12 @@ pub struct Proved {
     /// Nodes, frontier, index, output.
     rooms: [Vec<u8>; 4],
     answer: [u8; 32],
+    /// Of a search in slices: number and count, and the four counts.
+    progress: [u8; 48],
 }
+
+/// The number of a search in slices that has not ended.
+pub const STILL_SEARCHING: u64 = 100;
 
 impl Proved {
     pub fn new(scene: &Scene) -> Self {
@@ -51,6 +56,7 @@ impl Proved {
             },
             rooms: sizes.map(|size| vec![0; size]),
             answer: [0; 32],
+            progress: [0; 48],
         }
     }
 
@@ -68,6 +74,41 @@ impl Proved {
                 answer,
             },
         )
+    }
+
+    /// A search in slices begun, and nothing else; its number.
+    pub fn begin(&mut self) -> u64 {
+        let [nodes, front, _, out] = &mut self.rooms;
+        raw::begin_search(&self.scene.asked(), nodes, front, out, &mut self.progress)
+    }
+
+    /// One slice of it, and nothing else; its number.
+    pub fn advance(&mut self, expansions: u64) -> u64 {
+        let counts = [16, 24, 32, 40].map(|at| scene::u64_at(&self.progress, at));
+        let [nodes, front, _, out] = &mut self.rooms;
+        let (asked, progress) = (self.scene.asked(), &mut self.progress);
+        raw::continue_search(counts, expansions, &asked, nodes, front, out, progress)
+    }
+
+    /// One search in slices of so many expansions, and nothing else; its number.
+    pub fn run_in_slices(&mut self, expansions: u64) -> u64 {
+        let mut number = self.begin();
+        while number == STILL_SEARCHING {
+            number = self.advance(expansions);
+        }
+        number
+    }
+
+    /// Retained and closed, as the last whole search answered.
+    pub fn counts(&self) -> [u64; 2] {
+        [16, 24].map(|at| scene::u64_at(&self.answer, at))
+    }
+
+    /// Whether a search in slices left what this whole one did: number, counts,
+    /// list, node records and frontier, with every byte behind them.
+    pub fn ended_as(&self, sliced: &Self) -> bool {
+        self.answer == sliced.progress[..32]
+            && [0, 1, 3].iter().all(|&k| self.rooms[k] == sliced.rooms[k])
     }
 
     /// How many points the last search's list has.
@@ -95,6 +136,7 @@ impl Proved {
             room.fill(0xa5);
         }
         self.answer = [0xa5; 32];
+        self.progress = [0xa5; 48];
     }
 
     /// Whether the last search, with this number, left what the original did:

@@ -39,6 +39,15 @@ pub fn world(name: &str) -> Option<Scene> {
         .or_else(|| worst::world(name))
 }
 
+/// Tells of each world that is named, or of the usual ones. False if one of them was
+/// answered wrongly, none if a name is no world's.
+pub fn each(names: &[&str], usual: &[&str], told: impl Fn(&str) -> Option<bool>) -> Option<bool> {
+    let names = if names.is_empty() { usual } else { names };
+    names
+        .iter()
+        .try_fold(true, |right, name| Some(right & told(name)?))
+}
+
 /// The wide world. `doors`: its air passes through, so that every edge names it.
 /// `doorways`: in every seventh column a door of two cells stands on the floor;
 /// the other edges are looked through in vain.
