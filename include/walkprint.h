@@ -408,24 +408,24 @@ uint64_t walkprint_find_path(
  *
  * `out` is no part of the search: no call reads it, and only the one that finds
  * the list writes it. It may be another slice each time, or one for many searches.
- * There is no index room: each call makes an index of its own, on some 40 KB of
- * stack.
+ * There is no index room. A point is looked up as by a scan of the node room, the
+ * first record at it; continue makes an index of its own for that, on the stack, of
+ * which it needs some 64 KB.
  *
  * What a call costs. Before its first expansion it judges the tables, as every
  * call does, and then 12, for which it passes over all of the lent `front` and over
- * the retained nodes, and it enters these in its index. Late in a search of
- * thousands of nodes that takes as long as several expansions, so a slice of one
- * expansion costs more in judging than in searching. 16 to 64 expansions a call are
- * sensible: with 16 a search takes about a quarter longer than the whole one, with
- * 64 less than a tenth. `front` need be no longer than the budget asks.
- * (docs/SPEED.md, "The search in slices", has the figures.)
+ * the retained nodes; these it also enters in its index. Late in a search of
+ * thousands of nodes that takes as long as a dozen expansions and more, so a slice
+ * of one expansion costs far more in judging than in searching. 64 to 256
+ * expansions a call are sensible. In the worlds that docs/SPEED.md times ("The
+ * search in slices"), slices of 64 make a search at most a tenth longer, slices of
+ * 16 up to 1.4 times as long, and slices of 1 two to eight times.
  *
  * Where another hand changed the rooms or the counts, continue answers 12, or it
  * makes its expansions on what it finds there: the lowest estimate first, then the
  * lowest push order, then the lower node; of two nodes at one point the first
- * answers for it; an open node that does not wait does so again, with a new
- * estimate and order, when a cheaper way to it is met; and a node at the goal ends
- * the search. Each call goes by the
+ * answers for it; an open node that does not wait does so again when a cheaper way
+ * to it is met; and a node at the goal ends the search. Each call goes by the
  * tables, the request and the body that it is lent. It ends, and writes only what
  * is said below, whatever they are; but a list that is found so need be no route.
  * walkprint_walk_back tells.
