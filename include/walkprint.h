@@ -424,11 +424,11 @@ uint64_t walkprint_find_path(
  * Where another hand changed the rooms or the counts, continue answers 12, or it
  * makes its expansions on what it finds there: the lowest estimate first, then the
  * lowest push order, then the lower node; of two nodes at one point the first
- * answers for it; an open node that does not wait does so again when a cheaper way
- * to it is met; and a node at the goal ends the search. Each call goes by the
- * tables, the request and the body that it is lent. It ends, and writes only what
- * is said below, whatever they are; but a list that is found so need be no route.
- * walkprint_walk_back tells.
+ * answers for it; an open node that does not wait does so again, with a new
+ * estimate and order, when a cheaper way to it is met; and a node at the goal ends
+ * the search. Each call goes by the tables, the request and the body that it is
+ * lent. It ends, and writes only what is said below, whatever they are; but a list
+ * that is found so need be no route. walkprint_walk_back tells.
  */
 
 /*
