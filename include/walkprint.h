@@ -415,11 +415,11 @@ uint64_t walkprint_find_path(
  * What a call costs. Before its first expansion it judges the tables, as every
  * call does, and then 12, for which it passes over all of the lent `front` and over
  * the retained nodes; these it also enters in its index. Late in a search of
- * thousands of nodes that takes as long as a dozen expansions and more, so a slice
- * of one expansion costs far more in judging than in searching. 64 to 256
+ * thousands of nodes that takes as long as some ten expansions, so a slice of one
+ * expansion costs far more in judging than in searching. 64 to 256
  * expansions a call are sensible. In the worlds that docs/SPEED.md times ("The
  * search in slices"), slices of 64 make a search at most a tenth longer, slices of
- * 16 up to 1.4 times as long, and slices of 1 two to eight times.
+ * 16 up to 1.3 times as long, and slices of 1 two to six times.
  *
  * Where another hand changed the rooms or the counts, continue answers 12, or it
  * makes its expansions on what it finds there: the lowest estimate first, then the
