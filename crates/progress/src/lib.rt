@@ -10,7 +10,8 @@ use world::Point;
 use world::Request;
 ghost use mathlib.Core.Path.{_≡_};
 ghost use mathlib.Core.Bool.{true};
-ghost use Prim.Native.Nat.{_+_, _-_, _/_, _≤_, _<_};
+ghost use Prim.Native.Nat.{_+_, _-_, _/_, _%_, _≤_, _<_};
+ghost use lib.Dec.{leb};
 ghost use lib.ListN.{length};
 ghost use Rattle.rooms.specs.Records.{entryAt};
 ghost use Rattle.rooms.specs.Scans.{firstOf, waits};
@@ -48,7 +49,9 @@ fn node_good(r: Request, nodes: &[u8], front: &[u8], k: usize) -> bool
 }
 
 // Whether a pattern is no NaN's. Where it is not, `float_of` takes it as it is.
-fn is_number(w: u64) -> bool {
+fn is_number(w: u64) -> bool
+    ensures { λ r. ⌜ r ≡ leb (w % 0x8000_0000_0000_0000) 0x7ff0_0000_0000_0000 ⌝ }
+{
     w % 0x8000_0000_0000_0000 <= 0x7ff0_0000_0000_0000
 }
 

@@ -3,7 +3,6 @@
 //! short. Begin's number must be what the original's search gives.
 
 use mutants::chance::Chance;
-use mutants::draft::scene_of;
 use mutants::states::{State, grow};
 use mutants::ticked::odd_rooms;
 use reading::{Lent, SEARCHING, Tick};
@@ -12,7 +11,7 @@ use scene::Scene;
 use crate::call::Call;
 use crate::counts::Counts;
 use crate::expected::{expected, judge};
-use crate::runner::{Makers, Mismatch, smallest};
+use crate::runner::{Makers, Mismatch, parted};
 use crate::short::{WHOLE, handed};
 use crate::sizes::{INDEX, needed};
 use crate::tables::{edited, edits};
@@ -22,16 +21,7 @@ use crate::tick::{differ, must};
 const ROOMS: usize = 4;
 
 pub fn one_scene(makers: &Makers, number: u64, counts: &mut Counts) -> Result<(), Mismatch> {
-    let Some((records, scene)) = makers.scene(number, counts) else {
-        return Ok(());
-    };
-    counts.add("scenes", 1);
-    if parts(&scene, number, counts).is_ok() {
-        return Ok(());
-    }
-    Err(smallest(records, &|records| {
-        parts(&scene_of(records)?, number, &mut Counts::default()).err()
-    }))
+    parted(makers, number, counts, parts)
 }
 
 fn parts(scene: &Scene, seed: u64, counts: &mut Counts) -> Result<(), String> {

@@ -2,7 +2,6 @@
 //! against the reading, call by call.
 
 use mutants::chance::Chance;
-use mutants::draft::scene_of;
 use mutants::states::State;
 use mutants::ticked::{Changed, go_on, states};
 use reading::Variant::ReadAsWritten;
@@ -11,20 +10,11 @@ use scene::Scene;
 
 use crate::call::Call;
 use crate::counts::Counts;
-use crate::runner::{Makers, Mismatch, smallest};
+use crate::runner::{Makers, Mismatch, parted};
 use crate::tick::compared;
 
 pub fn one_scene(makers: &Makers, number: u64, counts: &mut Counts) -> Result<(), Mismatch> {
-    let Some((records, scene)) = makers.scene(number, counts) else {
-        return Ok(());
-    };
-    counts.add("scenes", 1);
-    if parts(&scene, number, counts).is_ok() {
-        return Ok(());
-    }
-    Err(smallest(records, &|records| {
-        parts(&scene_of(records)?, number, &mut Counts::default()).err()
-    }))
+    parted(makers, number, counts, parts)
 }
 
 fn parts(scene: &Scene, seed: u64, counts: &mut Counts) -> Result<(), String> {

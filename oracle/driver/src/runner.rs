@@ -118,3 +118,26 @@ pub fn smallest(records: Vec<Record>, parts: &dyn Fn(&[Record]) -> Option<String
         scene: to_text(&write_bytes(&small)),
     }
 }
+
+/// What a command does with a whole scene, by the scene's number.
+pub type Parts = fn(&Scene, u64, &mut Counts) -> Result<(), String>;
+
+/// `parts` on the scene of a number, if it makes one; where it says something, the
+/// smallest scene on which it still does.
+pub fn parted(
+    makers: &Makers,
+    number: u64,
+    counts: &mut Counts,
+    parts: Parts,
+) -> Result<(), Mismatch> {
+    let Some((records, scene)) = makers.scene(number, counts) else {
+        return Ok(());
+    };
+    counts.add("scenes", 1);
+    if parts(&scene, number, counts).is_ok() {
+        return Ok(());
+    }
+    Err(smallest(records, &|records| {
+        parts(&scene_of(records)?, number, &mut Counts::default()).err()
+    }))
+}

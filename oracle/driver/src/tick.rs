@@ -6,7 +6,7 @@ use mutants::chance::Chance;
 use mutants::states::read;
 use reading::{Lent, Tick};
 use scene::Scene;
-use walkprint::raw::Asked;
+use walkprint::raw::{self, Asked};
 
 use crate::call::Call;
 use crate::counts::Counts;
@@ -95,85 +95,18 @@ fn after((held, room): (&&[u8], &Room)) -> Vec<u8> {
     room.after(held)
 }
 
-/// Calls a function of the interface that is handed a world, a request and a body
-/// before the rooms, and numbers before these.
-macro_rules! call {
-    ($name:ident, $handed:expr, $rooms:expr; $($number:expr),*) => {{
-        let [cells, permissions, shapes, boxes] = $handed.tables;
-        let read = [$handed.window, cells, permissions, shapes, boxes, $handed.request, $handed.body];
-        let [a, b, c, d, e, f, g] = read.map(|bytes| (bytes.as_ptr(), bytes.len()));
-        let lent = $rooms.each_mut().map(Room::lent);
-        let [h, i, j, k] = lent.map(|bytes| (bytes.as_mut_ptr(), bytes.len()));
-        unsafe {
-            $name($($number,)* a.0, a.1, b.0, b.1, c.0, c.1, d.0, d.1, e.0, e.1, f.0, f.1, g.0, g.1,
-                h.0, h.1, i.0, i.1, j.0, j.1, k.0, k.1)
-        }
-    }};
-}
-
 fn proved(handed: &Asked, asked: Tick, rooms: &mut [Room; 4]) -> u64 {
+    let [nodes, front, out, progress] = rooms.each_mut().map(Room::lent);
     match asked {
-        Tick::Begin => call!(walkprint_begin, handed, rooms;),
-        Tick::Continue(counts, expansions) => call!(
-            walkprint_continue, handed, rooms;
-            counts.retained, counts.closed, counts.pushed, counts.dropped, expansions
-        ),
+        Tick::Begin => raw::begin_search(handed, nodes, front, out, progress),
+        Tick::Continue(counts, expansions) => {
+            let counts = [
+                counts.retained,
+                counts.closed,
+                counts.pushed,
+                counts.dropped,
+            ];
+            raw::continue_search(counts, expansions, handed, nodes, front, out, progress)
+        }
     }
-}
-
-unsafe extern "C" {
-    fn walkprint_begin(
-        window: *const u8,
-        window_length: usize,
-        cells: *const u8,
-        cells_length: usize,
-        permissions: *const u8,
-        permissions_length: usize,
-        shapes: *const u8,
-        shapes_length: usize,
-        boxes: *const u8,
-        boxes_length: usize,
-        request: *const u8,
-        request_length: usize,
-        body: *const u8,
-        body_length: usize,
-        nodes: *mut u8,
-        nodes_length: usize,
-        front: *mut u8,
-        front_length: usize,
-        out: *const u8,
-        out_length: usize,
-        progress: *mut u8,
-        progress_length: usize,
-    ) -> u64;
-
-    fn walkprint_continue(
-        retained: u64,
-        closed: u64,
-        pushed: u64,
-        dropped: u64,
-        expansions: u64,
-        window: *const u8,
-        window_length: usize,
-        cells: *const u8,
-        cells_length: usize,
-        permissions: *const u8,
-        permissions_length: usize,
-        shapes: *const u8,
-        shapes_length: usize,
-        boxes: *const u8,
-        boxes_length: usize,
-        request: *const u8,
-        request_length: usize,
-        body: *const u8,
-        body_length: usize,
-        nodes: *mut u8,
-        nodes_length: usize,
-        front: *mut u8,
-        front_length: usize,
-        out: *mut u8,
-        out_length: usize,
-        progress: *mut u8,
-        progress_length: usize,
-    ) -> u64;
 }
