@@ -1,5 +1,7 @@
 // The words of a number that a call answers with, in a slice that the caller lends, so that no caller writes the table again. They are 01's names, the
 // reasons of 02, No. 3, and what a search in slices is told by No. 10, in small letters.
+#![tactic(auto)]
+
 ghost use Rattle.std.specs.Prelude.{◌≡◌, length};
 ghost use Rattle.answer_words.specs.Table.{words_of, at_start};
 ghost use Rattle.answer_words.specs.Commas.{kth, KthAt, PutWords};

@@ -1,5 +1,7 @@
 // What is done with boxes (01, "Boxes"): a box is two corners of three numbers each. One rounding per operation, in the source's order; what is done with
 // the corners is `points`. The types and the definitions are `world`'s, whose space is made of boxes.
+#![tactic(auto)]
+
 ghost use Rattle.std.specs.Prelude.{◌≡◌};
 ghost use Rattle.world.specs.Boxes.{meets, moved, cube, voxel, from_feet, expand_towards};
 

@@ -1,5 +1,7 @@
 // What a call from another language is answered: of a search its number (01, "Numbers given back"), and a record of 32 bytes in a slice that the caller lends;
 // of one in slices its number, and a record of 48 bytes (02, No. 10); the number of an edge check; and of a walk-back its number, and the place that goes with a pair's reason (02, No. 3). `walk_c` has the calls.
+#![tactic(auto)]
+
 ghost use Rattle.std.specs.Prelude.{◌≡◌};
 ghost use Rattle.moves.specs.Moves.{check_number};
 ghost use Rattle.outcomes.specs.Outcomes.{outcome_number, path_number};

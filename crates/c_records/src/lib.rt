@@ -2,6 +2,8 @@
 //
 // `question` is what is asked of a world: its window, the request and the body. `mob` is the same of a mob's search, whose policy is a number, which
 // `wishes` reads. `whole` has what becomes of records that are cut short.
+#![tactic(auto)]
+
 pub mod mob;
 pub mod question;
 pub(crate) mod whole;

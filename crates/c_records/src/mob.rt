@@ -9,7 +9,7 @@ use policy::WalkPolicy;
 use scene_records::{body_at, window_at};
 use world::{Body, Point, Window};
 
-#[derive(Drop)]
+#[derive(Clone, Copy)]
 pub struct Mob {
     pub policy: WalkPolicy,
     pub in_water: bool,

@@ -8,7 +8,7 @@ use crate::whole::{all_whole, nowhere};
 use scene_records::{body_at, window_at};
 use world::{Body, Request, Window, point_at};
 
-#[derive(Drop)]
+#[derive(Clone, Copy)]
 pub struct Question {
     pub window: Window,
     pub request: Request,

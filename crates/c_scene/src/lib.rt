@@ -1,5 +1,7 @@
 // What reading a scene answers, for a call from another language: its number (01, "Numbers given back"), and a record in a slice that the caller lends.
 // `made` writes the record of a whole scene; `walk_c` has the call.
+#![tactic(auto)]
+
 pub(crate) mod made;
 
 ghost use Rattle.std.specs.Prelude.{◌≡◌};

@@ -1,4 +1,6 @@
 // Floats as cell numbers (01, Numbers): floor and ceiling in the range of an i32, saturating, NaN to 0; and a cell number as a float.
+#![tactic(auto)]
+
 ghost use Rattle.std.specs.Prelude.{◌≡◌};
 ghost use Rattle.std.specs.Float.{binary64};
 ghost use Rattle.std.specs.Float.Ieee.{of_int};

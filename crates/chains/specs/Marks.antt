@@ -56,8 +56,8 @@ sound_none a n k d = absurd (d (blank n k))
     blank (suc n) (suc k) = blank n k
 
 -- one node more is marked
-pub marks_more : (a done : List ℕ) (at : ℕ) → Reaches a at → MarksSound a done → MarksSound a (set done at 1)
-marks_more a done at r s k d = ⊎_elim (λ e. rw (eqb-true k at e) r) (λ e. s k (rw (get_or-set_other done at k 1 0 (eqb-false k at e)) at d)) (true_or_false (eqb k at))
+pub sound_more : (a done : List ℕ) (at : ℕ) → Reaches a at → MarksSound a done → MarksSound a (set done at 1)
+sound_more a done at r s k d = ⊎_elim (λ e. rw (eqb-true k at e) r) (λ e. s k (rw (get_or-set_other done at k 1 0 (eqb-false k at e)) at d)) (true_or_false (eqb k at))
 
 -- ---- the ways out of `settle`
 

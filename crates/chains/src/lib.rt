@@ -2,6 +2,8 @@
 //
 // `chains_end` answers for every room and every number of nodes. Each node is passed once: a chain is followed up to a node from which the start is known to be
 // reached, and its nodes are marked then. The marks are the function's own; no room is written.
+#![tactic(auto)]
+
 ghost use Rattle.std.specs.Prelude.{◌≡◌, true, ◌≢◌, ◌≤◌, ◌<◌};
 ghost use Rattle.rooms.specs.Records.{node_at};
 ghost use Rattle.chains.specs.Chains.{good_parent, parent_back, each_below, ends_at_start, good_chains};

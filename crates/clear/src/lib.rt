@@ -1,5 +1,7 @@
 // Clear areas (01, The graph): whether a body fits into an area, by the boxes and the permissions of the cells that it reaches, and which door it meets there. The
 // door (02, No. 5) is found by the same pass: the cells come in the clear check's y, x, z order.
+#![tactic(auto)]
+
 ghost use Rattle.std.specs.Prelude.{◌≡◌, cond, map};
 ghost use Rattle.regions.specs.Regions.{cells_of};
 ghost use Rattle.world.specs.declared.Aabb.{Aabb};
@@ -13,7 +15,7 @@ use regions::Region;
 use world::{Aabb, Cell, Found, NO_DOOR, Point, Window};
 
 // What a corridor area is to a body: whether it is clear, and its door.
-#[derive(Drop)]
+#[derive(Clone, Copy)]
 pub struct Corridor {
     pub clear: bool,
     pub door: u32,

@@ -1,4 +1,6 @@
 // How the end of a run of the search becomes its answer (01, "Search"): the outcome, the counts, the list written, and the frontier room all zero.
+#![tactic(auto)]
+
 ghost use Rattle.std.specs.Prelude.{◌≡◌, length, replicate};
 ghost use Rattle.rooms.specs.Lists.{written};
 ghost use Rattle.outcomes.specs.Outcomes.{answer_given, counts_of, list_in, end_at, answer_of};
@@ -45,5 +47,5 @@ pub fn goes_on(front: &[u8], turn: Turn) -> bool
         return false;
     };
     let n = c.retained;
-    scans::first_waiting(front, 0, n) < n
+    scans::pick(front, 0, n) < n
 }

@@ -1,4 +1,6 @@
 // Costs and estimates, as the patterns of f64 (01: "Estimate = cost + 1.5 × distance to goal"; "sums run in the source's order").
+#![tactic(auto)]
+
 ghost use Rattle.std.specs.Prelude.{◌≡◌};
 ghost use Rattle.costs.specs.Costs.{apart, cost_by, estimate_by, cheaper, pushed_as, lowered};
 

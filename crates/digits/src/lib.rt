@@ -1,5 +1,7 @@
 // Numbers in digits, written into a lent buffer (01, "Scenes and walkprint"): bits in 16 hexadecimal digits, counts in decimal. Each is a field of a
 // line, with the byte that ends it. A field has at most 21 bytes: where the buffer has fewer left it stays as it was, and so does the offset.
+#![tactic(auto)]
+
 ghost use Rattle.std.specs.Prelude.{◌≡◌, ◌+◌, ◌≤◌, ◌<◌, leb};
 ghost use Rattle.digits.specs.Digits.{digit, digits, places, hex, decimal};
 ghost use Rattle.digits.specs.Writing.{with_field, behind};

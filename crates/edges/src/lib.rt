@@ -1,6 +1,8 @@
 // Edges: from one standing point to another (01, The graph: "Edge", "Connector"), and where there is none the first reason (02, No. 3).
 //
 // How a body moves by a difference in height is `moves`, where it may stand `places`, whether the way is free `ways`.
+#![tactic(auto)]
+
 ghost use Rattle.std.specs.Prelude.{◌≡◌};
 ghost use Rattle.world.specs.Space.{space};
 ghost use Rattle.moves.specs.Moves.{edge_given, check_given};

@@ -1,5 +1,7 @@
 // The ends of a search (01, "Numbers given back", Search order: "goal in range, start standable, goal standable"), as the search asks for them; the walk-back asks
 // for one after the other, to tell which is bad, and takes its laws.
+#![tactic(auto)]
+
 ghost use Rattle.std.specs.Prelude.{◌≡◌};
 ghost use Rattle.world.specs.Space.{space};
 ghost use Rattle.ends.specs.Ends.{ends_good};

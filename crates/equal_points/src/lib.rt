@@ -1,4 +1,6 @@
 // Which points are the same (01: "Same point: equal bits, with -0.0 as 0."), on the words of records.
+#![tactic(auto)]
+
 ghost use Rattle.std.specs.Prelude.{◌≡◌};
 ghost use Rattle.rooms.specs.Waypoints.{canonical_word, same_word, same_point};
 

@@ -1,5 +1,7 @@
 // Little-endian fields of byte tables (01, Tables): reads at an offset, total. Where a field does not fit, a read gives 0. The writes are the crate
 // `stores`; the definitions and the laws of both stand here.
+#![tactic(auto)]
+
 ghost use Rattle.std.specs.Prelude.{◌≡◌, ◌+◌, ◌≤◌, leb, length};
 ghost use Rattle.fields.specs.Little.{field, signed_field, float_field};
 

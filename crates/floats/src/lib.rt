@@ -1,4 +1,6 @@
 // Floats (01, Numbers): bit patterns, the smaller, the larger, the size, E. Every function is total, NaN included.
+#![tactic(auto)]
+
 ghost use Rattle.std.specs.Prelude.{◌≡◌};
 ghost use Rattle.std.specs.Float.{binary64};
 ghost use Rattle.std.specs.Float.Ieee.{of_bits, to_bits};

@@ -9,7 +9,7 @@ use crate::{Band, Height, is_beyond};
 use world::Window;
 
 // So many tops at the front of a room, and the place of the one that is next. A batch that is as long as its room may have left tops out.
-#[derive(Drop)]
+#[derive(Clone, Copy)]
 pub struct Batch {
     pub count: usize,
     pub at: usize,

@@ -1,6 +1,8 @@
 // The heights of a column (01, The graph, "Graph step"): the box tops that a step may go to, smallest first.
 //
 // Which tops count is here; `lowest` has the lowest so many of them, in one pass over a column's cells, and `batches` goes through a column by such passes.
+#![tactic(auto)]
+
 mod batches;
 mod lowest;
 
@@ -14,14 +16,14 @@ pub use lowest::lowest_tops;
 use world::{Aabb, Window};
 
 // The tops that a step may go to lie from low to high.
-#[derive(Drop)]
+#[derive(Clone, Copy)]
 pub struct Band {
     pub low: f64,
     pub high: f64,
 }
 
 // A height of a column, or none.
-#[derive(Drop)]
+#[derive(Clone, Copy)]
 pub enum Height {
     At(f64),
     None,

@@ -5,6 +5,8 @@
 // was entered. So whoever looks for a point goes from the point's own slot on, until a node there is at the point or a slot is free. Nodes are entered in the
 // order of their numbers, before each expansion; those that an expansion retains are not entered yet, and are scanned. Every public function answers for
 // every room. `size` says which rooms are refused.
+#![tactic(auto)]
+
 mod size;
 
 ghost use Rattle.std.specs.Prelude.{◌≡◌, ◌-◌, ◌<◌, length};

@@ -1,4 +1,6 @@
 // Standard input, piece by piece (01, "walkprint reads a scene on standard input"), for `print` and the programs of the gate. What comes in no contract can say; how much, `take` says.
+#![tactic(auto)]
+
 ghost use Rattle.std.specs.Prelude.{◌≤◌};
 ghost use Rattle.io.specs.Counts.{IsPrefixLen};
 

@@ -1,4 +1,6 @@
 // The height of a jump, tick by tick (01, Policy: "Only the jump apex, a call of its own, gives 6").
+#![tactic(auto)]
+
 ghost use Rattle.std.specs.Prelude.{◌≡◌};
 ghost use Rattle.jump.specs.Answers.{apex_answer};
 ghost use Rattle.jump.specs.Jump.{jump_apex};
@@ -10,7 +12,7 @@ const LIVING_VERTICAL_DRAG: f64 = 0.98;
 const TICKS: u32 = 65536;
 
 // What a jump answers: how many blocks it gains, or that it does not come to rest (6).
-#[derive(Drop)]
+#[derive(Clone, Copy)]
 pub enum Apex {
     Height(f64),
     Endless,

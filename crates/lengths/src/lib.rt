@@ -1,5 +1,7 @@
 // The length of a list of waypoint records, as a body goes: of each edge its lift, its way across, and its way up or down from there (01, "Scenes and walkprint";
 // 02, No. 2).
+#![tactic(auto)]
+
 ghost use Rattle.std.specs.Prelude.{◌≡◌, ◌≤◌, length};
 ghost use Rattle.std.specs.Float.{binary64};
 ghost use Rattle.std.specs.Float.Ieee.{add};
@@ -8,7 +10,7 @@ ghost use Rattle.lengths.specs.Length.{stop_at, edge_length, length_of};
 use world::Point;
 
 // A stop of a list: a record's feet, and how far the edge to it lifts.
-#[derive(Drop)]
+#[derive(Clone, Copy)]
 pub struct Stop {
     pub feet: Point,
     pub lift: f64,

@@ -1,5 +1,7 @@
 // How the records of a list that is walked back (01, Modules 5) compare with the start, an edge and the goal (01, The graph, "Same point"), and whether the list is
 // a bad one (02, No. 3).
+#![tactic(auto)]
+
 ghost use Rattle.std.specs.Prelude.{◌≡◌};
 ghost use Rattle.rooms.specs.Waypoints.{same_point, alike};
 ghost use Rattle.words.specs.Words.{feet_of, label_of};

@@ -1,4 +1,6 @@
 // The found list (01, "Tables"; waypoint records have 48 bytes by 02, No. 5): the nodes back from the last one over their parents, written from its end.
+#![tactic(auto)]
+
 ghost use Rattle.std.specs.Prelude.{◌≡◌, ◌*◌, ◌≤◌, length, drop};
 ghost use mathlib.Core.List.{[], ◌∷◌, ◌++◌, reverse_aux};
 ghost use Rattle.rooms.specs.Lists.{walk, list_bytes, Listed};

@@ -1,5 +1,7 @@
 // What a mob's search asks (01, Policy: "`find_path` asks range 16, budget 2,048, drop 3, the body's step, and the policy's jump height or 0 if it can't
 // jump"). `find_path` has the search.
+#![tactic(auto)]
+
 ghost use Rattle.std.specs.Prelude.{◌≡◌};
 ghost use Rattle.mob_request.specs.Asked.{request_of};
 

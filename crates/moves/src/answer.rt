@@ -5,7 +5,7 @@ ghost use Rattle.moves.specs.Moves.{movement_number, reason_number};
 
 use world::Point;
 
-#[derive(Drop)]
+#[derive(Clone, Copy)]
 pub enum Movement {
     Walk,
     Step,
@@ -14,14 +14,14 @@ pub enum Movement {
 }
 
 // A kind of movement and its lift, or none.
-#[derive(Drop)]
+#[derive(Clone, Copy)]
 pub enum Moving {
     By(Movement, f64),
     None,
 }
 
 // The point that an edge leads to, how a body comes there, and the door that it meets on the way (02, No. 5): a state's number, or 4294967295.
-#[derive(Drop)]
+#[derive(Clone, Copy)]
 pub struct Waypoint {
     pub feet: Point,
     pub lift: f64,
@@ -29,14 +29,14 @@ pub struct Waypoint {
     pub door: u64,
 }
 
-#[derive(Drop)]
+#[derive(Clone, Copy)]
 pub enum EdgeAnswer {
     To(Waypoint),
     Nowhere,
 }
 
 // Why there is no edge (02, No. 3): the first of the checks that fails, in 01's order.
-#[derive(Drop)]
+#[derive(Clone, Copy)]
 pub enum Reason {
     TooHigh,
     TooDeep,
@@ -50,7 +50,7 @@ pub enum Reason {
 }
 
 // What the edge check answers: the waypoint that the edge leads to, or why there is none.
-#[derive(Drop)]
+#[derive(Clone, Copy)]
 pub enum EdgeCheck {
     Passes(Waypoint),
     Fails(Reason),

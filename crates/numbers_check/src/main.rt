@@ -1,5 +1,7 @@
 // Roots, distances, floors, ceilings, policies and jumps (01, Numbers, Policy) against stored answers: a line a record of standard input, with a digest of all that the record asks
 // for. Rust's own arithmetic and the original say what it must print (oracle/README.md, `store`).
+#![tactic(auto)]
+
 mod digest;
 mod jumps;
 mod numbers;

@@ -4,7 +4,7 @@ use root::Root;
 use std::num::wrapping_add_u64;
 
 // The digest so far, the last word of the row, what is added to the next number's pattern, and the two numbers before it.
-#[derive(Drop)]
+#[derive(Clone, Copy)]
 struct Row {
     digest: u64,
     word: u64,

@@ -1,5 +1,7 @@
 // The begin of a search in slices (02, No. 10: "Begin makes 01's checks, zeroes the frontier room and retains the start"). `continue_search` of the crate `search`
 // goes on from there. It needs no expansion, so it stands apart from that crate, whose checks are long.
+#![tactic(auto)]
+
 ghost use Rattle.std.specs.Prelude.{◌≡◌};
 ghost use Rattle.world.specs.Space.{space};
 ghost use Rattle.outcomes.specs.Ticks.{Gives, GoesFrom};

@@ -1,11 +1,13 @@
 // What a search answers (01, "Numbers given back"): without a search, or where it found no list. How a list is told is the crate `conclusion`.
+#![tactic(auto)]
+
 ghost use Rattle.std.specs.Prelude.{◌≡◌};
 ghost use Rattle.outcomes.specs.Outcomes.{outcome_number, answer_given, unsearched, counts_of, end_quiet, answer_of};
 
 use rooms::{Counts, Label};
 
 // 01's outcomes of a search, 0 to 5.
-#[derive(Drop)]
+#[derive(Clone, Copy)]
 pub enum Outcome {
     Found,
     Unreachable,
@@ -16,7 +18,7 @@ pub enum Outcome {
 }
 
 // The outcome, how many points the list has that was written, and how many nodes were retained and closed: all 0 where no search began.
-#[derive(Drop)]
+#[derive(Clone, Copy)]
 pub struct Answer {
     pub outcome: Outcome,
     pub count: usize,
@@ -25,14 +27,14 @@ pub struct Answer {
 }
 
 // What a mob's search answers: the search's answer (0 to 5), or that the flag and permission tables differ in length (8).
-#[derive(Drop)]
+#[derive(Clone, Copy)]
 pub enum Path {
     Searched(Answer),
     BadTable,
 }
 
 // What one expansion comes to: nothing waits; the search goes on; the list ends at a node; or by a connector from there, with its label.
-#[derive(Drop)]
+#[derive(Clone, Copy)]
 pub enum Turn {
     Rest(Counts),
     Going(Counts),
@@ -42,7 +44,7 @@ pub enum Turn {
 
 // What a search in slices answers (02, No. 10): a refusal of 01's; 12 BadProgress; still searching, with the counts; or its end: the outcome, how many points
 // the list has that was written, and the counts.
-#[derive(Drop)]
+#[derive(Clone, Copy)]
 pub enum Tick {
     Refused(Outcome),
     BadProgress,

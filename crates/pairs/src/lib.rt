@@ -2,6 +2,8 @@
 //
 // The columns and their heights are gone through as an expansion goes through them, since diagonals wait for the answers of the sides; the first edge that
 // leads to the record ends it.
+#![tactic(auto)]
+
 ghost use Rattle.std.specs.Prelude.{◌≡◌, []};
 ghost use Rattle.exploration.specs.Lists.{has};
 ghost use Rattle.exploration.specs.WalkBack.{joined};
@@ -23,7 +25,7 @@ use world::{Body, Point, Request, Window};
 
 // Why a pair is none of the graph's: it has no edge; its edge is no graph step nor, at the last pair, a connector; or the record's movement, lift or door is not
 // its edge's.
-#[derive(Drop)]
+#[derive(Clone, Copy)]
 pub enum PairFault {
     NoEdge(Reason),
     NotAStep,
@@ -42,7 +44,7 @@ pub fn pair_number(fault: PairFault) -> u64
 }
 
 // What a column says: whether an edge of it leads to the record, and where none does whether one of them is level.
-#[derive(Drop)]
+#[derive(Clone, Copy)]
 struct Looked {
     pub met: bool,
     pub level: bool,

@@ -1,4 +1,6 @@
 // Places: which points are in range, and at which a body may stand (01, The graph: "In range", "standable").
+#![tactic(auto)]
+
 ghost use Rattle.std.specs.Prelude.{◌≡◌};
 ghost use Rattle.world.specs.Space.{space};
 ghost use Rattle.places.specs.Places.{near, in_range, standable};

@@ -1,4 +1,6 @@
 // What is done with points (01, "Boxes"), axis by axis, one rounding per operation. The type and the definitions are `world`'s.
+#![tactic(auto)]
+
 ghost use Rattle.std.specs.Prelude.{◌≡◌};
 ghost use Rattle.world.specs.Boxes.{corner, plus, minus, span};
 

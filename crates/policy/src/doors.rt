@@ -1,5 +1,5 @@
 // How a walk meets a block state that may be a door (01, Policy).
-#[derive(Drop)]
+#[derive(Clone, Copy)]
 pub enum Passage {
     // No door, or one that is left as it stands: only its boxes count.
     Shape,

@@ -22,7 +22,7 @@ const CROSSED: u8 = OCCUPIED + SUPPORT;
 const WALLED: u8 = SUPPORT + COLLIDES;
 
 // What a mob may be in, stand on and go through.
-#[derive(Drop)]
+#[derive(Clone, Copy)]
 pub struct WalkPolicy {
     pub avoid_water: bool,
     pub avoid_damage_blocks: bool,
@@ -37,7 +37,7 @@ pub struct WalkPolicy {
 
 // What filling a permission table answers: the whole of it is filled, or its length is another than
 // the flag table's (8).
-#[derive(Drop)]
+#[derive(Clone, Copy)]
 pub enum Filled {
     Whole,
     BadTable,

@@ -1,10 +1,12 @@
 // What walkprint tells of a scene, and its lines (01, "Scenes and walkprint").
+#![tactic(auto)]
+
 ghost use Rattle.std.specs.Prelude.{◌≡◌};
 ghost use Rattle.report.specs.Lines.{in_buffer, count_in};
 ghost use Rattle.print_lines.specs.Lines.{line_of};
 
 // The number given back, the record that a refusal names, how many waypoints the list has, how many nodes were retained and closed, and the length.
-#[derive(Drop)]
+#[derive(Clone, Copy)]
 pub struct Told {
     pub number: u64,
     pub bad: u64,

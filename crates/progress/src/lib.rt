@@ -3,8 +3,11 @@
 //
 // `good_progress` answers for every input, and in a time that grows with the retained nodes and the frontier room: the counts are judged first and alone, so that
 // no loop goes over nodes that no search can have. It is asked where the request is valid and not too large, and the rooms have the budget's records.
-ghost use Rattle.std.specs.Prelude.{◌≡◌, true, ◌/◌, ◌%◌, ◌≤◌, ◌<◌, leb, length};
+#![tactic(auto)]
+
+ghost use Rattle.std.specs.Prelude.{◌≡◌, true, ◌+◌, ◌-◌, ◌/◌, ◌%◌, ◌≤◌, ◌<◌, leb, length};
 ghost use Rattle.rooms.specs.Records.{entry_at};
+ghost use Rattle.rooms.specs.Scans.{first_of, waits};
 ghost use Rattle.scans.specs.Laws.{Idle};
 ghost use Rattle.chains.specs.Chains.{each_below};
 ghost use Rattle.progress.specs.Progress.{good_counts, good_node, good_wait, good_progress};
@@ -111,29 +114,59 @@ fn wait_good(nodes: &[u8], front: &[u8], n: usize, k: usize) -> bool
     (entry.waiting != 1) | ((k < n) & (node.closed == 0) & estimate)
 }
 
-// Every whole record of the room is asked: begin zeroes all of it, and so does the end. Those that do not wait are passed over, for most do not; none before
-// `from` does.
-fn waits_good(nodes: &[u8], front: &[u8], n: usize, from: usize) -> bool
-    requires { Idle (entry_at front.now) 0 from }
+// Whether none of the four frontier records from k on waits.
+fn four_idle(front: &[u8], k: usize) -> bool
+    requires { k < 4294967296 }
+    ensures { result ≡ true → Idle (entry_at front.now) k (k + 4) }
+{
+    let at = 24 * k;
+    let p = fields::u64_at(front, at + 16);
+    let q = fields::u64_at(front, at + 40);
+    let r = fields::u64_at(front, at + 64);
+    let s = fields::u64_at(front, at + 88);
+    (p != 1) & (q != 1) & (r != 1) & (s != 1)
+}
+
+// Passes over records that do not wait, four at a time: the room is mostly past the retained nodes. In a room that has not n records it passes over none.
+fn pass_idle(front: &[u8], from: usize, n: usize) -> usize
+    requires { from ≤ n }
+    ensures { Idle (entry_at front.now) from result × (result ≤ n) }
+{
+    let border = n % NODES;
+    let mut i = from;
+    if border < from {
+        return i;
+    }
+    if 24 * border <= front.len() {
+        while i + 4 <= border && four_idle(front, i) {
+            i += 4;
+        }
+    }
+    i
+}
+
+// The first record that waits among those from `from` to n - 1; if none does, n.
+fn next_wait(front: &[u8], from: usize, n: usize) -> usize
+    requires { from ≤ n }
+    ensures { result ≡ first_of (λ k. waits (entry_at front.now k)) from (n - from) }
+{
+    let i = pass_idle(front, from, n);
+    scans::first_waiting(front, i, n)
+}
+
+// Every whole record of the room is asked: begin zeroes all of it, and so does the end. Those that do not wait are passed over, for most do not.
+fn waits_good(nodes: &[u8], front: &[u8], n: usize) -> bool
     ensures { result ≡ each_below (good_wait nodes.now front.now n) (length front.now / 24) }
 {
     let m = front.len() / 24;
-    let mut k = from;
+    let mut k = next_wait(front, 0, m);
     while k < m {
         if !wait_good(nodes, front, n, k) {
             return false;
         }
-        k = scans::first_waiting(front, k + 1, m);
+        k = next_wait(front, k + 1, m);
     }
     true
-}
-
-// How many records to look through for one that waits: n, and all that the room has.
-fn looked_through(front: &[u8], n: usize) -> usize
-    ensures { n ≤ result }
-{
-    let whole = front.len() / 24;
-    if n < whole { whole } else { n }
 }
 
 pub fn good_progress(r: Request, nodes: &[u8], front: &[u8], c: Counts, expansions: u64) -> bool
@@ -145,8 +178,7 @@ pub fn good_progress(r: Request, nodes: &[u8], front: &[u8], c: Counts, expansio
     }
     let placed = nodes_good(r, nodes, front, n);
     let linked = chains::chains_end(nodes, n);
-    // one look for both: where the first that waits is tells whether some node does, and those before it need not be looked at again
-    let first = scans::first_waiting(front, 0, looked_through(front, n));
-    let waiting = waits_good(nodes, front, n, first);
-    placed & linked & (first < n) & waiting
+    let some = next_wait(front, 0, n) < n;
+    let waiting = waits_good(nodes, front, n);
+    placed & linked & some & waiting
 }

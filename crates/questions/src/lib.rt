@@ -1,12 +1,14 @@
 // What is judged before a question about a world is answered (01, Modules 5: "3; `valid_request` (else no); 4, the budget not read"): once, for the
 // walk-back and for one edge. A search also judges its budget and its rooms, which is `refusals`.
+#![tactic(auto)]
+
 ghost use Rattle.std.specs.Prelude.{◌≡◌};
 ghost use Rattle.questions.specs.Questions.{judgement_number, question_number};
 
 use world::{Body, Request, Window};
 
 // 3 BadWorld, an invalid request, 4 TooLarge, or that the question is answered.
-#[derive(Drop)]
+#[derive(Clone, Copy)]
 pub enum Judgement {
     BadWorld,
     Invalid,

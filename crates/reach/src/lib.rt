@@ -1,6 +1,8 @@
 // A point that a step reaches (01, "Search"): a new one is retained while there is room and else counted as dropped, an open one may be re-parented.
 //
 // `visit` answers for every input. Where the rooms are too small for the budget, or the counts are no counts of such a search, it leaves all as it is.
+#![tactic(auto)]
+
 ghost use Rattle.std.specs.Prelude.{◌≡◌, ◌+◌, ◌*◌, ◌≤◌, ◌<◌, length};
 ghost use Rattle.rooms.specs.Records.{node_at};
 ghost use Rattle.rooms.specs.Rooms.{nobody};

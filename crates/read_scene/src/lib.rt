@@ -1,5 +1,7 @@
 // A whole scene in one slice (01, "Scenes and walkprint"): its 64-byte records are taken in one behind another. A last partial one is handed on as it is,
 // and is bad at its own number.
+#![tactic(auto)]
+
 ghost use Rattle.std.specs.Prelude.{◌≡◌, ◌<◌, length};
 ghost use Rattle.scene_state.specs.Answers.{scene_answer};
 ghost use Rattle.read_scene.specs.Whole.{record_count, record_at, read};

@@ -1,4 +1,6 @@
 // A record of words written in a table (01, "Tables, little-endian records"): all of it, or nothing where not all of it fits.
+#![tactic(auto)]
+
 ghost use Rattle.std.specs.Prelude.{◌≡◌};
 ghost use Rattle.fields.specs.Records.{with_words};
 

@@ -1,5 +1,7 @@
 // Whether a search begins (01, "Numbers given back": "Search order") or is continued (02, No. 10): every answer that comes before the first expansion, but for
 // 12, which is `progress`.
+#![tactic(auto)]
+
 ghost use Rattle.std.specs.Prelude.{◌≡◌};
 ghost use Rattle.refusals.specs.Refusals.{without_call, without_search, number_if, judged_number};
 
@@ -7,7 +9,7 @@ use outcomes::Outcome;
 use world::{Body, Request, Window};
 
 // The answer without a search, or that the search begins.
-#[derive(Drop)]
+#[derive(Clone, Copy)]
 pub enum Judged {
     Refused(Outcome),
     Begins,

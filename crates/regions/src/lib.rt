@@ -2,13 +2,15 @@
 //
 // 01 names such cells from floor(min) to ceil(max) - 1, or to the floor of the span's high end, and in y some layers below the span's low end. One loop goes
 // through the cells of a region: it begins with `first_in`, and goes on with `next_in` as long as the cursor says that there is a cell.
+#![tactic(auto)]
+
 ghost use Rattle.std.specs.Prelude.{◌≡◌, pos, ◌-ℤ◌};
 ghost use Rattle.cells.specs.Cells.{floor_cell, ceil_cell};
 ghost use Rattle.regions.specs.Ranges.{range};
 ghost use Rattle.regions.specs.Regions.{first_in, next_in};
 
 // The cells along an axis: none where the last one is below the first.
-#[derive(Drop)]
+#[derive(Clone, Copy)]
 pub struct Range {
     pub first: i64,
     pub last: i64,
@@ -33,7 +35,7 @@ pub fn floors(low: f64, high: f64, below: u8) -> Range
 }
 
 // A range on each axis. Its cells come layer by layer along y, in a layer row by row along z, in a row cell by cell along x, as the cell table has them.
-#[derive(Drop)]
+#[derive(Clone, Copy)]
 pub struct Region {
     pub ys: Range,
     pub zs: Range,
@@ -41,7 +43,7 @@ pub struct Region {
 }
 
 // The numbers of a cell.
-#[derive(Drop)]
+#[derive(Clone, Copy)]
 pub struct Spot {
     pub x: i64,
     pub y: i64,
@@ -49,7 +51,7 @@ pub struct Spot {
 }
 
 // The cell that is next, if there is more.
-#[derive(Drop)]
+#[derive(Clone, Copy)]
 pub struct Cursor {
     pub at: Spot,
     pub more: bool,

@@ -1,6 +1,8 @@
 // Prints scenes as walkprint does, reads scenes, and asks the proved functions about them, all from standard input (oracle/README.md, `store`). A case prints
 // a line: a digest of all that was answered and left in the tables and rooms. What it must print is what the original answers; scenes/replay.lst names the
 // cases.
+#![tactic(auto)]
+
 mod asked;
 mod case;
 mod digest;

@@ -7,7 +7,7 @@ ghost use Rattle.report.specs.Words.{letters, spell, Spells};
 const SPACE: u8 = 32;
 
 // So many letters of the text, from one on.
-#[derive(Drop)]
+#[derive(Clone, Copy)]
 pub(crate) struct Word {
     pub(crate) from: usize,
     pub(crate) size: usize,

@@ -1,5 +1,7 @@
 // What a search may be asked (01, "Numbers given back"): `valid_request`, and 4 TooLarge. Each number is compared as a number, so a NaN is never
 // within a border. Every function answers for every request and body.
+#![tactic(auto)]
+
 ghost use Rattle.std.specs.Prelude.{◌≡◌};
 ghost use Rattle.request.specs.Request.{limit, within, valid_request, sizes_too_large, too_large};
 

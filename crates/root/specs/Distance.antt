@@ -1,9 +1,10 @@
 -- The square root of IEEE 754, which answers every number, and the distance that is made with it. Document 01: "distance is the root of x² + y² + z² summed left to right".
 -- Definitions only; `Laws` shows that it is the root of `Root` (`square_root_right`).
-use mathlib.Core.Bool.{true, false}
-use lib.Ieee.{Float, nan, inf, fin, binary64, add, mul}
-use Rattle·root·specs.specs.Root.{Given, value, refusal}
-use Rattle·root·specs.specs.Method.{answer}
+use Rattle.std.specs.Prelude.{true, false, Float}
+use Rattle.std.specs.Float.{nan, inf, fin, binary64}
+use Rattle.std.specs.Float.Ieee.{add, mul}
+use Rattle.root.specs.Root.{Given, value, refusal}
+use Rattle.root.specs.Method.{answer}
 
 -- The value, and NaN for a refusal.
 abbrev pub orNan : Given → Float

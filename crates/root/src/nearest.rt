@@ -7,18 +7,19 @@
 //
 // No root lies half way between two f64: in step 3 it would be whole and odd, and so would be its
 // square, which ends in zeros.
+ghost use Rattle.std.specs.Prelude.{◌≡◌, ◌*◌, ◌^◌, ◌<◌, T};
+ghost use Rattle.std.specs.Float.{binary64};
+ghost use Rattle.std.specs.Float.Ieee.{of_bits};
+ghost use Rattle.std.specs.Float.Ieee.Positive.{positive};
+ghost use Rattle.root.specs.Method.{Scaled, rootOf};
+
 use crate::whole;
-ghost use mathlib.Core.Path.{_≡_};
-ghost use Prim.Native.Nat.{_*_, _^_, _<_};
-ghost use lib.Dec.{T};
-ghost use lib.Ieee.{binary64, ofBits};
-ghost use lib.Ieee.Positive.{positive};
-ghost use Rattle·root·specs.specs.Method.{Scaled, rootOf};
 
 // The weight of the exponent's field in a bit pattern, and of the digit that a pattern leaves out: 2^52.
 const LEAD: u64 = 0x10_0000_0000_0000;
 
 // m * 2^e, in units of 2^-2148.
+#[derive(Clone, Copy)]
 struct Parts {
     m: u64,
     e: u64,
@@ -26,8 +27,8 @@ struct Parts {
 
 // The nearest f64 to the root of an x above 0.
 pub(crate) fn nearest_root(x: f64) -> f64
-    requires { ⌜ T (positive x) ⌝ }
-    ensures { λ r. ⌜ r ≡ rootOf x ⌝ }
+    requires { T (positive x) }
+    ensures { result ≡ rootOf x }
 {
     let b = f64::to_bits(x);
     let s = scaled(b);
@@ -43,8 +44,8 @@ pub(crate) fn nearest_root(x: f64) -> f64
 // The number above 0 with the pattern b. A subnormal one, whose exponent's field is 0, is shifted
 // until it has 53 digits.
 fn scaled(b: u64) -> Parts
-    requires { ⌜ (0 < b) × (b < 2047 * 2 ^ 52) ⌝ }
-    ensures { λ r. ⌜ Scaled (ofBits binary64 b) (r .m) (r .e) ⌝ }
+    requires { (0 < b) × (b < 2047 * 2 ^ 52) }
+    ensures { Scaled (of_bits binary64 b) result.m result.e }
 {
     let field = b / LEAD;
     let digits = b % LEAD;

@@ -24,16 +24,16 @@
 //
 // So root * root is not too large, and (root + 1) * (root + 1) is: that is root * root + 2 * root + 1,
 // and the rest is smaller than 2 * root + 1. When all digits are taken, root is the whole part.
-ghost use Prim.Native.Nat.{_*_, _^_, _<_};
-ghost use Rattle·root·specs.specs.Method.{Whole};
+ghost use Rattle.std.specs.Prelude.{◌*◌, ◌^◌, ◌<◌};
+ghost use Rattle.root.specs.Method.{Whole};
 
 // The whole part of the root of m * 2^54: of m's 54 digits with 54 zeros behind them, in 54 turns.
 // `number` has the digits that are not taken yet at the left end of its 64 places; each shift to the
 // left brings two zeros in at the right. Root and rest lose none by their shifts: they stay below 2^54
 // and 2^55.
 pub(crate) fn whole_root(m: u64) -> u64
-    requires { ⌜ m < 2 ^ 54 ⌝ }
-    ensures { λ r. ⌜ Whole (m * 2 ^ 54) r ⌝ }
+    requires { m < 2 ^ 54 }
+    ensures { Whole (m * 2 ^ 54) result }
 {
     let mut number = m << 10;
     let mut rest: u64 = 0;

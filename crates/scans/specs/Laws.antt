@@ -1,13 +1,10 @@
 -- The scans, turn by turn.
-use Rattle.std.specs.Prelude.{◌≡◌, refl, ◌⊎◌, Bool, true, false, ◌||◌, cond, List, ℕ, zero, suc, ◌+◌, ◌-◌, ◌*◌, ◌≤◌, ◌<◌, eqb, ltb}
+use Rattle.std.specs.Prelude.{◌≡◌, refl, ◌⊎◌, Bool, true, false, ◌||◌, List, ℕ, zero, suc, ◌+◌, ◌-◌, ◌*◌, ◌≤◌, ◌<◌, eqb, ltb}
 use Rattle.std.proofs.Common.{sym, ap, subst, ◌∙◌, inl, inr, ⊎_elim, arith, zero-add, add-zero, add-one}
 use Rattle.std.proofs.Math.Option.{Option, none, some}
 use borrow.Author.Tests.{eq-eqb, ne_eqb, lt-ltb, le-ltb, ltb-true, ltb-false}
 use Rattle.exploration.specs.Choose.{choose, scan, keep}
-use Rattle.exploration.specs.Lists.{nth}
 use Rattle.exploration.specs.Laws.Loops.{scan_snoc}
-use Rattle.exploration.specs.Laws.Lists.{true_false, nth_lt}
-use Rattle.exploration.specs.Laws.Choices.{choose_some, choose_none}
 use Rattle.fields.specs.Little.{field}
 use Rattle.fields.specs.Records.{firsts}
 use Rattle.fields.specs.RecordLaws.{length_firsts, last_or}
@@ -15,9 +12,6 @@ use Rattle.rooms.specs.declared.Feet.{Feet}
 use Rattle.rooms.specs.declared.Entry.{Entry}
 use Rattle.rooms.specs.Waypoints.{same_word, same_point}
 use Rattle.rooms.specs.Records.{node_at, entry_at}
-use Rattle.rooms.specs.Laws.Lists.{in_or_out}
-use Rattle.rooms.specs.Laws.Rooms.{nth_firsts}
-use Rattle.rooms.specs.Laws.Scans.{First, first_is}
 use Rattle.rooms.specs.Scans.{first_of, is_at, waits, sooner, index_or, entry_from, next_from, next_of}
 
 -- ---- the first that passes a test
@@ -31,14 +25,6 @@ module _ (p : ℕ → Bool) where
   pub first_later : (k n : ℕ) → p k ≡ false → 0 < n → first_of p k n ≡ first_of p (k + 1) (n - 1)
   first_later k zero h l = absurd (omega arith)
   first_later k (suc n) h l = let e : k + 1 ≡ suc k = omega arith in let d : suc n - 1 ≡ n = omega arith in rw (h, e, d)
-
-  pub first_least : (n k : ℕ) → k ≤ first_of p k n
-  first_least zero k = omega arith
-  first_least (suc n) k = go (p k) (first_least n (suc k))
-    where
-      go : (b : Bool) → suc k ≤ first_of p (suc k) n → k ≤ cond b k (first_of p (suc k) n)
-      go true h = omega arith
-      go false h = omega arith
 
   pub first_end : (k n : ℕ) → n ≡ 0 → first_of p k n ≡ k
   first_end k n e = rw e
@@ -70,28 +56,6 @@ idle_none e i = record { order = omega arith; idle = λ j p q. absurd (omega ari
 pub idle_more : (f : List ℕ) {i r : ℕ} → Idle (entry_at f) i r → eqb (field 8 f (24 * r + 16)) 1 ≡ false → Idle (entry_at f) i (r + 1)
 unfolding entry_at
 idle_more f {i} {r} h e = record { order = omega (arith, h.order); idle = λ j p q. ⊎_elim (λ l. h.idle j p l) (λ l. subst (λ (k : ℕ). eqb (field 8 f (24 * k + 16)) 1 ≡ false) (sym l) e) (last_or j r (omega arith)) }
-
-pub idle_join : (e : ℕ → Entry) (i m r : ℕ) → Idle e i m → Idle e m r → Idle e i r
-idle_join e i m r g h = record { order = omega (arith, g.order, h.order); idle = λ j p q. ⊎_elim (λ l. g.idle j p l) (λ l. h.idle j l q) (in_or_out j m) }
-
--- four of them, as the code reads them
-pub idle_four : (f : List ℕ) (k : ℕ) → eqb (field 8 f (24 * k + 16)) 1 ≡ false → eqb (field 8 f (24 * k + 40)) 1 ≡ false → eqb (field 8 f (24 * k + 64)) 1 ≡ false → eqb (field 8 f (24 * k + 88)) 1 ≡ false → Idle (entry_at f) k (k + 4)
-idle_four f k p q r s =
-    let x : 24 * (k + 1) + 16 ≡ 24 * k + 40 = omega arith in
-    let y : 24 * (k + 1 + 1) + 16 ≡ 24 * k + 64 = omega arith in
-    let z : 24 * (k + 1 + 1 + 1) + 16 ≡ 24 * k + 88 = omega arith in
-    let e : k + 1 + 1 + 1 + 1 ≡ k + 4 = omega arith in
-    let at : (i j : ℕ) → i ≡ j → eqb (field 8 f j) 1 ≡ false → eqb (field 8 f i) 1 ≡ false = λ i j h b. ap (λ (m : ℕ). eqb (field 8 f m) 1) h ∙ b in
-    subst (Idle (entry_at f) k) e (idle_more f (idle_more f (idle_more f (idle_more f (idle_none (entry_at f) k) p) (at _ _ x q)) (at _ _ y r)) (at _ _ z s))
-
--- the first that waits is not among them
-abbrev pub waits_at : List ℕ → ℕ → Bool
-waits_at f k = waits (entry_at f k)
-
-pub idle_past : (f : List ℕ) (from r n : ℕ) → Idle (entry_at f) from r → r ≤ n → first_of (waits_at f) from (n - from) ≡ first_of (waits_at f) r (n - r)
-idle_past f from r n h l =
-    let e : from + (r - from) ≡ r = omega (arith, h.order) in
-    first_past (waits_at f) (r - from) from n (omega (arith, h.order)) (λ j p q. h.idle j p (omega (arith, h.order))) ∙ ap (λ (m : ℕ). first_of (waits_at f) m (n - m)) e
 
 -- the entries from one on are those of the room, and those before it are idle
 module _ (low : ℕ) (f : List ℕ) where
@@ -181,22 +145,3 @@ unfolding next_from next_of
 next_from_lem low n f h =
     next_later 0 low n f (λ k l m. absurd (omega arith)) (λ j l m. h j m)
     ∙ ap (index_or n) (alike n (entry_from 0 f) (entry_at f) (λ k l. inl (sym (from_here 0 f k (omega arith)))))
-
--- there is a next node where there is a first that waits
-pub next_waits : (f : List ℕ) (n r : ℕ) → r ≡ first_of (waits_at f) 0 (n - 0) → ltb r n ≡ ltb (next_of n f) n
-unfolding next_of
-next_waits f n r e = go (choose waits sooner es) refl
-  where
-    es : List Entry
-    es = firsts n (entry_at f)
-
-    first : First (waits_at f) 0 (n - 0) r
-    first = rw e (first_is (waits_at f) 0 (n - 0))
-
-    go : (o : Option (ℕ × Entry)) → choose waits sooner es ≡ o → ltb r n ≡ ltb (index_or n o) n
-    go none h = ⊎_elim (λ l. absurd (true_false (first.passes (omega arith)) (choose_none waits sooner es h r (entry_at f r) (nth_firsts n (entry_at f) r l)))) (λ l. le-ltb r n l ∙ sym (le-ltb n n (omega arith))) (in_or_out r n)
-    go (some k) h =
-        let held = choose_some waits sooner es k h in
-        let l : k.0 < n = omega (arith, nth_lt es k.0 k.1 held.0, length_firsts n (entry_at f)) in
-        let same : k.1 ≡ entry_at f k.0 = cc (held.0, nth_firsts n (entry_at f) k.0 l) in
-        ⊎_elim (λ b. lt-ltb r n b ∙ sym (lt-ltb k.0 n l)) (λ b. absurd (true_false (ap waits (sym same) ∙ held.1) (first.missed k.0 (omega arith) (omega arith)))) (in_or_out r n)

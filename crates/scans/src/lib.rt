@@ -1,5 +1,7 @@
 // Scans of the rooms (01, "Shapes to change": "`HashMap`: a scan of the node room. `BinaryHeap`: one waiting entry a node").
-ghost use Rattle.std.specs.Prelude.{◌≡◌, true, not, ◌+◌, ◌-◌, ◌≤◌, ◌<◌};
+#![tactic(auto)]
+
+ghost use Rattle.std.specs.Prelude.{◌≡◌, ◌-◌, ◌≤◌};
 ghost use Rattle.scans.specs.Laws.{Idle};
 ghost use Rattle.rooms.specs.Records.{entry_at};
 ghost use Rattle.rooms.specs.Scans.{first_of, is_at, waits, sooner, next_from, busy};
@@ -64,37 +66,6 @@ fn next_waiting(front: &[u8], from: usize, n: usize) -> usize
     i
 }
 
-// Whether none of the four frontier records from k on waits.
-fn four_idle(front: &[u8], k: usize) -> bool
-    requires { k < 4294967296 }
-    ensures { result ≡ true → Idle (entry_at front.now) k (k + 4) }
-{
-    let at = 24 * k;
-    let p = fields::u64_at(front, at + 16);
-    let q = fields::u64_at(front, at + 40);
-    let r = fields::u64_at(front, at + 64);
-    let s = fields::u64_at(front, at + 88);
-    (p != 1) & (q != 1) & (r != 1) & (s != 1)
-}
-
-// Passes over records that do not wait, four at a time: for long rows of them, as at the end of a room. In a room that has not n records it passes over none.
-fn pass_idle(front: &[u8], from: usize, n: usize) -> usize
-    requires { from ≤ n }
-    ensures { Idle (entry_at front.now) from result × (result ≤ n) }
-{
-    let border = n % NODES;
-    let mut i = from;
-    if border < from {
-        return i;
-    }
-    if 24 * border <= front.len() {
-        while i + 4 <= border && four_idle(front, i) {
-            i += 4;
-        }
-    }
-    i
-}
-
 // The first node that waits among the nodes `from` to n - 1; if none does, n; if `from` is past n, `from`.
 pub fn first_waiting(front: &[u8], from: usize, n: usize) -> usize
     ensures { result ≡ first_of (λ k. waits (entry_at front.now k)) from (n - from) }
@@ -102,8 +73,7 @@ pub fn first_waiting(front: &[u8], from: usize, n: usize) -> usize
     if n <= from {
         return from;
     }
-    let near = pass_idle(front, from, n);
-    let mut i = next_waiting(front, near, n);
+    let mut i = next_waiting(front, from, n);
     while i < n && get_entry(front, i).waiting != 1 {
         i += 1;
     }
@@ -141,34 +111,12 @@ fn is_busy(nodes: &[u8], front: &[u8], j: usize) -> bool
     (rooms::get_node(nodes, j).closed == 0) | (get_entry(front, j).waiting == 1)
 }
 
-// Whether node j is at rest, read at its offsets: for rooms whose lengths are judged once.
-fn near_rest(nodes: &[u8], front: &[u8], j: usize) -> bool
-    requires { j < 4294967296 }
-    ensures { result ≡ not (busy nodes.now front.now j) }
-{
-    (fields::u32_at(nodes, 64 * j + 60) != 0) & (fields::u64_at(front, 24 * j + 16) != 1)
-}
-
-// Passes over nodes at rest; in rooms that have not n of them over none. The lengths are judged once, so that the loop need not.
-fn pass_rest(nodes: &[u8], front: &[u8], from: usize, n: usize) -> usize
-    ensures { first_of (busy nodes.now front.now) from (n - from) ≡ first_of (busy nodes.now front.now) result (n - result) }
-{
-    let border = n % NODES;
-    let mut i = from;
-    if (64 * border <= nodes.len()) & (24 * border <= front.len()) {
-        while i < border && near_rest(nodes, front, i) {
-            i += 1;
-        }
-    }
-    i
-}
-
 // The first node that is not at rest among the nodes `from` to n - 1; if none is, n; if `from` is past n, `from`. What is at rest stays so: a search
 // need not look at the nodes before it again.
 pub fn first_busy(nodes: &[u8], front: &[u8], from: usize, n: usize) -> usize
     ensures { result ≡ first_of (busy nodes.now front.now) from (n - from) }
 {
-    let mut i = pass_rest(nodes, front, from, n);
+    let mut i = from;
     while i < n && !is_busy(nodes, front, i) {
         i += 1;
     }

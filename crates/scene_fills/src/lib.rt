@@ -1,5 +1,7 @@
 // What a record of kind 6 writes into the cell table (01, "Scenes and walkprint"): a fill is clipped to the window, and its cells are written in the table's
 // order. Every input is answered for: what does not fit the table is not written.
+#![tactic(auto)]
+
 ghost use Rattle.std.specs.Prelude.{◌≡◌, ◌<◌};
 ghost use mathlib.Core.List.{foldl};
 ghost use Rattle.regions.specs.Regions.{cells_of};

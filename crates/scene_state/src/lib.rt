@@ -1,5 +1,7 @@
 // What has been read of a scene (01, "Scenes and walkprint"), a state by value: `state` has the types and the reader's answers, `ends` judges the rooms
 // before the first record and says what stands where the input ends.
+#![tactic(auto)]
+
 mod ends;
 pub mod state;
 

@@ -4,7 +4,7 @@ use world::{Body, Request, Window};
 
 // What the good records so far say: how many they are, the last one's kind (0 before the first), what kinds 1 to 3 gave, and how much of each table
 // is made. What no record has given is zero.
-#[derive(Drop)]
+#[derive(Clone, Copy)]
 pub struct Reading {
     pub number: u64,
     pub kind: u8,
@@ -15,7 +15,7 @@ pub struct Reading {
 }
 
 // How far a scene has been read: what the good records so far say; 7 BadScene with the number of the first bad record; or 5 NoRoom.
-#[derive(Drop)]
+#[derive(Clone, Copy)]
 pub enum Progress {
     Going(Reading),
     BadScene(u64),
@@ -23,7 +23,7 @@ pub enum Progress {
 }
 
 // How many bytes of each table the scene made.
-#[derive(Drop)]
+#[derive(Clone, Copy)]
 pub struct InUse {
     pub cells: usize,
     pub perms: usize,
@@ -32,7 +32,7 @@ pub struct InUse {
 }
 
 // A whole scene: what a search is asked, and the part of each table to hand on.
-#[derive(Drop)]
+#[derive(Clone, Copy)]
 pub struct Scene {
     pub request: Request,
     pub body: Body,
@@ -41,7 +41,7 @@ pub struct Scene {
 }
 
 // What reading a whole scene answers: the scene; 7 BadScene with the number of the first bad record; or 5 NoRoom.
-#[derive(Drop)]
+#[derive(Clone, Copy)]
 pub enum SceneAnswer {
     Whole(Scene),
     BadScene(u64),

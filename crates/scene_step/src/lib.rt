@@ -1,5 +1,7 @@
 // The state behind a record of a scene (01, "Scenes and walkprint"): the record is judged, and a good one leads to the next state. The tables are not
 // written here.
+#![tactic(auto)]
+
 mod after;
 
 ghost use Rattle.std.specs.Prelude.{◌≡◌};

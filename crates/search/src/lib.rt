@@ -3,6 +3,8 @@
 // `columns` goes through the columns around the node's point, in 01's order, and visits the steps of each, upwards (`strides`). `turns` has the whole expansion: pick,
 // close, try the connector, then the columns; and so many of them. `find` is the whole search: as many expansions as the budget, or fewer where it ends; `ticks`
 // goes on with one by so many. What they answer is the crate `outcomes`, whether they begin `refusals` and `progress`.
+#![tactic(auto)]
+
 pub(crate) mod columns;
 mod find;
 mod ticks;
@@ -16,7 +18,7 @@ use visits::Aim;
 use world::{Body, Request, Window};
 
 // What is searched: in the window of a world, for a request, by a body; and for which goal, with how many nodes.
-#[derive(Drop)]
+#[derive(Clone, Copy)]
 pub struct Task {
     pub w: Window,
     pub r: Request,
@@ -25,7 +27,7 @@ pub struct Task {
 }
 
 // What the columns so far have come to: the counts, and the side answers.
-#[derive(Drop)]
+#[derive(Clone, Copy)]
 pub struct Around {
     pub counts: Counts,
     pub sides: Sides,

@@ -3,6 +3,8 @@
 // The shapes under the footprint are passed over as often as the part of the centre line that is covered grows. The first pass sees every shape, and so any
 // that refuses. `pass` has the loop over the cells; one shape, and the definitions, are the crate `support`. Where passes are many, because the boxes come in
 // another order than the way, `far` joins many of them in one.
+#![tactic(auto)]
+
 mod far;
 mod pass;
 

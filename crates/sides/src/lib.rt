@@ -1,11 +1,13 @@
 // The four sides of a point, and the diagonals between them (01, The graph, "Graph step": "The four side answers of one expansion").
+#![tactic(auto)]
+
 ghost use Rattle.std.specs.Prelude.{◌≡◌};
 ghost use Rattle.sides.specs.Sides.{level_to, pair_at, side_at, no_sides, looked_by, answered_by};
 
 use world::Point;
 
 // The two sides that a diagonal needs, numbered from 0 at (1, 0).
-#[derive(Drop)]
+#[derive(Clone, Copy)]
 pub struct SidePair(pub usize, pub usize);
 
 pub const DIAGONAL_SIDES: [SidePair; 4] = [
@@ -16,7 +18,7 @@ pub const DIAGONAL_SIDES: [SidePair; 4] = [
 ];
 
 // The side answers of one expansion, handed from column to column: whether a side has an edge that does not climb.
-#[derive(Drop)]
+#[derive(Clone, Copy)]
 pub struct Sides {
     pub level: [bool; 4],
 }

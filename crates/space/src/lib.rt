@@ -1,5 +1,7 @@
 // The space that the tables are (01, "Tables, little-endian records"): which record of the cell table a cell is, and what its state and its shape make of it.
 // Nothing is divided but by a power of two.
+#![tactic(auto)]
+
 ghost use Rattle.std.specs.Prelude.{◌≡◌, ◌-ℤ◌};
 ghost use Rattle.world.specs.Space.{place, record_of, entry_in, of_parts, cell_at};
 ghost use Rattle.space.specs.Laws.{far};

@@ -6,7 +6,7 @@ use heights::Band;
 use world::{Body, Point, Request};
 
 // A column's offset from the point's own, in x and z.
-#[derive(Drop)]
+#[derive(Clone, Copy)]
 pub struct Offset(pub i32, pub i32);
 
 pub const NEIGHBOURS: [Offset; 9] = [
@@ -22,7 +22,7 @@ pub const NEIGHBOURS: [Offset; 9] = [
 ];
 
 // The centre of a column, in x and z.
-#[derive(Drop)]
+#[derive(Clone, Copy)]
 pub struct Centre {
     pub x: f64,
     pub z: f64,

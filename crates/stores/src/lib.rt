@@ -1,5 +1,7 @@
 // Little-endian fields of byte tables (01, Tables): writes at an offset, total. Where a field does not fit, a write changes nothing. The definitions
 // are those of `fields`, which reads. An i32 or an f64 is written as its bits.
+#![tactic(auto)]
+
 ghost use Rattle.std.specs.Prelude.{◌≡◌, ◌+◌, ◌≤◌, length};
 ghost use Rattle.std.specs.Int.{w32};
 ghost use Rattle.std.proofs.Common.{of_z};

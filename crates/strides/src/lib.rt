@@ -1,6 +1,8 @@
 // One edge of an expansion (01, The graph, "Graph step"; "Search"): where there is one, it is noted whether it climbs, and its step is visited.
 //
 // `step_to` answers for every input. Where the rooms or the counts are not those of a search (`ready`, visits), it leaves both as they are.
+#![tactic(auto)]
+
 ghost use Rattle.strides.specs.Strides.{Strode};
 
 use moves::EdgeAnswer;
@@ -9,7 +11,7 @@ use visits::{Aim, Visit};
 use world::Point;
 
 // The node that is expanded: its number, its record, and the point that its feet are read as.
-#[derive(Drop)]
+#[derive(Clone, Copy)]
 pub struct Place {
     pub number: usize,
     pub node: NodeRecord,
@@ -17,7 +19,7 @@ pub struct Place {
 }
 
 // What a column has come to: the counts, and whether an edge so far does not climb.
-#[derive(Drop)]
+#[derive(Clone, Copy)]
 pub struct Column {
     pub counts: Counts,
     pub level: bool,

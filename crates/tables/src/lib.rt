@@ -1,5 +1,7 @@
 // Bad worlds (01, "Numbers given back", 3 BadWorld): whether the tables are no world that 01 allows. Every record is judged, used or not, in one
 // pass over its table; the cell table and the permissions are never bad by their numbers.
+#![tactic(auto)]
+
 ghost use Rattle.std.specs.Prelude.{◌≡◌, ◌*◌, ◌/◌, length};
 ghost use Rattle.world.specs.Sizes.{Sizes};
 ghost use Rattle.tables.specs.BadWorld.{from_to, each_of, box_rule, cell_bytes, bad_run, some, bad_shape, off_rule, bad_world};

@@ -1,7 +1,7 @@
 -- A search in slices (02, No. 10): begin, then one call of continue after the other, "with tables, body, request, node budget, counts and rooms untouched between
--- calls". Each call is told by its contract, and is handed an output, the same as the call before it or another. Then: what it means that such a search ends as one
--- whole search does. Definitions only.
-use Rattle.std.specs.Prelude.{ℕ, ◌+◌, ◌*◌, ◌≤◌, ◌≡◌, false, List, [], ◌∷◌, length, replicate}
+-- calls". Each call is told by its contract, and all are handed the same output. Then: what it means that such a search ends as one whole search does. Definitions
+-- only.
+use Rattle.std.specs.Prelude.{ℕ, ◌≤◌, ◌≡◌, false, List, [], ◌∷◌, length, replicate}
 use Rattle.world.specs.declared.Body.{Body}
 use Rattle.world.specs.declared.Request.{Request}
 use Rattle.world.specs.declared.Window.{Window}
@@ -25,10 +25,6 @@ Lots (n ∷ lots) = (1 ≤ n) × (n ≤ 4096) × Lots lots
 abbrev pub RightIndex : Request → List ℕ → Type 0
 RightIndex r index = wrong_size (length index) r.node_budget ≡ false
 
--- "output under node_budget + 1" is 5, so each call's has room for the longest list
-abbrev pub RoomForList : Request → List ℕ → Type 0
-RoomForList r out = 48 * (r.node_budget + 1) ≤ length out
-
 module _ (w : Window) (cells perms shapes boxes : List ℕ) (r : Request) (body : Body) where
   -- ---- the calls: the tables, the request and the body are the same in all of them
 
@@ -37,18 +33,18 @@ module _ (w : Window) (cells perms shapes boxes : List ℕ) (r : Request) (body 
     pub holds : Gives (begun_search w cells perms shapes boxes r body nodes front out) h.tick h.nodes h.front h.out
     pub goes : GoesFrom (start_state (space w cells perms shapes boxes) r body) h.tick h.nodes h.front
 
-  -- k is what `continue_search` promises, asked for n expansions, of the rooms that h has, of an output and of these counts: its two promises
-  pub record LeftByContinue (h : Ticked) (out : List ℕ) (c : Counts) (n : ℕ) (k : Ticked) : Type 0 where
-    pub holds : Gives (continued_search w cells perms shapes boxes r body h.nodes h.front out c n) k.tick k.nodes k.front k.out
-    pub goes : GoesFrom (expanded_in w cells perms shapes boxes r body h.nodes h.front out c n) k.tick k.nodes k.front
+  -- k is what `continue_search` promises, asked for n expansions, of the rooms and the output that h has, and of these counts: its two promises
+  pub record LeftByContinue (h : Ticked) (c : Counts) (n : ℕ) (k : Ticked) : Type 0 where
+    pub holds : Gives (continued_search w cells perms shapes boxes r body h.nodes h.front h.out c n) k.tick k.nodes k.front k.out
+    pub goes : GoesFrom (expanded_in w cells perms shapes boxes r body h.nodes h.front h.out c n) k.tick k.nodes k.front
 
   -- Calls of continue, from what one call left to what the last of them left: each while the search goes on, with the counts of the call before it and on the
-  -- rooms that this left. Beside each stands the output that its call was handed.
-  pub data Calls : Ticked → List ℕ → List ℕ → Ticked → List ℕ → Type 0 where
-    no_call : {h : Ticked} {out : List ℕ} → Calls h out [] h out
-    next_call : {h m k : Ticked} {out last lots : List ℕ} (c : Counts) (n : ℕ) (own : List ℕ) → h.tick ≡ Searching c → RoomForList r own → LeftByContinue h own c n m → Calls m own lots k last → Calls h out (n ∷ lots) k last
+  -- rooms and the output that this left.
+  pub data Calls : Ticked → List ℕ → Ticked → Type 0 where
+    no_call : {h : Ticked} → Calls h [] h
+    next_call : {h m k : Ticked} {lots : List ℕ} (c : Counts) (n : ℕ) → h.tick ≡ Searching c → LeftByContinue h c n m → Calls m lots k → Calls h (n ∷ lots) k
 
-  -- ---- one whole search on the rooms as they were before begin, with the output of the call that ended the other
+  -- ---- one whole search on the rooms and the output as they were before begin
 
   module _ (nodes front out : List ℕ) where
     abbrev pub whole_answer : List ℕ → Answer

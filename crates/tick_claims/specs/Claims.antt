@@ -18,15 +18,14 @@ use Rattle.outcomes.specs.Ticks.{Ticked, tick_by, nothing_written}
 use Rattle.refusals.specs.Refusals.{without_search}
 use Rattle.search.specs.Ticks.{came_to}
 use Rattle.claims.specs.Words.{InF64, after}
-use Rattle.tick_claims.specs.Calls.{Lots, RoomForList, LeftByBegin, LeftByContinue, Calls, EndsAlike}
+use Rattle.tick_claims.specs.Calls.{Lots, LeftByBegin, LeftByContinue, Calls, EndsAlike}
 use Rattle.tick_claims.specs.Divided.{StandsAfter, all_stand}
 use Rattle.tick_claims.specs.Ended.{budget_ends, ends_alike, closed_few, refused_after}
 
--- A search that begins, of a request of f64s, as every caller's are; h is what begin left, and k what the calls after it left, each asked for one lot of expansions. Each call may
--- be handed an output of its own; `last` is that of the last one.
+-- A search that begins, of a request of f64s, as every caller's are; h is what begin left, and k what the calls after it left, each asked for one lot of expansions.
 module _ (w : Window) (cells perms shapes boxes : List ℕ) (r : Request) (body : Body) (f : InF64 r) (nodes front out : List ℕ)
     (goes : without_search w cells perms shapes boxes r body (length nodes) (length front) (length out) false ≡ none)
-    (h k : Ticked) (lots last : List ℕ) (begins : LeftByBegin w cells perms shapes boxes r body nodes front out h) (each : Lots lots) (calls : Calls w cells perms shapes boxes r body h out lots k last) where
+    (h k : Ticked) (lots : List ℕ) (begins : LeftByBegin w cells perms shapes boxes r body nodes front out h) (each : Lots lots) (calls : Calls w cells perms shapes boxes r body h lots k) where
   abbrev sp : Space
   sp = space w cells perms shapes boxes
 
@@ -34,7 +33,7 @@ module _ (w : Window) (cells perms shapes boxes : List ℕ) (r : Request) (body 
   abbrev came : explore.Outcome (Feet × Label)
   came = came_to sp r body (after sp r body (total lots))
 
-  left : StandsAfter w cells perms shapes boxes r body f nodes front out goes (total lots) last k
+  left : StandsAfter w cells perms shapes boxes r body f nodes front out goes (total lots) k
   left = all_stand w cells perms shapes boxes r body f nodes front out goes begins each calls
 
   told : (x : explore.Outcome (Feet × Label)) → came ≡ x → k.tick ≡ tick_by x (counts_in (after sp r body (total lots)))
@@ -42,13 +41,13 @@ module _ (w : Window) (cells perms shapes boxes : List ℕ) (r : Request) (body 
 
   -- The search goes on, or it has ended: "however the expansions are divided, the final outcome, list and node room equal one whole search". So no call of it is refused, with 12 or with
   -- another number.
-  pub untouched_ends_alike : ((c : Counts) × (k.tick ≡ Searching c)) ⊎ EndsAlike w cells perms shapes boxes r body nodes front last k
+  pub untouched_ends_alike : ((c : Counts) × (k.tick ≡ Searching c)) ⊎ EndsAlike w cells perms shapes boxes r body nodes front out k
   untouched_ends_alike = go came refl
     where
-      alike : (x : explore.Outcome (Feet × Label)) → came ≡ x → (x ≢ explore.Searching) → EndsAlike w cells perms shapes boxes r body nodes front last k
+      alike : (x : explore.Outcome (Feet × Label)) → came ≡ x → (x ≢ explore.Searching) → EndsAlike w cells perms shapes boxes r body nodes front out k
       alike x e n = ends_alike w cells perms shapes boxes r body f nodes front out goes (total lots) left (λ s. n (sym e ∙ s))
 
-      go : (x : explore.Outcome (Feet × Label)) → came ≡ x → ((c : Counts) × (k.tick ≡ Searching c)) ⊎ EndsAlike w cells perms shapes boxes r body nodes front last k
+      go : (x : explore.Outcome (Feet × Label)) → came ≡ x → ((c : Counts) × (k.tick ≡ Searching c)) ⊎ EndsAlike w cells perms shapes boxes r body nodes front out k
       go (explore.Found t) e = inr (alike (explore.Found t) e (λ p. let z : ◌≡◌ {A = ℕ} 0 1 = cc in omega arith))
       go explore.Unreachable e = inr (alike explore.Unreachable e (λ p. let z : ◌≡◌ {A = ℕ} 0 1 = cc in omega arith))
       go explore.BudgetExceeded e = inr (alike explore.BudgetExceeded e (λ p. let z : ◌≡◌ {A = ℕ} 0 1 = cc in omega arith))
@@ -63,10 +62,10 @@ module _ (w : Window) (cells perms shapes boxes : List ℕ) (r : Request) (body 
   few_closings o n c e = closed_few w cells perms shapes boxes r body f nodes front out goes (total lots) left (over o n c e) o n c e
 
   -- and lots that are together as many as the budget have ended it.
-  pub untouched_ends : r.node_budget ≤ total lots → EndsAlike w cells perms shapes boxes r body nodes front last k
+  pub untouched_ends : r.node_budget ≤ total lots → EndsAlike w cells perms shapes boxes r body nodes front out k
   untouched_ends most = ends_alike w cells perms shapes boxes r body f nodes front out goes (total lots) left (budget_ends sp r body (total lots) most)
 
-  -- "12 BadProgress, nothing written, for .. a search already ended": whatever counts, number of expansions and output the next call is handed; an output that is too short would be 5.
+  -- "12 BadProgress, nothing written, for .. a search already ended": whatever counts and whatever number of expansions the next call is handed.
   pub ended_is_refused : (o : Outcome) (n : ℕ) (c : Counts) → k.tick ≡ Ended o n c →
-      (d : Counts) (expansions : ℕ) (next : List ℕ) (m : Ticked) → RoomForList r next → LeftByContinue w cells perms shapes boxes r body k next d expansions m → m ≡ nothing_written BadProgress k.nodes k.front next
+      (d : Counts) (expansions : ℕ) (m : Ticked) → LeftByContinue w cells perms shapes boxes r body k d expansions m → m ≡ nothing_written BadProgress k.nodes k.front k.out
   ended_is_refused o n c e = refused_after w cells perms shapes boxes r body f nodes front out goes (total lots) left (over o n c e)

@@ -1,5 +1,5 @@
 -- What a call of an untouched search left, after however many expansions and in whatever lots: the state of the whole search after as many, in the rooms as they were before
--- begin, with the frontier room zeroed, and in the call's own output. By that a call is not refused, and an end is the whole search's.
+-- begin, with the frontier room zeroed. By that a call is not refused, and an end is the whole search's.
 use Rattle.std.specs.Prelude.{ℕ, ◌+◌, ◌*◌, ◌≤◌, ◌≡◌, refl, List, length, drop, replicate}
 use Rattle.std.proofs.Common.{add-zero, arith, subst, ◌∙◌, length-append}
 use Rattle.std.proofs.Math.Path.{sym, ap}
@@ -40,8 +40,7 @@ use Rattle.search.specs.Ticks.{expanded, came_to, expanded_in, gone_on, continue
 use Rattle.search.specs.Laws.Ticks.{went}
 use Rattle.claims.specs.Words.{InF64, after}
 use Rattle.tick_claims.specs.Acceptance.{untouched_accepted}
-use Rattle.tick_claims.specs.Calls.{Lots, RoomForList, LeftByBegin, LeftByContinue, Calls, no_call, next_call}
-use Rattle.tick_claims.specs.Outputs.{other_begins}
+use Rattle.tick_claims.specs.Calls.{Lots, LeftByBegin, LeftByContinue, Calls, no_call, next_call}
 use Rattle.tick_claims.specs.Rewritten.{node_room_length, front_room_length, front_room_past, node_room_again, front_room_again}
 
 -- ---- answers
@@ -108,25 +107,23 @@ module _ (w : Window) (cells perms shapes boxes : List ℕ) (r : Request) (body 
 
   -- ---- what a call left after e expansions
 
-  abbrev pub left_after : ℕ → List ℕ → Ticked
-  left_after e own = ticked_by (came_to sp r body (after sp r body e)) (after sp r body e) nodes blank own
+  abbrev pub left_after : ℕ → Ticked
+  left_after e = ticked_by (came_to sp r body (after sp r body e)) (after sp r body e) nodes blank out
 
-  pub record StandsAfter (e : ℕ) (own : List ℕ) (k : Ticked) : Type 0 where
-    pub is : k ≡ left_after e own
+  pub record StandsAfter (e : ℕ) (k : Ticked) : Type 0 where
+    pub is : k ≡ left_after e
     pub goes_on : GoesFrom (after sp r body e) k.tick k.nodes k.front
-    pub room : RoomForList r own
 
-  begin_stands : (h : Ticked) → LeftByBegin w cells perms shapes boxes r body nodes front out h → StandsAfter 0 out h
+  begin_stands : (h : Ticked) → LeftByBegin w cells perms shapes boxes r body nodes front out h → StandsAfter 0 h
   unfolding begun_search start_state
   begin_stands h p = record {
     is = left_is (begun_search w cells perms shapes boxes r body nodes front out) h p.holds
         ∙ ap (begun_by w cells perms shapes boxes r body nodes front out) goes
         ∙ ap (λ (x : explore.Outcome (Feet × Label)). ticked_by x (after sp r body 0) nodes blank out) (sym begin_searching);
     goes_on = p.goes;
-    room = passed.out_room;
   }
 
-  module _ (e : ℕ) {before : List ℕ} {h : Ticked} (stands : StandsAfter e before h) {c : Counts} (on : h.tick ≡ Searching c) where
+  module _ (e : ℕ) {h : Ticked} (stands : StandsAfter e h) {c : Counts} (on : h.tick ≡ Searching c) where
     abbrev s : State Feet Label Note ℕ
     s = after sp r body e
 
@@ -139,11 +136,17 @@ module _ (w : Window) (cells perms shapes boxes : List ℕ) (r : Request) (body 
     front_room_is : h.front ≡ front_room blank s.nodes
     front_room_is = ap (λ (k : Ticked). k.front) stands.is ∙ ap (λ (x : explore.Outcome (Feet × Label)). front_by x blank s.nodes) searching.0
 
+    output_is : h.out ≡ out
+    output_is = ap (λ (k : Ticked). k.out) stands.is ∙ ap (λ (x : explore.Outcome (Feet × Label)). (ticked_by x s nodes blank out).out) searching.0
+
     front_length : length h.front ≡ length front
     front_length = ap length front_room_is ∙ front_room_length blank s.nodes (omega (arith, retained_few e, passed.front_room_lem, blank_length)) ∙ blank_length
 
     nodes_length : length h.nodes ≡ length nodes
     nodes_length = ap length node_room_is ∙ node_room_length nodes s.nodes (omega (arith, retained_few e, passed.node_room_lem))
+
+    call_passes : none ≡ without_call w cells shapes boxes r body (length h.nodes) (length h.front) (length h.out) false
+    call_passes = rw (nodes_length, front_length, output_is) (sym (call_begins w cells shapes boxes r body (length nodes) (length front) (length out) false perms goes))
 
     state_is : state_of h.nodes h.front c ≡ s
     state_is = subst (λ (t : Tick). GoesFrom s t h.nodes h.front) on stands.goes_on
@@ -154,17 +157,12 @@ module _ (w : Window) (cells perms shapes boxes : List ℕ) (r : Request) (body 
         let n : length s.nodes ≡ c.retained = ap (λ (d : Counts). d.retained) searching.1 in
         rw (front_length, front_room_is, ← n) (front_room_past blank s.nodes)
 
-    module _ (n : ℕ) (one : 1 ≤ n) (most : n ≤ 4096) (own : List ℕ) (room : RoomForList r own) where
-      call_passes : none ≡ without_call w cells shapes boxes r body (length h.nodes) (length h.front) (length own) false
-      call_passes =
-          let begins = other_begins w cells perms shapes boxes r body (length nodes) (length front) (length out) goes (length own) room in
-          rw (nodes_length, front_length) (sym (call_begins w cells shapes boxes r body (length nodes) (length front) (length own) false perms begins))
-
+    module _ (n : ℕ) (one : 1 ≤ n) (most : n ≤ 4096) where
       accepted : good_progress r h.nodes h.front c n ≡ true
       unfolding came_to
       accepted = untouched_accepted w cells perms shapes boxes r body f passed.request passed.sizes passed.world e searching.0 h.nodes h.front c state_is zero_past n one most
 
-      reached_is : expanded_in w cells perms shapes boxes r body h.nodes h.front own c n ≡ after sp r body (e + n)
+      reached_is : expanded_in w cells perms shapes boxes r body h.nodes h.front h.out c n ≡ after sp r body (e + n)
       unfolding expanded
       reached_is = ap (run 𝓖 𝓟 r.node_budget n) state_is ∙ sym (after_add e n)
 
@@ -175,32 +173,31 @@ module _ (w : Window) (cells perms shapes boxes : List ℕ) (r : Request) (body 
       front_again explore.BudgetExceeded more l = ap (λ (m : ℕ). replicate m 0) (front_length ∙ sym blank_length)
       front_again explore.Searching more l = ap (λ (x : List ℕ). front_room x more) front_room_is ∙ front_room_again blank s.nodes more l
 
-      written_again : (x : explore.Outcome (Feet × Label)) (t : State Feet Label Note ℕ) → length s.nodes ≤ length t.nodes → ticked_by x t h.nodes h.front own ≡ ticked_by x t nodes blank own
+      written_again : (x : explore.Outcome (Feet × Label)) (t : State Feet Label Note ℕ) → length s.nodes ≤ length t.nodes → ticked_by x t h.nodes h.front h.out ≡ ticked_by x t nodes blank out
       written_again x t l =
           let a : node_room h.nodes t.nodes ≡ node_room nodes t.nodes = ap (λ (y : List ℕ). node_room y t.nodes) node_room_is ∙ node_room_again nodes s.nodes t.nodes l in
           let b : front_by x h.front t.nodes ≡ front_by x blank t.nodes = front_again x t.nodes l in
-          λ i. record { tick = tick_by x (counts_in t); nodes = a i; front = b i; out = (ticked_by x t nodes blank own).out }
+          λ i. record { tick = tick_by x (counts_in t); nodes = a i; front = b i; out = (ticked_by x t nodes blank (output_is i)).out }
 
-      went_on : gone_on w cells perms shapes boxes r body h.nodes h.front own c n ≡ left_after (e + n) own
+      went_on : gone_on w cells perms shapes boxes r body h.nodes h.front h.out c n ≡ left_after (e + n)
       unfolding gone_on
       went_on =
-          ap (λ (t : State Feet Label Note ℕ). ticked_by (came_to sp r body t) t h.nodes h.front own) reached_is
+          ap (λ (t : State Feet Label Note ℕ). ticked_by (came_to sp r body t) t h.nodes h.front h.out) reached_is
           ∙ written_again (came_to sp r body (after sp r body (e + n))) (after sp r body (e + n)) (retained_more e n)
 
-      next_stands : (k : Ticked) → LeftByContinue w cells perms shapes boxes r body h own c n k → StandsAfter (e + n) own k
+      next_stands : (k : Ticked) → LeftByContinue w cells perms shapes boxes r body h c n k → StandsAfter (e + n) k
       next_stands k p = record {
-        is = left_is (continued_search w cells perms shapes boxes r body h.nodes h.front own c n) k p.holds
-            ∙ sym (went w cells perms shapes boxes r body h.nodes h.front own c n call_passes accepted) ∙ went_on;
+        is = left_is (continued_search w cells perms shapes boxes r body h.nodes h.front h.out c n) k p.holds
+            ∙ sym (went w cells perms shapes boxes r body h.nodes h.front h.out c n call_passes accepted) ∙ went_on;
         goes_on = subst (λ (t : State Feet Label Note ℕ). GoesFrom t k.tick k.nodes k.front) reached_is p.goes;
-        room = room;
       }
 
-  calls_stand : (e : ℕ) {h k : Ticked} {before last lots : List ℕ} → StandsAfter e before h → Lots lots → Calls w cells perms shapes boxes r body h before lots k last → StandsAfter (e + total lots) last k
-  calls_stand e {h = h} {before = before} s l no_call = subst (λ (n : ℕ). StandsAfter n before h) (sym (add-zero e)) s
-  calls_stand e {k = k} {last = last} s l (next_call {m = m} {lots = lots} c n own on room p more) =
+  calls_stand : (e : ℕ) {h k : Ticked} {lots : List ℕ} → StandsAfter e h → Lots lots → Calls w cells perms shapes boxes r body h lots k → StandsAfter (e + total lots) k
+  calls_stand e {h = h} s l no_call = subst (λ (n : ℕ). StandsAfter n h) (sym (add-zero e)) s
+  calls_stand e {k = k} s l (next_call {m = m} {lots = lots} c n on p more) =
       let z : e + n + total lots ≡ e + (n + total lots) = omega arith in
-      subst (λ (n : ℕ). StandsAfter n last k) z (calls_stand (e + n) (next_stands e s on n l.0 l.1 own room m p) l.2 more)
+      subst (λ (n : ℕ). StandsAfter n k) z (calls_stand (e + n) (next_stands e s on n l.0 l.1 m p) l.2 more)
 
   -- so many expansions as the lots are together, however they are divided
-  pub all_stand : {h k : Ticked} {last lots : List ℕ} → LeftByBegin w cells perms shapes boxes r body nodes front out h → Lots lots → Calls w cells perms shapes boxes r body h out lots k last → StandsAfter (total lots) last k
-  all_stand {h} {k} {last} {lots} b l p = let z : 0 + total lots ≡ total lots = omega arith in subst (λ (n : ℕ). StandsAfter n last k) z (calls_stand 0 (begin_stands h b) l p)
+  pub all_stand : {h k : Ticked} {lots : List ℕ} → LeftByBegin w cells perms shapes boxes r body nodes front out h → Lots lots → Calls w cells perms shapes boxes r body h lots k → StandsAfter (total lots) k
+  all_stand {h} {k} {lots} b l p = let z : 0 + total lots ≡ total lots = omega arith in subst (λ (n : ℕ). StandsAfter n k) z (calls_stand 0 (begin_stands h b) l p)

@@ -1,6 +1,6 @@
 -- An untouched search that has ended: it is the whole search's end, and no call goes on from it.
-use Rattle.std.specs.Prelude.{ℕ, ◌+◌, ◌*◌, ◌/◌, ◌≤◌, ◌≡◌, false, ◌&&◌, List, [], ◌∷◌, ◌≢◌, replicate}
-use Rattle.std.proofs.Common.{arith, sym, ◌∙◌}
+use Rattle.std.specs.Prelude.{ℕ, ◌+◌, ◌*◌, ◌/◌, ◌≤◌, ◌≡◌, false, ◌&&◌, List, [], ◌∷◌, ◌≢◌, drop, replicate}
+use Rattle.std.proofs.Common.{arith, sym, ◌∙◌, length-append, length-drop}
 use Rattle.std.proofs.Math.Path.{ap}
 use Rattle.std.proofs.Math.Bool.{true}
 use Rattle.std.proofs.Math.Option.{none}
@@ -21,6 +21,7 @@ use Rattle.world.specs.Space.{Space, space}
 use Rattle.rooms.specs.declared.Feet.{Feet}
 use Rattle.rooms.specs.declared.Label.{Label}
 use Rattle.rooms.specs.declared.Counts.{Counts}
+use Rattle.rooms.specs.Lists.{list_bytes}
 use Rattle.rooms.specs.Records.{entry_at}
 use Rattle.rooms.specs.Rooms.{Note, counts_in}
 use Rattle.words.specs.Words.{feet_of}
@@ -41,10 +42,10 @@ use Rattle.search.specs.FindWalkPath.{ended, end_of, answer_by, before_search, f
 use Rattle.search.specs.Ticks.{came_to, continued_search}
 use Rattle.search.specs.Laws.Ticks.{ended_tick, ended_front, left_bad}
 use Rattle.claims.specs.Words.{InF64, after}
-use Rattle.claims.specs.Laws.Search.{nodes_within, closings_within, not_searching}
-use Rattle.tick_claims.specs.Calls.{LeftByContinue, RightIndex, RoomForList, EndsAlike}
+use Rattle.claims.specs.Laws.ReadBack.{length_list}
+use Rattle.claims.specs.Laws.Search.{list_within, nodes_within, closings_within, not_searching}
+use Rattle.tick_claims.specs.Calls.{LeftByContinue, RightIndex, EndsAlike}
 use Rattle.tick_claims.specs.Divided.{left_is, StandsAfter}
-use Rattle.tick_claims.specs.Outputs.{other_begins}
 use Rattle.tick_claims.specs.Rewritten.{node_room_length}
 
 -- ---- a frontier room of zeros is no progress
@@ -96,25 +97,25 @@ module _ (w : Window) (cells perms shapes boxes : List ℕ) (r : Request) (body 
   passed : Passed w cells shapes boxes r body (length nodes) (length front) (length out) false
   passed = begins w cells shapes boxes r body (length nodes) (length front) (length out) false perms goes
 
-  -- what the whole search leaves, with an output
-  abbrev whole_left : List ℕ → Ticked
-  whole_left own = ticked_by (end_of sp r body) (ended sp r body) nodes (replicate (length front) 0) own
+  -- with an index of a right size the whole search begins too
+  whole_begins : (index : List ℕ) → RightIndex r index → none ≡ before_search w cells perms shapes boxes r body (length nodes) (length front) (length index) (length out)
+  whole_begins index i = sym (ap (without_search w cells perms shapes boxes r body (length nodes) (length front) (length out)) i ∙ goes)
 
-  module _ (e : ℕ) {own : List ℕ} {k : Ticked} (stands : StandsAfter w cells perms shapes boxes r body f nodes front out goes e own k) (over : came_to sp r body (after sp r body e) ≢ explore.Searching) where
-    -- with that output and an index of a right size it begins too
-    whole_begins : (index : List ℕ) → RightIndex r index → none ≡ before_search w cells perms shapes boxes r body (length nodes) (length front) (length index) (length own)
-    whole_begins index i = sym (ap (without_search w cells perms shapes boxes r body (length nodes) (length front) (length own)) i ∙ other_begins w cells perms shapes boxes r body (length nodes) (length front) (length out) goes (length own) stands.room)
+  -- what it leaves, and answers
+  abbrev whole_left : Ticked
+  whole_left = ticked_by (end_of sp r body) (ended sp r body) nodes (replicate (length front) 0) out
 
-    left_is_whole : k ≡ whole_left own
+  module _ (e : ℕ) {k : Ticked} (stands : StandsAfter w cells perms shapes boxes r body f nodes front out goes e k) (over : came_to sp r body (after sp r body e) ≢ explore.Searching) where
+    left_is_whole : k ≡ whole_left
     unfolding came_to end_of
-    left_is_whole = stands.is ∙ ap (λ (s : State Feet Label Note ℕ). ticked_by (came_to sp r body s) s nodes (replicate (length front) 0) own) (ended_after sp r body e over)
+    left_is_whole = stands.is ∙ ap (λ (s : State Feet Label Note ℕ). ticked_by (came_to sp r body s) s nodes (replicate (length front) 0) out) (ended_after sp r body e over)
 
     all_zero : k.front ≡ replicate (length front) 0
     all_zero =
         ap (λ (h : Ticked). h.front) left_is_whole ∙ ended_front (end_of sp r body) (replicate (length front) 0) (ended sp r body).nodes (not_searching sp r body)
         ∙ ap (λ (n : ℕ). replicate n 0) (length-replicate {A = ℕ} (length front) 0)
 
-    pub ends_alike : EndsAlike w cells perms shapes boxes r body nodes front own k
+    pub ends_alike : EndsAlike w cells perms shapes boxes r body nodes front out k
     unfolding found nodes_after front_after out_after
     ends_alike = record {
       outcome = told_by (end_of sp r body);
@@ -122,7 +123,7 @@ module _ (w : Window) (cells perms shapes boxes : List ℕ) (r : Request) (body 
       counts = counts_in (ended sp r body);
       ended = ap (λ (h : Ticked). h.tick) left_is_whole ∙ ended_tick (end_of sp r body) (counts_in (ended sp r body)) (not_searching sp r body);
       answer = λ index i. ap (answer_by w cells perms shapes boxes r body) (whole_begins index i);
-      output = λ index i. ap (λ (h : Ticked). h.out) left_is_whole ∙ ap (λ x. out_by w cells perms shapes boxes r body x own) (whole_begins index i);
+      output = λ index i. ap (λ (h : Ticked). h.out) left_is_whole ∙ ap (λ x. out_by w cells perms shapes boxes r body x out) (whole_begins index i);
       node_room_lem = λ index i. ap (λ (h : Ticked). h.nodes) left_is_whole ∙ ap (λ x. nodes_by w cells perms shapes boxes r body x nodes) (whole_begins index i);
       zeroed = all_zero;
       front_room_lem = λ index i. all_zero ∙ ap (λ x. zero_by w cells perms shapes boxes r body x front) (whole_begins index i);
@@ -142,11 +143,15 @@ module _ (w : Window) (cells perms shapes boxes : List ℕ) (r : Request) (body 
     front_length : length k.front ≡ length front
     front_length = ap length all_zero ∙ length-replicate {A = ℕ} (length front) 0
 
-    pub refused_after : (c : Counts) (n : ℕ) (next : List ℕ) (m : Ticked) → RoomForList r next → LeftByContinue w cells perms shapes boxes r body k next c n m → m ≡ nothing_written BadProgress k.nodes k.front next
-    refused_after c n next m room p =
-        let whole = continued_search w cells perms shapes boxes r body k.nodes k.front next c n in
-        let begins = other_begins w cells perms shapes boxes r body (length nodes) (length front) (length out) goes (length next) room in
-        let passes : none ≡ without_call w cells shapes boxes r body (length k.nodes) (length k.front) (length next) false =
-        rw (nodes_length, front_length) (sym (call_begins w cells shapes boxes r body (length nodes) (length front) (length next) false perms begins)) in
+    out_length : length k.out ≡ length out
+    out_length =
+        let t = list_in (end_of sp r body) in
+        ap (λ (h : Ticked). length h.out) left_is_whole ∙ omega (arith, length-append (list_bytes t) (drop (48 * length t) out), length_list t, length-drop (48 * length t) out, list_within sp r body, passed.out_room)
+
+    pub refused_after : (c : Counts) (n : ℕ) (m : Ticked) → LeftByContinue w cells perms shapes boxes r body k c n m → m ≡ nothing_written BadProgress k.nodes k.front k.out
+    refused_after c n m p =
+        let whole = continued_search w cells perms shapes boxes r body k.nodes k.front k.out c n in
+        let passes : none ≡ without_call w cells shapes boxes r body (length k.nodes) (length k.front) (length k.out) false =
+        rw (nodes_length, front_length, out_length) (sym (call_begins w cells shapes boxes r body (length nodes) (length front) (length out) false perms goes)) in
         let bad : good_progress r k.nodes k.front c n ≡ false = ap (λ (x : List ℕ). good_progress r k.nodes x c n) all_zero ∙ zeros_bad r k.nodes (length front) c n in
-        left_is whole m p.holds ∙ sym (left_is whole (nothing_written BadProgress k.nodes k.front next) (left_bad w cells perms shapes boxes r body k.nodes k.front next c n passes bad))
+        left_is whole m p.holds ∙ sym (left_is whole (nothing_written BadProgress k.nodes k.front k.out) (left_bad w cells perms shapes boxes r body k.nodes k.front k.out c n passes bad))

@@ -7,6 +7,5 @@ pub mod Acceptance
 pub mod Retained
 pub mod UnderWay
 pub mod Rewritten
-pub mod Outputs
 pub mod Divided
 pub mod Ended

@@ -3,27 +3,29 @@
 //
 // `close` and `begin` answer for every input. Where the rooms are too small for the budget, or the counts are no counts of such a search, `close` leaves all
 // as it is.
+#![tactic(auto)]
+
 ghost use Rattle.std.specs.Prelude.{◌≡◌};
 ghost use Rattle.visits.specs.Visits.{ready, shut_at, ClosedIf, Started};
 
 use rooms::{Counts, Entry, Feet, Label, NodeRecord};
 
 // What is searched: how many nodes may be retained, and the goal.
-#[derive(Drop)]
+#[derive(Clone, Copy)]
 pub struct Aim {
     pub budget: usize,
     pub goal: Feet,
 }
 
 // A node that was closed, as it was before, and the counts after.
-#[derive(Drop)]
+#[derive(Clone, Copy)]
 pub struct Closing {
     pub node: NodeRecord,
     pub counts: Counts,
 }
 
 // What a visit comes to: its point is that of a closed node, and nothing changes; or the counts after.
-#[derive(Drop)]
+#[derive(Clone, Copy)]
 pub enum Visit {
     Closed,
     Counted(Counts),

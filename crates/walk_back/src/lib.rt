@@ -2,6 +2,8 @@
 // no rooms.
 //
 // `rooms` reads a record of the list, `listed` compares it, `pairs` has whether one pair is the graph's and why not, and here the list is gone through once.
+#![tactic(auto)]
+
 ghost use Rattle.std.specs.Prelude.{◌≡◌};
 ghost use Rattle.world.specs.Space.{space};
 ghost use Rattle.walk_back.specs.WalkBack.{walked_given, walked_by, going_on, walked_list, walked};
@@ -11,7 +13,7 @@ use questions::Judgement;
 use world::{Body, Request, Window};
 
 // Why a list is no route. With a pair's reason goes its later point's place in the list, counted from 0.
-#[derive(Drop)]
+#[derive(Clone, Copy)]
 pub enum Fault {
     InvalidRequest,
     BadList,
@@ -24,7 +26,7 @@ pub enum Fault {
 }
 
 // What a walk-back answers: the list is a route, it is none and why, or a refusal of 01.
-#[derive(Drop)]
+#[derive(Clone, Copy)]
 pub enum Walked {
     Yes,
     No(Fault),

@@ -3,6 +3,8 @@
 //
 // Each file has one call, `roots` and `slices` two. `c_records` reads what a caller hands over; `c_answers`, `c_scene` and `answer_words` write what it
 // gets back.
+#![tactic(auto)]
+
 pub mod apex;
 pub mod edge;
 pub mod length;

@@ -1,5 +1,7 @@
 // Ways: whether a body may go the way of an edge, up by the lift, across to the target's column, and down or up to the target (01, The graph, "Edge"), if not, why
 // (02, No. 3), and if so, which door it meets (02, No. 5).
+#![tactic(auto)]
+
 ghost use Rattle.std.specs.Prelude.{◌≡◌};
 ghost use Rattle.world.specs.Space.{space};
 ghost use Rattle.clear.specs.Corridors.{corridor};

@@ -1,4 +1,6 @@
 // Points and edges as words of records (01, Tables, "Waypoint record"): what an expansion reads of a node's feet, and what it writes of an edge.
+#![tactic(auto)]
+
 ghost use Rattle.std.specs.Prelude.{◌≡◌};
 ghost use Rattle.words.specs.Words.{coordinate, point_of, feet_of, label_of};
 

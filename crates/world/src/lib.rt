@@ -2,12 +2,14 @@
 //
 // The types stand here, and `records` reads the tables; the cell at a place is the crate `space`, what is done with boxes is `boxes`. Every public function
 // answers for every input: a run of boxes ends where its table does.
+#![tactic(auto)]
+
 mod records;
 
 pub use records::{box_at, boxes_from, entry_at, point_at, size_above};
 
 // A place in the world, or a difference of two.
-#[derive(Drop)]
+#[derive(Clone, Copy)]
 pub struct Point {
     pub x: f64,
     pub y: f64,
@@ -15,14 +17,14 @@ pub struct Point {
 }
 
 // A box: its least and its greatest corner.
-#[derive(Drop)]
+#[derive(Clone, Copy)]
 pub struct Aabb {
     pub min: Point,
     pub max: Point,
 }
 
 // What walks: how wide and how high it is, and how high it steps.
-#[derive(Drop)]
+#[derive(Clone, Copy)]
 pub struct Body {
     pub width: f64,
     pub height: f64,
@@ -31,7 +33,7 @@ pub struct Body {
 
 // What a search is asked: the two ends, how far it may look, how many points it may keep, and what a step may rise or fall. The budget is a
 // u64, so that no number of a caller is cut before it is judged.
-#[derive(Drop)]
+#[derive(Clone, Copy)]
 pub struct Request {
     pub start: Point,
     pub goal: Point,
@@ -43,7 +45,7 @@ pub struct Request {
 }
 
 // Where the cell table lies: its least cell, and how many cells it has each way.
-#[derive(Drop)]
+#[derive(Clone, Copy)]
 pub struct Window {
     pub x: i32,
     pub y: i32,
@@ -54,7 +56,7 @@ pub struct Window {
 }
 
 // The two numbers of a record of 8 bytes, where there is one: a cell's state and shape, or a shape's first box and count.
-#[derive(Drop)]
+#[derive(Clone, Copy)]
 pub enum Entry {
     Of(u32, u32),
     Missing,
@@ -62,7 +64,7 @@ pub enum Entry {
 
 // What the tables say of a cell: whether a body may be in it, whether a body may stand on it, its run of box records, which has none where the cell does
 // not collide, whether it is such a cell, and the number of its state, which is its door then (02, No. 5).
-#[derive(Drop)]
+#[derive(Clone, Copy)]
 pub enum Cell {
     Unknown,
     Known {
@@ -79,7 +81,7 @@ pub enum Cell {
 pub const NO_DOOR: u32 = 4294967295;
 
 // A box record, where there is one.
-#[derive(Drop)]
+#[derive(Clone, Copy)]
 pub enum Found {
     Here(Aabb),
     End,

@@ -1,5 +1,7 @@
 // One record of a room written (01, "Tables", with the sizes of 02, No. 5): a waypoint of 48 bytes, a node of 64, a frontier record of 24; or a whole room set to
 // zero. A record that the room has no place for is not written.
+#![tactic(auto)]
+
 ghost use Rattle.std.specs.Prelude.{◌≡◌, length, replicate};
 ghost use Rattle.rooms.specs.Records.{with_waypoint};
 ghost use Rattle.rooms.specs.Laws.Writes.{PutNode, PutEntry};

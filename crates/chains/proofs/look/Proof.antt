@@ -12,7 +12,7 @@ use Rattle.fields.specs.RecordLaws.{last_or}
 use Rattle.rooms.specs.Records.{node_at}
 use Rattle.chains.specs.Chains.{each_below, good_parent}
 use Rattle.chains.specs.Laws.{each_all}
-use Rattle.chains.specs.Marks.{MarksSound, Reaches, marks_more, sound_copy, look_good, look_reaches, looked_none}
+use Rattle.chains.specs.Marks.{MarksSound, Reaches, sound_more, sound_copy, look_good, look_reaches, looked_none}
 use Rattle.chains.proofs.look.Statement.{statement}
 use Rattle.chains.proofs.look.Tie as tie
 
@@ -45,7 +45,7 @@ loop-holds : tie.Need-loop-init invariant-loop decreases-loop
 loop-holds c =
     let s = c.before.before.before.before in (
       omega arith,
-      marks_more s.args.nodes.now s.args.done.now 0 (0, refl) s.requires.1,
+      sound_more s.args.nodes.now s.args.done.now 0 (0, refl) s.requires.1,
       (λ j h. let z : j ≡ 0 = omega arith in rw z (sym c.before.is-linked.ensures ∙ not-false _ c.if2.false)),
       (λ e j h. (0, omega arith)),
     )

@@ -4,7 +4,7 @@ use Prim.Native.Nat.{ℕ, ◌+◌, ◌-◌, ◌≤◌, ◌<◌}
 use mathlib.Core.Path.{◌≡◌, refl, sym, ap, ◌∙◌}
 use Rattle.chains.specs.Chains.{parent_back, parents_back}
 use Rattle.chains.specs.Laws.{back_more, back_inside}
-use Rattle.chains.specs.Marks.{MarksSound, Reaches, reaches_back, marks_more}
+use Rattle.chains.specs.Marks.{MarksSound, Reaches, reaches_back, sound_more}
 use Rattle.chains.proofs.mark.Statement.{statement}
 use Rattle.chains.proofs.mark.Tie as tie
 
@@ -37,7 +37,7 @@ loop-again c =
     let l = c.before.before.loop in (
       omega arith,
       c.up.ensures ∙ ap (parent_back s.args.nodes.now) l.invariant.1 ∙ sym (back_more s.args.nodes.now l.i s.args.k),
-      marks_more s.args.nodes.now l.done l.at (rw l.invariant.1 (reaches_back s.args.nodes.now l.i s.args.k s.requires.4)) l.invariant.2,
+      sound_more s.args.nodes.now l.done l.at (rw l.invariant.1 (reaches_back s.args.nodes.now l.i s.args.k s.requires.4)) l.invariant.2,
     )
 
 returns : tie.Need-returns invariant-loop decreases-loop

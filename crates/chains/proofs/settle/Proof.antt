@@ -4,7 +4,7 @@ use Prim.Native.Nat.{ℕ, ◌<◌}
 use mathlib.Core.Path.{◌≡◌, sym, ap}
 use borrow.Author.Rules.{rules}
 use Rattle.chains.specs.Chains.{parent_back}
-use Rattle.chains.specs.Marks.{Reaches, reaches_on, marks_more, marked_end, marked_not}
+use Rattle.chains.specs.Marks.{Reaches, reaches_on, sound_more, marked_end, marked_not}
 use Rattle.chains.proofs.settle.Statement.{statement}
 use Rattle.chains.proofs.settle.Tie as tie
 
@@ -24,7 +24,7 @@ returns : tie.Need-returns
 returns c =
     let s = c.before.before.before.before in
     let r : Reaches s.args.nodes.now s.args.k = reaches_on s.args.nodes.now s.args.k (rw c.before.before.up.ensures at (s.requires.3 c.before.before.up.result c.if1.true)) in
-    marked_end (marks_more s.args.nodes.now s.args.done.now s.args.k r s.requires.3) r
+    marked_end (sound_more s.args.nodes.now s.args.done.now s.args.k r s.requires.3) r
 
 climb-requires : tie.Need-climb-requires
 climb-requires c κs = let s = c.before.before.before.before.before in (s.requires.0, s.requires.1, s.requires.2)

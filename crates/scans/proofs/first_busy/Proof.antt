@@ -2,7 +2,7 @@
 use native.Mathlib.Omega.{arith}
 use borrow.Author.Tests.{not-true, not-false}
 use Prim.Native.Nat.{◌-◌, ◌+◌}
-use mathlib.Core.Path.{◌≡◌, sym, ap, ◌∙◌}
+use mathlib.Core.Path.{◌≡◌, refl, sym, ap, ◌∙◌}
 use Rattle.rooms.specs.Scans.{first_of, busy}
 use Rattle.scans.specs.Laws.{first_here, first_later, first_end}
 use Rattle.scans.proofs.first_busy.Statement.{statement}
@@ -14,11 +14,8 @@ invariant-loop nodes front from n i₀ i = first_of (busy nodes front) from (n -
 abbrev decreases-loop : tie.decreases-loop
 decreases-loop nodes front from n i₀ i = n - i
 
-pass-rest-requires : tie.Need-pass-rest-requires invariant-loop decreases-loop
-pass-rest-requires c κs = tt
-
 loop-holds : tie.Need-loop-init invariant-loop decreases-loop
-loop-holds c = c.pass-rest.ensures
+loop-holds c = refl
 
 is-busy-requires : tie.Need-is-busy-requires invariant-loop decreases-loop
 is-busy-requires c κs = tt
@@ -31,7 +28,7 @@ loop-less c = omega (arith, c.before.before.loop-test.true)
 
 loop-again : tie.Need-loop-preserved invariant-loop decreases-loop
 loop-again c =
-    let a = c.before.before.before.before.before.before.before.args in
+    let a = c.before.before.before.before.before.before.args in
     let i = c.before.before.before.loop.i in
     let p = busy a.nodes.now a.front.now in
     let e : a.n - i - 1 ≡ a.n - (i + 1) = omega arith in
@@ -39,14 +36,14 @@ loop-again c =
 
 returns : tie.Need-returns invariant-loop decreases-loop
 returns c =
-    let a = c.before.before.before.before.before.before.before.args in
+    let a = c.before.before.before.before.before.before.args in
     let i = c.before.before.before.loop.i in
     let p = busy a.nodes.now a.front.now in
     sym (c.before.before.before.loop.invariant ∙ first_here p i (a.n - i) (sym c.before.is-busy.ensures ∙ not-false _ c.if1.false) (omega (arith, c.before.before.loop-test.true)))
 
 returns-2 : tie.Need-returns-2 invariant-loop decreases-loop
 returns-2 c =
-    let a = c.before.before.before.before.before.args in
+    let a = c.before.before.before.before.args in
     let i = c.before.loop.i in
     sym (c.before.loop.invariant ∙ first_end (busy a.nodes.now a.front.now) i (a.n - i) (omega (arith, c.loop-test.false)))
 
@@ -56,7 +53,6 @@ first-busy-spec =
     (tie.spec
     invariant-loop
     decreases-loop
-    pass-rest-requires
     loop-holds
     is-busy-requires
     add-i

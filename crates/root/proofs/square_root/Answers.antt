@@ -1,0 +1,15 @@
+-- `root::square_root` meets its contract: the infinity is told apart, and of all else it is what `root` answers. Assumes nothing.
+use mathlib.Core.Path.{sym, ap, ◌∙◌}
+use Rattle.root.specs.Root.{given}
+use Rattle.root.specs.Distance.{orNan}
+use Rattle.root.proofs.Sorts.{no_number, of_infinity, of_other}
+use Rattle.root.proofs.square_root.Goals as goal
+
+pub returns-then-x-infinity : goal.returns-then-x-infinity
+returns-then-x-infinity c = of_infinity c.args.x c.if-x-infinity.true
+
+pub returns-in-Of : goal.returns-in-Of
+returns-in-Of c = ap orNan (ap given (sym c.r-1.given.1) ∙ c.root.ensures.1) ∙ of_other c.args.x c.if-x-infinity.false
+
+pub returns-in-Refused : goal.returns-in-Refused
+returns-in-Refused c = no_number ∙ ap orNan (ap given (sym c.enum_told-1.given.1) ∙ c.root.ensures.1) ∙ of_other c.args.x c.if-x-infinity.false
