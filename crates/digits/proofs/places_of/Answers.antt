@@ -1,5 +1,4 @@
 -- `digits::places_of` meets its contract. Assumes nothing.
-use Rattle.digits.specs.Digits.{places}
 use Rattle.digits.specs.Laws.{one_place, more_places, most_places, some_place}
 use native.Mathlib.Omega.{arith}
 use Rattle.digits.proofs.places_of.Goals as goal

@@ -1,5 +1,5 @@
 -- `digits::put_digits` meets its contract. Assumes nothing.
-use borrow.Author.Tests.{not-true, not-false, leb-true}
+use borrow.Author.Tests.{leb-true}
 use Prim.Native.Nat.{◌+◌, ◌≤◌}
 use mathlib.Core.Path.{◌≡◌, refl, sym, ◌∙◌}
 use mathlib.Core.Bool.{true}
@@ -10,16 +10,19 @@ use lib.ListN.{length, length-set}
 use Rattle.digits.specs.Digits.{digits}
 use Rattle.digits.specs.Laws.{length_digits, one_digit, ended, no_room, in_room}
 use Rattle.digits.proofs.put_digits.Goals as goal
-use Rattle.digits.proofs.put_digits.Goals.{At-loop-k, Else-not-has_room}
+use Rattle.digits.proofs.put_digits.Goals.{Else-not-has_room}
 
 has_room : (c : Else-not-has_room) → leb (c.args.at + 21) (length c.args.out.now) ≡ true
-has_room c = sym c.has_room.ensures ∙ not-false _ c.if-not-has_room.false
+has_room c = sym c.has_room.ensures ∙ c.if-not-has_room.false
 
 room : (c : Else-not-has_room) → c.args.at + 21 ≤ length c.args.out.now
 room c = leb-true _ _ (has_room c)
 
 pub returns-then-not-has_room : goal.returns-then-not-has_room
-returns-then-not-has_room c = let a = c.args in no_room (digits a.base a.width a.v) a.out.now a.at a.end (sym c.has_room.ensures ∙ not-true _ c.if-not-has_room.true)
+returns-then-not-has_room c =
+    let a = c.args in
+    let w = no_room (digits a.base a.width a.v) a.out.now a.at a.end (sym c.has_room.ensures ∙ c.if-not-has_room.true) in
+    record { next = w.0; bytes = w.1 }
 
 pub overflow_add-out : goal.overflow_add-out
 overflow_add-out c = let r = room c in record { fits = omega arith }
@@ -43,10 +46,9 @@ bounds-out-at-in-loop-k c =
 
 pub loop-k-preserved : goal.loop-k-preserved
 loop-k-preserved c =
-    let at-loop = (goal.at.loop-k-preserved c).At-loop-k in
-    let a = at-loop.before.before.before.before.args in (
-      one_digit at-loop.loop.out a.at a.base at-loop.loop.k at-loop.loop.rest _ c.loop-k-test.true c.digit_of.ensures ∙ at-loop.loop.invariant.0,
-      simp length-set (simp length-set at at-loop.loop.invariant.1),
+    let a = c.args in (
+      one_digit c.loop-k.out a.at a.base c.loop-k.k c.loop-k.rest _ c.loop-k-test.true c.digit_of.ensures ∙ c.loop-k.invariant.0,
+      simp length-set (simp length-set at c.loop-k.invariant.1),
       omega arith,
     )
 
@@ -63,5 +65,8 @@ pub returns : goal.returns
 returns c =
     let a = c.args in
     let e : c.loop-k.k ≡ 0 = omega arith in
-    in_room (digits a.base a.width a.v) a.out.now a.at a.end _ (a.at + a.width + 1) (has_room (goal.at.returns c).Else-not-has_room) (omega (arith, length_digits a.base a.width a.v))
-    (rw e at c.loop-k.invariant.0 ∙ ended a.out.now a.at a.base a.width a.v a.end)
+    let w =
+    in_room (digits a.base a.width a.v) a.out.now a.at a.end _ (a.at + a.width + 1) (has_room (goal.at.returns c).Else-not-has_room)
+    (omega (arith, length_digits a.base a.width a.v)) (rw e at c.loop-k.invariant.0 ∙ ended a.out.now a.at a.base a.width a.v a.end)
+    in
+    record { next = w.0; bytes = w.1 }
