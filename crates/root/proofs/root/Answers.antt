@@ -10,10 +10,10 @@ use Rattle.root.proofs.root.Goals.{Start}
 
 -- what owning an `f64` tells: the format holds it
 held : (c : Start) → T (fits binary64 c.args.x)
-held c = subst T (sym c.well-formed.0.1) tt
+held c = subst T (sym c.well_formed.0.1) tt
 
 pub returns-then-x : goal.returns-then-x
-returns-then-x c = both _ (Of c.args.x) (held (goal.at.returns-then-x c).Start) (zero_answer c.args.x c.if-x.true)
+returns-then-x c = let p = both _ (Of c.args.x) (held (goal.at.returns-then-x c).Start) (zero_answer c.args.x c.if-x.true) in record { is_root = p.0; is_answer = p.1 }
 
 pub nearest_root-r-requires : goal.nearest_root-r-requires
 nearest_root-r-requires c = finite_above _ c.if-x-infinity.true
@@ -21,7 +21,7 @@ nearest_root-r-requires c = finite_above _ c.if-x-infinity.true
 pub returns-then-x-infinity : goal.returns-then-x-infinity
 returns-then-x-infinity c =
     let x = c.args.x in
-    both _ (Of c.nearest_root-r.result) (held (goal.at.returns-then-x-infinity c).Start) (ap value c.nearest_root-r.ensures ∙ root_answer x (finite_above x c.if-x-infinity.true))
+    let p = both _ (Of c.nearest_root-r.result) (held (goal.at.returns-then-x-infinity c).Start) (ap value c.nearest_root-r.ensures ∙ root_answer x (finite_above x c.if-x-infinity.true)) in record { is_root = p.0; is_answer = p.1 }
 
 pub returns : goal.returns
-returns c = both _ Refused (held (goal.at.returns c).Start) (refused_answer c.args.x c.if-x.false c.if-x-infinity.false)
+returns c = let p = both _ Refused (held (goal.at.returns c).Start) (refused_answer c.args.x c.if-x.false c.if-x-infinity.false) in record { is_root = p.0; is_answer = p.1 }

@@ -9,7 +9,7 @@ pub returns-then-x-infinity : goal.returns-then-x-infinity
 returns-then-x-infinity c = of_infinity c.args.x c.if-x-infinity.true
 
 pub returns-in-Of : goal.returns-in-Of
-returns-in-Of c = ap orNan (ap given (sym c.r-1.given.1) ∙ c.root.ensures.1) ∙ of_other c.args.x c.if-x-infinity.false
+returns-in-Of c = ap orNan (ap given (sym c.in-Of.is) ∙ c.root.ensures.is_answer) ∙ of_other c.args.x c.if-x-infinity.false
 
 pub returns-in-Refused : goal.returns-in-Refused
-returns-in-Refused c = no_number ∙ ap orNan (ap given (sym c.enum_told-1.given.1) ∙ c.root.ensures.1) ∙ of_other c.args.x c.if-x-infinity.false
+returns-in-Refused c = no_number ∙ ap orNan (ap given (sym c.in-Refused.is) ∙ c.root.ensures.is_answer) ∙ of_other c.args.x c.if-x-infinity.false

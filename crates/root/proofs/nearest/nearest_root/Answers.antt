@@ -13,12 +13,12 @@ use Rattle.root.proofs.nearest.nearest_root.Goals.{After-scaled-s, After-whole_r
 
 -- what owning an `f64` tells: the format holds it
 held : (c : Start) → T (fits binary64 c.args.x)
-held c = subst T (sym c.well-formed.0.1) tt
+held c = subst T (sym c.well_formed.0.1) tt
 
 -- what `scaled` says of x's pattern, of x
-parts : (c : After-scaled-s) → Scaled c.args.x c.scaled-s.result.m c.scaled-s.result.e
-parts c =
-    subst (λ (x : Float). Scaled x c.scaled-s.result.m c.scaled-s.result.e) (of_bits-to_bits binary64 c.args.x (held ?PLACE(Start))) c.scaled-s.ensures
+parts : (c : After-scaled-s) → T (fits binary64 c.args.x) → Scaled c.args.x c.scaled-s.result.m c.scaled-s.result.e
+parts c h =
+    subst (λ (x : Float). Scaled x c.scaled-s.result.m c.scaled-s.result.e) (of_bits-to_bits binary64 c.args.x h) c.scaled-s.ensures
 
 within : (c : After-whole_root-r) → (2 ^ 53 ≤ c.whole_root-r.result) × (c.whole_root-r.result + 1 < 2 ^ 54)
 within c =
@@ -45,4 +45,4 @@ pub float_from_bits-result : goal.float_from_bits-result
 float_from_bits-result c = no_nan_bits _ (omega (arith, within c, c.scaled-s.ensures.high))
 
 pub returns : goal.returns
-returns c = right_root c.args.x c.scaled-s.result.m c.scaled-s.result.e c.whole_root-r.result (held (goal.at.returns c).Start) c.requires (parts (goal.at.returns c).After-scaled-s) c.whole_root-r.ensures
+returns c = right_root c.args.x c.scaled-s.result.m c.scaled-s.result.e c.whole_root-r.result (held (goal.at.returns c).Start) c.requires (parts (goal.at.returns c).After-scaled-s (held (goal.at.returns c).Start)) c.whole_root-r.ensures
