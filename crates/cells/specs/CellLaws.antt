@@ -150,6 +150,7 @@ floor_is (fin true m e) i =
 -- what is asked of such a number before its whole part is taken
 or_left : (a b : Bool) → T a → T (a || b)
 or_left true b t = t
+or_left false b t = elim t [ ]
 
 lt_le : (x y : Float) → T (lt x y) → T (le x y)
 unfolding le

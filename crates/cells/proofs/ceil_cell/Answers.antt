@@ -7,7 +7,7 @@ use Rattle.cells.proofs.ceil_cell.Goals as goal
 use Rattle.cells.proofs.ceil_cell.Goals.{After-floor_cell-floor}
 
 floor : (c : After-floor_cell-floor) → to_z w64 (of_z w64 c.floor_cell-floor.result) ≡ floor_cell c.args.x
-floor c = to_z-of_z (search rules) ∙ c.floor_cell-floor.ensures
+floor c = to_z-of_z {w = w64} (search rules) ∙ c.floor_cell-floor.ensures
 
 pub int_to_float-result : goal.int_to_float-result
 int_to_float-result c = rw (floor (goal.at.int_to_float-result c).After-floor_cell-floor) (exact_cell _ (floor_range _))
@@ -16,4 +16,4 @@ pub overflow_add-result : goal.overflow_add-result
 overflow_add-result c = rw (floor (goal.at.overflow_add-result c).After-floor_cell-floor, bit, ceil_is) (cell_fits _ (ceil_range _))
 
 pub returns : goal.returns
-returns c = rw (floor (goal.at.returns c).After-floor_cell-floor, bit, ceil_is) (to_z-of_z (cell_fits _ (ceil_range _)))
+returns c = rw (floor (goal.at.returns c).After-floor_cell-floor, bit, ceil_is) (to_z-of_z {w = w64} (cell_fits _ (ceil_range _)))

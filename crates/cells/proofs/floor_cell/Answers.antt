@@ -11,10 +11,10 @@ unfolding of_bits neg
 inside c = record { over = c.if-x-2.true; under = c.if-x.true }
 
 part : (c : After-truncating_f64_to_i64-whole) → to_z w64 (of_z w64 c.truncating_f64_to_i64-whole.result) ≡ to_signed 63 c.args.x
-part c = to_z-of_z (search rules) ∙ c.truncating_f64_to_i64-whole.ensures
+part c = to_z-of_z {w = w64} (search rules) ∙ c.truncating_f64_to_i64-whole.ensures
 
 pub truncating_f64_to_i64-whole-requires : goal.truncating_f64_to_i64-whole-requires
-truncating_f64_to_i64-whole-requires c = part_asked _ (inside c)
+truncating_f64_to_i64-whole-requires c = let p = part_asked _ (inside c) in record { lower_bound = p.0; upper_bound = p.1 }
 
 pub int_to_float-result : goal.int_to_float-result
 int_to_float-result c = rw (part (goal.at.int_to_float-result c).After-truncating_f64_to_i64-whole) (exact_cell _ (part_range _ (inside (goal.at.int_to_float-result c).Then-x-2)))
@@ -23,7 +23,7 @@ pub overflow_sub-result : goal.overflow_sub-result
 overflow_sub-result c = rw (part (goal.at.overflow_sub-result c).After-truncating_f64_to_i64-whole, bit, floor_is _ (inside (goal.at.overflow_sub-result c).Then-x-2)) (cell_fits _ (floor_range _))
 
 pub returns-then-x-2 : goal.returns-then-x-2
-returns-then-x-2 c = rw (part (goal.at.returns-then-x-2 c).After-truncating_f64_to_i64-whole, bit, floor_is _ (inside (goal.at.returns-then-x-2 c).Then-x-2)) (to_z-of_z (cell_fits _ (floor_range _)))
+returns-then-x-2 c = rw (part (goal.at.returns-then-x-2 c).After-truncating_f64_to_i64-whole, bit, floor_is _ (inside (goal.at.returns-then-x-2 c).Then-x-2)) (to_z-of_z {w = w64} (cell_fits _ (floor_range _)))
 
 pub returns-else-x-2 : goal.returns-else-x-2
 unfolding of_bits neg
