@@ -2,7 +2,7 @@
 use Rattle.std.specs.Prelude.{ℕ, zero, suc, ◌+◌, ◌≤◌, ◌<◌, ◌≡◌, refl, Bool, true, false, List, [], ◌∷◌, ◌≢◌, get_or, set, replicate, eqb}
 use Rattle.std.proofs.Common.{arith, sym, ap, ◌∙◌, ⊎_elim, get_or-set_other, eq-eqb, eqb-true}
 use Rattle.std.proofs.lemmas.Bool.{eqb-false}
-use Rattle.exploration.specs.Laws.Lists.{true_or_false, true_false}
+use Rattle.exploration.proofs.Laws.Lists.{true_or_false, true_false}
 use Rattle.rooms.specs.Records.{node_at}
 use Rattle.chains.specs.Chains.{each_below, good_parent, parent_back, parents_back, ends_at_start, good_chains}
 use Rattle.chains.specs.Laws as laws

@@ -7,8 +7,8 @@ use Rattle.std.specs.Float.Ieee.{is_nan, lt, eq}
 use Rattle.exploration.specs.Lists.{nth, has, count}
 use Rattle.exploration.specs.Graph.{Reach}
 use Rattle.exploration.specs.Explore.{Searching}
-use Rattle.exploration.specs.Claims as theory
-use Rattle.exploration.specs.Laws.FloatOrder.{float_comparison}
+use Rattle.exploration.proofs.Claims as theory
+use Rattle.exploration.proofs.Laws.FloatOrder.{float_comparison}
 use Rattle.world.specs.declared.Body.{Body}
 use Rattle.world.specs.declared.Request.{Request}
 use Rattle.world.specs.declared.Window.{Window}

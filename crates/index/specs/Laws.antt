@@ -6,7 +6,7 @@ use Rattle.std.proofs.Math.Logic.{inl, inr, ⊎_elim}
 use native.Mathlib.Omega.{arith}
 use Rattle.std.proofs.Math.Nat.{mod-eq_of_lt}
 use Rattle.std.proofs.lemmas.Bool.{eqb-false}
-use Rattle.exploration.specs.Laws.Lists.{true_false, and_first, and_second}
+use Rattle.exploration.proofs.Laws.Lists.{true_false, and_first, and_second}
 use Rattle.fields.specs.Laws.{field_zeros, length_with, read_back, read_other}
 use Rattle.rooms.specs.declared.Feet.{Feet}
 use Rattle.rooms.specs.Waypoints.{canonical_word, same_word, same_point}

@@ -3,7 +3,7 @@ use Rattle.std.specs.Prelude.{◌≡◌, ℕ, zero, suc, ◌*◌, ◌/◌, ◌%�
 use Rattle.std.proofs.Common.{sym, ap, subst, ◌∙◌, ⊎_elim, arith, eq-eqb, ne_eqb, eqb-true, le-leb, leb-true, leb-false}
 use Rattle.std.proofs.Math.Nat.{pow-le-pow_right}
 use Rattle.std.proofs.lemmas.Bool.{lt-leb, not-false}
-use Rattle.exploration.specs.Laws.Lists.{true_false, and_first, and_second, or_cases, or_left, or_right}
+use Rattle.exploration.proofs.Laws.Lists.{true_false, and_first, and_second, or_cases, or_left, or_right}
 use Rattle.rooms.specs.Laws.Lists.{in_or_out}
 use Rattle.index.specs.Size.{power_below, is_power, wrong_size}
 

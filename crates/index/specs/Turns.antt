@@ -2,7 +2,7 @@
 use Rattle.std.specs.Prelude.{◌≡◌, ℕ, zero, suc, ◌+◌, ◌-◌, ◌%◌, ◌^◌, ◌<◌, ◌≤◌, Bool, true, false, ◌||◌, List, ◌==◌, nat_lt, refl}
 use Rattle.std.proofs.Common.{arith, ltb-true}
 use Rattle.std.proofs.lemmas.Nat.{and_le_r, and_mask}
-use Rattle.exploration.specs.Laws.Lists.{true_false}
+use Rattle.exploration.proofs.Laws.Lists.{true_false}
 use Rattle.rooms.specs.declared.Feet.{Feet}
 use Rattle.rooms.specs.Records.{node_at}
 use Rattle.rooms.specs.Scans.{is_at}

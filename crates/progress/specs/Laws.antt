@@ -1,7 +1,7 @@
 -- What a continued search may rely on.
 use Rattle.std.specs.Prelude.{ℕ, zero, suc, ◌+◌, ◌-◌, ◌*◌, ◌/◌, ◌≤◌, ◌<◌, ◌≡◌, refl, Bool, true, false, not, ◌&&◌, cond, List, ◌≢◌, eqb, leb, ltb, length}
 use Rattle.std.proofs.Common.{arith, sym, ap, subst, ◌∙◌, ⊎_elim, eq-eqb, ne_eqb, leb-true, ltb-true, ltb-false}
-use Rattle.exploration.specs.Laws.Lists.{and_first, and_second}
+use Rattle.exploration.proofs.Laws.Lists.{and_first, and_second}
 use Rattle.world.specs.declared.Request.{Request}
 use Rattle.rooms.specs.declared.Counts.{Counts}
 use Rattle.fields.specs.Little.{field}

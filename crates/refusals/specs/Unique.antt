@@ -2,7 +2,7 @@
 use Rattle.std.specs.Prelude.{◌≡◌, refl}
 use Rattle.std.proofs.Common.{sym, ap}
 use Rattle.std.proofs.Math.Option.{Option, none, some}
-use Rattle.exploration.specs.Laws.Lists.{none_some}
+use Rattle.exploration.proofs.Laws.Lists.{none_some}
 use Rattle.outcomes.specs.declared.Outcome.{Outcome}
 use Rattle.outcomes.specs.Outcomes.{outcome_number}
 use Rattle.outcomes.specs.Unique.{one_outcome}

@@ -4,7 +4,7 @@ use Rattle.std.proofs.Common.{sym, ap, subst, ◌∙◌, inl, inr, ⊎_elim, ari
 use Rattle.std.proofs.Math.Option.{Option, none, some}
 use borrow.Author.Tests.{eq-eqb, ne_eqb, lt-ltb, le-ltb, ltb-true, ltb-false}
 use Rattle.exploration.specs.Choose.{choose, scan, keep}
-use Rattle.exploration.specs.Laws.Loops.{scan_snoc}
+use Rattle.exploration.proofs.Laws.Loops.{scan_snoc}
 use Rattle.fields.specs.Little.{field}
 use Rattle.fields.specs.Records.{firsts}
 use Rattle.fields.specs.RecordLaws.{length_firsts, last_or}

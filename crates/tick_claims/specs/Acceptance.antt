@@ -14,8 +14,8 @@ use Rattle.exploration.specs.Lists.{nth}
 use Rattle.exploration.specs.Graph.{Graph}
 use Rattle.exploration.specs.Policy.{Node, Policy}
 use Rattle.exploration.specs.Explore.{Searching, outcome}
-use Rattle.exploration.specs.Laws.Invariant.{Link, first_link, next_link, Trail, first_trail, next_trail}
-use Rattle.exploration.specs.Laws.Lists.{true_or_false, true_false, none_some, nth_lt, nth_one}
+use Rattle.exploration.proofs.Laws.Invariant.{Link, first_link, next_link, Trail, first_trail, next_trail}
+use Rattle.exploration.proofs.Laws.Lists.{true_or_false, true_false, none_some, nth_lt, nth_one}
 use Rattle.fields.specs.Little.{field}
 use Rattle.fields.specs.Laws.{field_zeros}
 use Rattle.fields.specs.Pieces.{field_drop}

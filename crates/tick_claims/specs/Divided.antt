@@ -13,8 +13,8 @@ use Rattle.exploration.specs.Graph.{Graph}
 use Rattle.exploration.specs.Policy.{Node, Policy}
 use Rattle.exploration.specs.Explore as explore
 use Rattle.exploration.specs.Explore.{State, points, begin, run, outcome}
-use Rattle.exploration.specs.Laws.Expansions.{Sound, sound_room, ran, begin_sound}
-use Rattle.exploration.specs.Laws.Loops.{run_add}
+use Rattle.exploration.proofs.Laws.Expansions.{Sound, sound_room, ran, begin_sound}
+use Rattle.exploration.proofs.Laws.Loops.{run_add}
 use Rattle.world.specs.declared.Window.{Window}
 use Rattle.world.specs.declared.Body.{Body}
 use Rattle.world.specs.declared.Request.{Request}

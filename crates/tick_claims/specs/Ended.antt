@@ -11,8 +11,8 @@ use Rattle.exploration.specs.Graph.{Graph}
 use Rattle.exploration.specs.Policy.{Policy}
 use Rattle.exploration.specs.Explore as explore
 use Rattle.exploration.specs.Explore.{State, outcome}
-use Rattle.exploration.specs.Claims.{every_division_ends_alike}
-use Rattle.exploration.specs.Laws.Lists.{and_first, and_second, true_or_false, true_false}
+use Rattle.exploration.proofs.Claims.{every_division_ends_alike}
+use Rattle.exploration.proofs.Laws.Lists.{and_first, and_second, true_or_false, true_false}
 use Rattle.fields.specs.Laws.{field_zeros}
 use Rattle.world.specs.declared.Window.{Window}
 use Rattle.world.specs.declared.Body.{Body}

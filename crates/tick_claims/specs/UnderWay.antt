@@ -7,12 +7,12 @@ use Rattle.exploration.specs.Lists.{nth}
 use Rattle.exploration.specs.Graph.{Graph}
 use Rattle.exploration.specs.Policy.{Node, Policy}
 use Rattle.exploration.specs.Explore.{State, Searching, begin, outcome}
-use Rattle.exploration.specs.Laws.Counts.{run_counts}
-use Rattle.exploration.specs.Laws.Endings.{wait_of, inv_going}
-use Rattle.exploration.specs.Laws.Expansions.{Sound, sound_room, sound_counted, open_of, ran, begin_sound}
-use Rattle.exploration.specs.Laws.Invariant.{Inv}
-use Rattle.exploration.specs.Laws.Lists.{or-false, count_le}
-use Rattle.exploration.specs.Laws.Roots.{start_alone}
+use Rattle.exploration.proofs.Laws.Counts.{run_counts}
+use Rattle.exploration.proofs.Laws.Endings.{wait_of, inv_going}
+use Rattle.exploration.proofs.Laws.Expansions.{Sound, sound_room, sound_counted, open_of, ran, begin_sound}
+use Rattle.exploration.proofs.Laws.Invariant.{Inv}
+use Rattle.exploration.proofs.Laws.Lists.{or-false, count_le}
+use Rattle.exploration.proofs.Laws.Roots.{start_alone}
 use Rattle.world.specs.declared.Window.{Window}
 use Rattle.world.specs.declared.Body.{Body}
 use Rattle.world.specs.declared.Request.{Request}

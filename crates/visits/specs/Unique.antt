@@ -7,7 +7,7 @@ use Rattle.std.proofs.Math.Option.{none}
 use mathlib.Core.List.{List, []}
 use Rattle.exploration.specs.Graph.{Graph}
 use Rattle.exploration.specs.Explore.{State, apply, effect_at, close}
-use Rattle.exploration.specs.Laws.Lists.{true_false}
+use Rattle.exploration.proofs.Laws.Lists.{true_false}
 use Rattle.fields.specs.Pieces.{Bytes}
 use Rattle.fields.specs.RecordLaws.{length_firsts}
 use Rattle.rooms.specs.declared.Feet.{Feet}

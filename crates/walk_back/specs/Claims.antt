@@ -4,8 +4,8 @@ use Rattle.std.proofs.Common.{arith, sym, ap, ◌∙◌}
 use borrow.Author.Tests.{eq-eqb, eqb-true}
 use Rattle.exploration.specs.Lists.{first_failing}
 use Rattle.exploration.specs.WalkBack.{Going, Through, Astray, Broken}
-use Rattle.exploration.specs.Claims.{route_test_exact}
-use Rattle.exploration.specs.Laws.Lists.{and_both, and_first, and_second}
+use Rattle.exploration.proofs.Claims.{route_test_exact}
+use Rattle.exploration.proofs.Laws.Lists.{and_both, and_first, and_second}
 use Rattle.world.specs.declared.Body.{Body}
 use Rattle.world.specs.declared.Request.{Request}
 use Rattle.world.specs.declared.Window.{Window}

@@ -5,7 +5,7 @@ use Rattle.std.proofs.Math.Path.{refl}
 use Rattle.std.proofs.Math.Option.{some}
 use Rattle.exploration.specs.Lists.{nth, has}
 use Rattle.exploration.specs.Graph.{Way, arrived, connected, stepped, Route, route, labelled}
-use Rattle.exploration.specs.Laws.Lists.{none_some, true_false, or_cases, and_first, and_second}
+use Rattle.exploration.proofs.Laws.Lists.{none_some, true_false, or_cases, and_first, and_second}
 use Rattle.listed.specs.Listed.{above3}
 use Rattle.world.specs.declared.Body.{Body}
 use Rattle.world.specs.declared.Request.{Request}

@@ -10,9 +10,9 @@ use Rattle.std.proofs.Math.Dec.{eqb}
 use Rattle.std.proofs.Math.ListN.{length}
 use Rattle.exploration.specs.Graph.{has_step}
 use Rattle.exploration.specs.WalkBack.{is_last, Astray, Broken, joined, last_of, steps_along}
-use Rattle.exploration.specs.Claims.{breaks_at_the_first_pair}
-use Rattle.exploration.specs.Laws.Lists.{and_first, and_second}
-use Rattle.exploration.specs.Laws.WalkBack.{astray_is}
+use Rattle.exploration.proofs.Claims.{breaks_at_the_first_pair}
+use Rattle.exploration.proofs.Laws.Lists.{and_first, and_second}
+use Rattle.exploration.proofs.Laws.WalkBack.{astray_is}
 use Rattle.world.specs.declared.Body.{Body}
 use Rattle.world.specs.declared.Request.{Request}
 use Rattle.world.specs.Space.{Space}

@@ -7,10 +7,10 @@ use borrow.Author.Tests.{eq-eqb, ne_eqb, eqb-true, ltb-true, ltb-false}
 use Rattle.std.proofs.Math.Dec.{eqb}
 use Rattle.std.proofs.Math.ListN.{length}
 use Rattle.exploration.specs.Lists.{has}
-use Rattle.exploration.specs.Claims.{route_test_exact}
+use Rattle.exploration.proofs.Claims.{route_test_exact}
 use Rattle.exploration.specs.WalkBack.{is_way, is_route, Going, Through, Astray, Broken, going}
-use Rattle.exploration.specs.Laws.Lists.{true_false, and_second}
-use Rattle.exploration.specs.Laws.WalkBack.{is_through, through_is}
+use Rattle.exploration.proofs.Laws.Lists.{true_false, and_second}
+use Rattle.exploration.proofs.Laws.WalkBack.{is_through, through_is}
 use Rattle.world.specs.declared.Body.{Body}
 use Rattle.world.specs.declared.Request.{Request}
 use Rattle.world.specs.Space.{Space}

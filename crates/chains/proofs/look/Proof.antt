@@ -7,7 +7,7 @@ use mathlib.Core.Logic.{⊎_elim, ◌≢◌}
 use borrow.Author.Tests.{not-false, eq-eqb}
 use lib.Dec.{eqb}
 use lib.ListN.{get_or}
-use Rattle.exploration.specs.Laws.Lists.{and_first, and_second, true_false}
+use Rattle.exploration.proofs.Laws.Lists.{and_first, and_second, true_false}
 use Rattle.fields.specs.RecordLaws.{last_or}
 use Rattle.rooms.specs.Records.{node_at}
 use Rattle.chains.specs.Chains.{each_below, good_parent}

@@ -6,7 +6,7 @@ use Rattle.std.proofs.Common.{sym, eqb-true}
 use Rattle.std.proofs.Math.Logic.{⊎_elim}
 use Rattle.exploration.specs.Lists.{has}
 use Rattle.exploration.specs.Graph.{Way, arrived, connected, stepped, Route, route, has_step, labelled, connects}
-use Rattle.exploration.specs.Laws.Lists.{or_cases, and_first, and_second}
+use Rattle.exploration.proofs.Laws.Lists.{or_cases, and_first, and_second}
 use Rattle.floats.specs.Laws.{bits_below}
 use Rattle.fields.specs.Records.{Fill}
 use Rattle.world.specs.declared.Body.{Body}

@@ -12,7 +12,7 @@ use Rattle.exploration.specs.Lists.{has, count}
 use Rattle.exploration.specs.Graph.{Reach}
 use Rattle.exploration.specs.Explore as explore
 use Rattle.exploration.specs.Explore.{points}
-use Rattle.exploration.specs.Laws.Lists.{or-false}
+use Rattle.exploration.proofs.Laws.Lists.{or-false}
 use Rattle.world.specs.declared.Body.{Body}
 use Rattle.world.specs.declared.Request.{Request}
 use Rattle.world.specs.declared.Window.{Window}

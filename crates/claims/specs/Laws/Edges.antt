@@ -3,7 +3,7 @@ use Rattle.std.specs.Prelude.{◌≡◌, Bool, Float}
 use Rattle.std.proofs.Math.Path.{refl}
 use Rattle.std.proofs.Math.Bool.{true, false, cond}
 use Rattle.std.specs.Float.Ieee.{binary64, lt, le, add, sub, neg}
-use Rattle.exploration.specs.Laws.Lists.{and_first}
+use Rattle.exploration.proofs.Laws.Lists.{and_first}
 use Rattle.floats.specs.Floats.{E, nought, larger}
 use Rattle.world.specs.declared.Point.{Point}
 use Rattle.world.specs.declared.Body.{Body}

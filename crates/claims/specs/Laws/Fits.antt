@@ -4,7 +4,7 @@ use Rattle.std.specs.Prelude.{◌≡◌, refl, Bool, true, false, cond, List, []
 use Rattle.std.specs.Float.Ieee.{binary64, fits, lt, le, add, neg}
 use Rattle.std.specs.Float.Ieee.Bits.{of_bits-fits}
 use Rattle.std.specs.Float.Ieee.Fits.{add-fits, sub-fits, cond-fits}
-use Rattle.exploration.specs.Laws.Lists as lists
+use Rattle.exploration.proofs.Laws.Lists as lists
 use Rattle.floats.specs.Floats.{E, nought, larger}
 use Rattle.cells.specs.Cells.{floor_cell}
 use Rattle.regions.specs.Ranges.{gather, along}

@@ -10,7 +10,7 @@ use Rattle.std.specs.Float.Ieee.Bits.{is_true}
 use Rattle.std.specs.Float.Ieee.Fits.{down_pos}
 use Rattle.std.specs.Float.Ieee.Order.{round_mono}
 use Rattle.std.specs.Float.Ieee.Scale.{finite}
-use Rattle.exploration.specs.Laws.Lists.{and_first, and_second, or-false}
+use Rattle.exploration.proofs.Laws.Lists.{and_first, and_second, or-false}
 use Rattle.floats.specs.Floats.{E, nought, absolute}
 use Rattle.floats.specs.Order.{false_true, le_fin, le_right, le_trans, lt_le, not_le}
 use Rattle.floats.specs.Sums.{sum_grows, within_grows}

@@ -3,7 +3,7 @@ use Rattle.std.specs.Prelude.{ℕ, ◌≡◌, List, [], ◌∷◌, ◌++◌, set
 use Rattle.std.proofs.Math.Option.{some}
 use Rattle.std.proofs.Common.{⊎_elim}
 use Rattle.exploration.specs.Lists.{nth}
-use Rattle.exploration.specs.Laws.Lists.{none_some, nth_snoc, nth_set}
+use Rattle.exploration.proofs.Laws.Lists.{none_some, nth_snoc, nth_set}
 
 module _ {A : Type 0} (Q : A → Type 0) where
   abbrev pub AllOf : List A → Type 0

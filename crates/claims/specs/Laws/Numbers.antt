@@ -10,8 +10,8 @@ use Rattle.exploration.specs.Lists.{nth}
 use Rattle.exploration.specs.Graph.{Graph}
 use Rattle.exploration.specs.Policy.{Node}
 use Rattle.exploration.specs.Explore.{child, closed_node, run, begin}
-use Rattle.exploration.specs.Laws.Lists as lists
-use Rattle.exploration.specs.Laws.Kept.{Kept, run_kept}
+use Rattle.exploration.proofs.Laws.Lists as lists
+use Rattle.exploration.proofs.Laws.Kept.{Kept, run_kept}
 use Rattle.floats.specs.Laws.{float_of_bits}
 use Rattle.world.specs.declared.Point.{Point}
 use Rattle.world.specs.declared.Body.{Body}

@@ -4,8 +4,8 @@ use mathlib.Core.List.{[]}
 use Rattle.exploration.specs.Graph.{Graph}
 use Rattle.exploration.specs.Policy.{Node}
 use Rattle.exploration.specs.Explore.{run, begin}
-use Rattle.exploration.specs.Laws.Lists as lists
-use Rattle.exploration.specs.Laws.Kept.{Kept, run_kept}
+use Rattle.exploration.proofs.Laws.Lists as lists
+use Rattle.exploration.proofs.Laws.Kept.{Kept, run_kept}
 use Rattle.world.specs.declared.Point.{Point}
 use Rattle.world.specs.declared.Body.{Body}
 use Rattle.world.specs.declared.Request.{Request}

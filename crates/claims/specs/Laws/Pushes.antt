@@ -8,8 +8,8 @@ use Rattle.exploration.specs.Lists.{nth}
 use Rattle.exploration.specs.Graph.{Graph}
 use Rattle.exploration.specs.Policy.{Node}
 use Rattle.exploration.specs.Explore.{child, closed_node, start_node, run, begin}
-use Rattle.exploration.specs.Laws.Lists.{none_some, true_false, nth_snoc, nth_set}
-use Rattle.exploration.specs.Laws.Kept.{Kept, each_any, run_kept}
+use Rattle.exploration.proofs.Laws.Lists.{none_some, true_false, nth_snoc, nth_set}
+use Rattle.exploration.proofs.Laws.Kept.{Kept, each_any, run_kept}
 use Rattle.rooms.specs.declared.Feet.{Feet}
 use Rattle.rooms.specs.declared.Label.{Label}
 use Rattle.rooms.specs.Rooms.{Note, node_waits}

@@ -4,7 +4,7 @@ use Rattle.std.proofs.Common.{arith, zero-add, mod-lt, mod-eq_of_lt, sym, ap, â—
 use Rattle.std.proofs.Math.Option.{some}
 use Rattle.exploration.specs.Lists.{nth}
 use Rattle.exploration.specs.Policy.{Node}
-use Rattle.exploration.specs.Laws.Lists.{none_some}
+use Rattle.exploration.proofs.Laws.Lists.{none_some}
 use Rattle.fields.specs.Little.{field, bytes_of}
 use Rattle.fields.specs.Laws.{length_bytes, bytes_low, positive}
 use Rattle.fields.specs.Pieces.{field_second, field_front}

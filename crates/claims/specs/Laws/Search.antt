@@ -7,9 +7,9 @@ use Rattle.exploration.specs.Graph.{Graph, GraphLaws, Route, Reach, at_start_lem
 use Rattle.exploration.specs.Policy.{Policy, PolicyLaws}
 use Rattle.exploration.specs.Explore as explore
 use Rattle.exploration.specs.Explore.{points, final, answer}
-use Rattle.exploration.specs.Claims as claims
-use Rattle.exploration.specs.Laws.Lists.{count_le}
-use Rattle.exploration.specs.Laws.Expansions.{sound_room, final_sound}
+use Rattle.exploration.proofs.Claims as claims
+use Rattle.exploration.proofs.Laws.Lists.{count_le}
+use Rattle.exploration.proofs.Laws.Expansions.{sound_room, final_sound}
 use Rattle.world.specs.declared.Body.{Body}
 use Rattle.world.specs.declared.Request.{Request}
 use Rattle.world.specs.Space.{Space}

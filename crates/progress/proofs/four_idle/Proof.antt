@@ -5,7 +5,7 @@ use Prim.Native.Nat.{ℕ}
 use lib.Dec.{eqb}
 use mathlib.Core.Bool.{Bool, true, false, not, ◌&&◌}
 use borrow.Author.Tests.{not-true}
-use Rattle.exploration.specs.Laws.Lists.{and_first, and_second}
+use Rattle.exploration.proofs.Laws.Lists.{and_first, and_second}
 use Rattle.progress.specs.Laws.{idle_four}
 use Rattle.progress.proofs.four_idle.Statement.{statement}
 use Rattle.progress.proofs.four_idle.Tie as tie

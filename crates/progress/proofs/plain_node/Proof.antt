@@ -3,7 +3,7 @@ use native.Mathlib.Omega.{arith}
 use Prim.Native.Nat.{◌*◌}
 use native.Mathlib.Nat.{add-zero}
 use mathlib.Core.Path.{refl}
-use Rattle.exploration.specs.Laws.Lists.{true_false}
+use Rattle.exploration.proofs.Laws.Lists.{true_false}
 use Rattle.rooms.specs.Records.{node_at, entry_at}
 use Rattle.progress.specs.Progress.{good_node}
 use Rattle.progress.proofs.plain_node.Statement.{statement}

@@ -6,7 +6,7 @@ use Rattle.exploration.specs.Graph.{Graph}
 use Rattle.exploration.specs.Policy.{Policy}
 use Rattle.exploration.specs.Explore as explore
 use Rattle.exploration.specs.Explore.{arrive, outcome, outcome_by}
-use Rattle.exploration.specs.Laws.Endings.{found_outcome}
+use Rattle.exploration.proofs.Laws.Endings.{found_outcome}
 use Rattle.world.specs.declared.Body.{Body}
 use Rattle.world.specs.declared.Request.{Request}
 use Rattle.world.specs.Space.{Space}

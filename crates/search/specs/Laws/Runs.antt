@@ -2,8 +2,8 @@
 use Rattle.std.specs.Prelude.{◌≡◌, refl, List, ℕ, ◌+◌, ◌*◌, ◌-◌, ◌≤◌}
 use Rattle.std.proofs.Common.{sym, ap, subst, ◌∙◌, arith}
 use Rattle.exploration.specs.Explore.{advance, run}
-use Rattle.exploration.specs.Laws.Loops.{run_add}
-use Rattle.exploration.specs.Laws.Expansions.{Done, at_found, at_end, done_run}
+use Rattle.exploration.proofs.Laws.Loops.{run_add}
+use Rattle.exploration.proofs.Laws.Expansions.{Done, at_found, at_end, done_run}
 use Rattle.world.specs.declared.Body.{Body}
 use Rattle.world.specs.declared.Request.{Request}
 use Rattle.world.specs.Space.{Space}

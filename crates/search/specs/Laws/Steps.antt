@@ -4,8 +4,8 @@ use Rattle.std.proofs.Math.Path.{sym, ap}
 use Rattle.std.proofs.Common.{subst, ◌∙◌, append-nil, append_assoc, arith, length-append}
 use Rattle.std.proofs.Math.Bool.{or-false, or_assoc}
 use Rattle.exploration.specs.Explore.{State, visits}
-use Rattle.exploration.specs.Laws.Loops.{visits_append}
-use Rattle.exploration.specs.Laws.Lists.{true_false}
+use Rattle.exploration.proofs.Laws.Loops.{visits_append}
+use Rattle.exploration.proofs.Laws.Lists.{true_false}
 use Rattle.world.specs.declared.Point.{Point}
 use Rattle.world.specs.declared.Body.{Body}
 use Rattle.world.specs.declared.Request.{Request}

@@ -9,7 +9,7 @@ use Rattle.std.proofs.Math.ListN.{length-reverse_aux}
 use Rattle.exploration.specs.Policy.{Node}
 use Rattle.exploration.specs.Explore as explore
 use Rattle.exploration.specs.Explore.{State, outcome}
-use Rattle.exploration.specs.Laws.Lists.{true_false}
+use Rattle.exploration.proofs.Laws.Lists.{true_false}
 use Rattle.fields.specs.Pieces.{Bytes}
 use Rattle.world.specs.declared.Body.{Body}
 use Rattle.world.specs.declared.Request.{Request}

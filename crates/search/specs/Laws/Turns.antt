@@ -4,7 +4,7 @@ use Rattle.std.proofs.Math.Path.{sym, ap}
 use Rattle.std.proofs.Common.{◌∙◌, ⊎_elim, eq-eqb, arith}
 use Rattle.std.proofs.Math.Bool.{true, false}
 use Rattle.std.proofs.Math.Option.{Option, none, some}
-use Rattle.exploration.specs.Laws.Lists.{true_false, or-false}
+use Rattle.exploration.proofs.Laws.Lists.{true_false, or-false}
 use Rattle.exploration.specs.Graph.{Graph}
 use Rattle.exploration.specs.Policy.{Node, Policy}
 use Rattle.exploration.specs.Explore.{State, arrive, close, closed_node, visits, ending, ending_by, expand_by, advance_by, advance}

@@ -9,9 +9,9 @@ use Rattle.exploration.specs.Graph.{Graph}
 use Rattle.exploration.specs.Policy.{Policy}
 use Rattle.exploration.specs.Explore as explore
 use Rattle.exploration.specs.Explore.{State, run, outcome}
-use Rattle.exploration.specs.Claims.{found_is_route}
-use Rattle.exploration.specs.Laws.Lists.{none_some}
-use Rattle.exploration.specs.Laws.Expansions.{Done, at_found, at_end, final_done}
+use Rattle.exploration.proofs.Claims.{found_is_route}
+use Rattle.exploration.proofs.Laws.Lists.{none_some}
+use Rattle.exploration.proofs.Laws.Expansions.{Done, at_found, at_end, final_done}
 use Rattle.fields.specs.Pieces.{Bytes}
 use Rattle.world.specs.declared.Body.{Body}
 use Rattle.world.specs.declared.Request.{Request}

@@ -5,7 +5,7 @@ use mathlib.Core.Path.{◌≡◌, refl, sym, subst, ◌∙◌}
 use mathlib.Core.Bool.{true}
 use lib.ListN.{length}
 use borrow.Author.Tests.{not-true, not-false}
-use Rattle.exploration.specs.Laws.Lists.{true_false}
+use Rattle.exploration.proofs.Laws.Lists.{true_false}
 use Rattle.rooms.specs.declared.NodeRecord.{NodeRecord}
 use Rattle.rooms.specs.Laws.Writes.{WroteNode}
 use Rattle.visits.specs.Visits.{Ready, ready}

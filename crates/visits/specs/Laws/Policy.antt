@@ -4,9 +4,9 @@ use Rattle.std.proofs.Common.{arith}
 use Rattle.std.proofs.Math.Option.{some}
 use Rattle.exploration.specs.Graph.{Graph}
 use Rattle.exploration.specs.Policy.{PolicyLaws}
-use Rattle.exploration.specs.Laws.Counts.{OneByOne}
-use Rattle.exploration.specs.Laws.Lists.{none_some}
-use Rattle.exploration.specs.Laws.Choices.{choose_some, choose_none}
+use Rattle.exploration.proofs.Laws.Counts.{OneByOne}
+use Rattle.exploration.proofs.Laws.Lists.{none_some}
+use Rattle.exploration.proofs.Laws.Choices.{choose_some, choose_none}
 use Rattle.rooms.specs.declared.Feet.{Feet}
 use Rattle.rooms.specs.declared.Label.{Label}
 use Rattle.rooms.specs.declared.Entry.{Entry}

@@ -4,7 +4,7 @@ use mathlib.Core.Path.{◌≡◌, refl, sym, ap, ◌∙◌, subst}
 use mathlib.Core.Bool.{false, not}
 use mathlib.Core.List.{List, []}
 use Prim.Native.Nat.{ℕ, ◌<◌}
-use Rattle.exploration.specs.Laws.Lists.{or-false}
+use Rattle.exploration.proofs.Laws.Lists.{or-false}
 use Rattle.strides.specs.declared.Column.{Column}
 use native.Mathlib.Omega.{arith}
 use native.Mathlib.Nat.{le_trans, lt_of_lt_of_le}

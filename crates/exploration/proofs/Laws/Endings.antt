@@ -11,12 +11,12 @@ use Rattle.exploration.specs.Lists.{nth, has}
 use Rattle.exploration.specs.Graph.{Graph, GraphLaws, Way, arrived, connected, stepped, Route, route, Reach, at_start_lem, by_step, connects, labelled}
 use Rattle.exploration.specs.Policy.{Node, Policy, PolicyLaws}
 use Rattle.exploration.specs.Explore.{ending_by, ending, State, Outcome, Found, Unreachable, BudgetExceeded, Searching, points, run, begin, final, outcome_by, outcome}
-use Rattle.exploration.specs.Laws.Apart.{apart_snoc, Covered, pigeon}
-use Rattle.exploration.specs.Laws.Expansions.{Sound, going, struck, Done, at_found, at_end, closed_of, done_run, final_done}
-use Rattle.exploration.specs.Laws.Invariant.{trail_reach, Link, first_link, next_link, Expanded, Inv}
-use Rattle.exploration.specs.Laws.Lists.{none_some, true_false, true_or_false, nth_left, nth_map, nth_of_map, has_map}
-use Rattle.exploration.specs.Laws.Loops.{run_add}
-use Rattle.exploration.specs.Laws.Visits.{known, known_at}
+use Rattle.exploration.proofs.Laws.Apart.{apart_snoc, Covered, pigeon}
+use Rattle.exploration.proofs.Laws.Expansions.{Sound, going, struck, Done, at_found, at_end, closed_of, done_run, final_done}
+use Rattle.exploration.proofs.Laws.Invariant.{trail_reach, Link, first_link, next_link, Expanded, Inv}
+use Rattle.exploration.proofs.Laws.Lists.{none_some, true_false, true_or_false, nth_left, nth_map, nth_of_map, has_map}
+use Rattle.exploration.proofs.Laws.Loops.{run_add}
+use Rattle.exploration.proofs.Laws.Visits.{known, known_at}
 
 module _ {P L : Type 0} (𝓖 : Graph P L) where
   open 𝓖 use {same, goal, connector}

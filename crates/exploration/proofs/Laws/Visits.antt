@@ -6,7 +6,7 @@ use Rattle.exploration.specs.Lists.{nth, has}
 use Rattle.exploration.specs.Graph.{Graph}
 use Rattle.exploration.specs.Policy.{Node, Policy, PolicyLaws}
 use Rattle.exploration.specs.Explore.{State, head_or, seek, child, effect, effect_known, effect_at, keep_or_drop, apply, visit}
-use Rattle.exploration.specs.Laws.Lists.{none_some, true_false, or_left, or_right, or_cases}
+use Rattle.exploration.proofs.Laws.Lists.{none_some, true_false, or_left, or_right, or_cases}
 
 module _ {P L A : Type 0} (𝓖 : Graph P L) where
   open 𝓖 use {same}

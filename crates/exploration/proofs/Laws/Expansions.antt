@@ -11,9 +11,9 @@ use Rattle.exploration.specs.Lists.{nth, has}
 use Rattle.exploration.specs.Graph.{Graph, at_start_lem, Way, arrived, connected, stepped, Route, route, has_step, GraphLaws}
 use Rattle.exploration.specs.Policy.{Node, Policy, PolicyLaws}
 use Rattle.exploration.specs.Explore.{ending_by, ending, State, child, points, trace, visit, visits, closed_node, close, arrive, expand_by, advance_by, advance, run, begin, final, keep_or_drop, blank, start_node}
-use Rattle.exploration.specs.Laws.Invariant.{Link, first_link, next_link, Trail, first_trail, next_trail, Frozen, link_later, trail_later, Expanded, closed_count, Inv, Grow, grow_refl, grow_trans, grow_known, grow_of, inv_of}
-use Rattle.exploration.specs.Laws.Lists.{Each, none_some, true_false, true_or_false, or_left, or_right, or_cases, and_both, and_first, nth_snoc, nth_set, nth_set_same, nth_set_other, has_map, has_last, count_on, count_le, count_lt, map_set, map_snoc}
-use Rattle.exploration.specs.Laws.Visits.{known, Visited, kept, reparented, retained, lost, visited, at_known}
+use Rattle.exploration.proofs.Laws.Invariant.{Link, first_link, next_link, Trail, first_trail, next_trail, Frozen, link_later, trail_later, Expanded, closed_count, Inv, Grow, grow_refl, grow_trans, grow_known, grow_of, inv_of}
+use Rattle.exploration.proofs.Laws.Lists.{Each, none_some, true_false, true_or_false, or_left, or_right, or_cases, and_both, and_first, nth_snoc, nth_set, nth_set_same, nth_set_other, has_map, has_last, count_on, count_le, count_lt, map_set, map_snoc}
+use Rattle.exploration.proofs.Laws.Visits.{known, Visited, kept, reparented, retained, lost, visited, at_known}
 
 each_map : {A : Type 0} (Q R : A → Type 0) → ((x : A) → Q x → R x) → (xs : List A) → Each Q xs → Each R xs
 each_map Q R f [] e = tt
@@ -31,7 +31,7 @@ module _ {P L A B : Type 0} (𝓖 : Graph P L) (𝓟 : Policy P L A B) where
   trace_none zero ns = refl
   trace_none (suc f) ns = refl
 
-  trace_is : {ns : List (Node P L A)} {k : ℕ} {n : Node P L A} {c : List (P × L)} (f : ℕ) → Trail 𝓖 𝓟 ns k n c → length c ≤ f → trace f ns (some k) ≡ c
+  trace_is : {ns : List (Node P L A)} (f : ℕ) {k : ℕ} {n : Node P L A} {c : List (P × L)} → Trail 𝓖 𝓟 ns k n c → length c ≤ f → trace f ns (some k) ≡ c
   trace_is zero (first_trail e c p s a) h = absurd (omega arith)
   trace_is {ns} (suc f) (first_trail e c p s a) h = rw (e, p, trace_none f ns)
   trace_is zero (next_trail e c p s t) h = absurd (omega arith)
@@ -82,8 +82,8 @@ module _ {P L A B : Type 0} (𝓖 : Graph P L) (𝓟 : Policy P L A B) where
 
   pub done_advance : (b : ℕ) (s : State P L A B) → Done s → advance 𝓖 𝓟 b s ≡ s
   unfolding advance
-  done_advance b s (at_found t e) = rw (e, advance_by)
-  done_advance b s (at_end e p) = rw (e, p, advance_by)
+  done_advance b s (at_found t e) = ap (λ o. advance_by 𝓖 𝓟 b s o (pick s.nodes s.book)) e
+  done_advance b s (at_end e p) = ap (λ o. advance_by 𝓖 𝓟 b s o (pick s.nodes s.book)) e ∙ ap (advance_by 𝓖 𝓟 b s none) p
 
   pub done_run : (b n : ℕ) (s : State P L A B) → Done s → run 𝓖 𝓟 b n s ≡ s
   done_run b zero s r = refl
@@ -145,13 +145,13 @@ module _ {P L A B : Type 0} (𝓖 : Graph P L) (𝓟 : Policy P L A B) where
         close_grow = record { frozen = close_frozen; more = ([], close_points ∙ sym (append-nil _)); drops = omega arith; shuts = rw close_count (omega arith) }
 
       -- a step leads to a retained point, or a point was dropped; what was found stays
-      visit_known : {b k : ℕ} {s t : State P L A B} {w : P × L} → Visited 𝓖 𝓟 b k s w t → t.dropped ≡ zero → known 𝓖 t.nodes w.0 ≡ true
+      visit_known : {b k : ℕ} {w : P × L} {s t : State P L A B} → Visited 𝓖 𝓟 b k s w t → t.dropped ≡ zero → known 𝓖 t.nodes w.0 ≡ true
       visit_known (kept h) d = h
-      visit_known {k = k} {s = s} {w = w} (reparented j m a g e h o v) d = at_known 𝓖 (set s.nodes j (child k m.point w.1 a)) j (child k m.point w.1 a) w.0 (nth_set_same s.nodes j _ m e) h
-      visit_known {k = k} {s = s} {w = w} (retained a g h r v) d = rw map_snoc (has_last (λ p. same p w.0) (points s) w.0 (𝓛.same_refl w.0))
+      visit_known {k = k} {w = w} {s = s} (reparented j m a g e h o v) d = at_known 𝓖 (set s.nodes j (child k m.point w.1 a)) j (child k m.point w.1 a) w.0 (nth_set_same s.nodes j _ m e) h
+      visit_known {k = k} {w = w} {s = s} (retained a g h r v) d = rw map_snoc (has_last (λ p. same p w.0) (points s) w.0 (𝓛.same_refl w.0))
       visit_known (lost h i) d = absurd (omega arith)
 
-      visit_found : {b k : ℕ} {s t : State P L A B} {w : P × L} → Visited 𝓖 𝓟 b k s w t → t.found ≡ s.found
+      visit_found : {b k : ℕ} {w : P × L} {s t : State P L A B} → Visited 𝓖 𝓟 b k s w t → t.found ≡ s.found
       visit_found (kept h) = refl
       visit_found (reparented j m a g e h o v) = refl
       visit_found (retained a g h r v) = refl
@@ -248,7 +248,7 @@ module _ {P L A B : Type 0} (𝓖 : Graph P L) (𝓟 : Policy P L A B) where
       advanced_by : (b : ℕ) (s : State P L A B) (h : Option (List (P × L))) (o : Option (ℕ × Node P L A)) → s.found ≡ h → pick s.nodes s.book ≡ o → Sound b s → Advanced b s (advance_by 𝓖 𝓟 b s h o)
       advanced_by b s (some t) o e p g = (g, grow_refl 𝓖 𝓟 s, inl (at_found t e))
       advanced_by b s none none e p g = (g, grow_refl 𝓖 𝓟 s, inl (at_end e p))
-      advanced_by b s none (some r) e p (going _ inv) = let q = 𝓠.pick_some_lem _ _ r p in expanded_sound b r.0 s r.1 inv e q.0 (open_of inv r.0 r.1 q.0 q.1) (ending 𝓖 r.1.point) refl
+      advanced_by b s none (some r) e p (going _ inv) = let q = 𝓠.pick_some _ _ r p in expanded_sound b r.0 s r.1 inv e q.0 (open_of inv r.0 r.1 q.0 q.1) (ending 𝓖 r.1.point) refl
       advanced_by b s none (some r) e p (struck t k n rest h _ _ _ _ _) = absurd (none_some (sym e ∙ h))
 
       pub advanced : (b : ℕ) (s : State P L A B) → Sound b s → Advanced b s (advance 𝓖 𝓟 b s)
@@ -277,7 +277,7 @@ module _ {P L A B : Type 0} (𝓖 : Graph P L) (𝓟 : Policy P L A B) where
         where
           go : (o : Option (ℕ × Node P L A)) → pick s.nodes s.book ≡ o → Done s
           go none p = at_end h p
-          go (some r) p = let q = 𝓠.pick_some_lem _ _ r p in absurd (omega (arith, count_lt (λ m. m.closed) s.nodes r.0 r.1 q.0 (open_of inv r.0 r.1 q.0 q.1), inv.room))
+          go (some r) p = let q = 𝓠.pick_some _ _ r p in absurd (omega (arith, count_lt (λ m. m.closed) s.nodes r.0 r.1 q.0 (open_of inv r.0 r.1 q.0 q.1), inv.room))
 
       begun : (b : ℕ) (c : Bool) → ltb 0 b ≡ c → Sound b (keep_or_drop c (blank 𝓖 𝓟) (start_node 𝓖 𝓟) opening.1)
       begun b true e = going refl (record {

@@ -7,7 +7,7 @@ use mathlib.Core.List.{List, [], ◌∷◌, ◌++◌}
 use Rattle.std.proofs.Math.Logic.{⊎_elim}
 use Rattle.exploration.specs.Graph.{Graph, Way, arrived, connected, stepped, Route, route, has_step, connects}
 use Rattle.exploration.specs.WalkBack.{is_last, is_way, is_route, Going, Through, Astray, Broken, joined, going, last_of, steps_along, FirstBreak}
-use Rattle.exploration.specs.Laws.Lists.{true_false, or_left, or_right, or_cases, and_both, and_first, and_second}
+use Rattle.exploration.proofs.Laws.Lists.{true_false, or_left, or_right, or_cases, and_both, and_first, and_second}
 
 -- whether a list goes through
 abbrev pub is_through : {P L : Type 0} → Going P L → Bool

@@ -4,7 +4,7 @@ use Rattle.std.proofs.Common.{sym, ap, subst, ◌∙◌, inl, inr, ⊎_elim, add
 use Rattle.std.proofs.Math.Option.{Option, none, some}
 use Rattle.exploration.specs.Lists.{nth}
 use Rattle.exploration.specs.Choose.{swap, keep, scan, choose, WaitsAt, Least, Ordered}
-use Rattle.exploration.specs.Laws.Lists.{none_some, true_false, true_or_false, nth_lt, nth_one}
+use Rattle.exploration.proofs.Laws.Lists.{none_some, true_false, true_or_false, nth_lt, nth_one}
 
 module _ {A : Type 0} (waits : A → Bool) (beats : A → A → Bool) where
   -- what is kept is an element that waits

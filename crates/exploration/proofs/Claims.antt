@@ -15,17 +15,17 @@ use Rattle.exploration.specs.Guides.{play, turns, begin_both, Fair, one}
 use Rattle.exploration.specs.WalkBack.{is_route, Broken, going, FirstBreak}
 use Rattle.exploration.specs.Choose.{choose, WaitsAt, Least, Ordered}
 use Rattle.exploration.specs.Estimates.{Comparison, sooner, Before, First}
-use Rattle.exploration.specs.Laws.Budgets.{Compared, equal, parted, compare_final}
-use Rattle.exploration.specs.Laws.Choices.{chosen_least, least_chosen}
-use Rattle.exploration.specs.Laws.Endings.{found_of, found_outcome, found_route, unreachable_route, unreachable_cover, exceeded_cover, found_again}
-use Rattle.exploration.specs.Laws.Endings.{end_of, done_ended, ended_done, done_final, enough_done}
-use Rattle.exploration.specs.Laws.Estimates.{chosen_first, first_chosen}
-use Rattle.exploration.specs.Laws.Expansions.{sound_room, sound_counted, final_sound, final_done}
-use Rattle.exploration.specs.Laws.FloatOrder.{float_comparison}
-use Rattle.exploration.specs.Laws.Guides.{as_alone, movers_fair}
-use Rattle.exploration.specs.Laws.Lists.{count_le}
-use Rattle.exploration.specs.Laws.Loops.{runs_run}
-use Rattle.exploration.specs.Laws.WalkBack.{is_route_lem, route_is, first_break}
+use Rattle.exploration.proofs.Laws.Budgets.{Compared, equal, parted, compare_final}
+use Rattle.exploration.proofs.Laws.Choices.{chosen_least, least_chosen}
+use Rattle.exploration.proofs.Laws.Endings.{found_of, found_outcome, found_route, unreachable_route, unreachable_cover, exceeded_cover, found_again}
+use Rattle.exploration.proofs.Laws.Endings.{end_of, done_ended, ended_done, done_final, enough_done}
+use Rattle.exploration.proofs.Laws.Estimates.{chosen_first, first_chosen}
+use Rattle.exploration.proofs.Laws.Expansions.{sound_room, sound_counted, final_sound, final_done}
+use Rattle.exploration.proofs.Laws.FloatOrder.{float_comparison}
+use Rattle.exploration.proofs.Laws.Guides.{as_alone, movers_fair}
+use Rattle.exploration.proofs.Laws.Lists.{count_le}
+use Rattle.exploration.proofs.Laws.Loops.{runs_run}
+use Rattle.exploration.proofs.Laws.WalkBack.{is_route_lem, route_is, first_break}
 
 -- ---- one search, and the same search under another budget
 

@@ -4,7 +4,7 @@ use Rattle.std.proofs.Common.{inl, inr, ⊎_elim}
 use Rattle.std.specs.Float.Ieee.{lt, eq, le, is_nan}
 use Rattle.floats.specs.Order.{le_trans, lt_turned, not_lt, lt_le, eq_both}
 use Rattle.exploration.specs.Estimates.{at_most, Comparison}
-use Rattle.exploration.specs.Laws.Lists.{true_or_false}
+use Rattle.exploration.proofs.Laws.Lists.{true_or_false}
 
 -- ≤ is < or =
 float_trans : (x y z : Float) → is_nan x ≡ false → is_nan y ≡ false → is_nan z ≡ false → at_most lt eq x y ≡ true → at_most lt eq y z ≡ true → at_most lt eq x z ≡ true

@@ -7,11 +7,11 @@ use Rattle.std.proofs.lemmas.List.{length-map}
 use Rattle.exploration.specs.Graph.{Graph, GraphLaws}
 use Rattle.exploration.specs.Policy.{Node, Policy, PolicyLaws}
 use Rattle.exploration.specs.Explore.{ending, State, Effect, skip, reparent, retain, keep_or_drop, apply, points, effect, visit, visits, expand_by, advance_by, advance, run, begin, final, blank, start_node}
-use Rattle.exploration.specs.Laws.Expansions.{Sound, sound_room, Advanced, advanced, ran, done_run, begin_sound, final_done}
-use Rattle.exploration.specs.Laws.Invariant.{more_of, drops_of, full_of}
-use Rattle.exploration.specs.Laws.Lists.{map_snoc}
-use Rattle.exploration.specs.Laws.Loops.{run_add}
-use Rattle.exploration.specs.Laws.Visits.{visited}
+use Rattle.exploration.proofs.Laws.Expansions.{Sound, sound_room, Advanced, advanced, ran, done_run, begin_sound, final_done}
+use Rattle.exploration.proofs.Laws.Invariant.{more_of, drops_of, full_of}
+use Rattle.exploration.proofs.Laws.Lists.{map_snoc}
+use Rattle.exploration.proofs.Laws.Loops.{run_add}
+use Rattle.exploration.proofs.Laws.Visits.{visited}
 
 nil_of : {A : Type 0} (r : List A) → length r ≤ 0 → r ≡ []
 nil_of [] h = refl

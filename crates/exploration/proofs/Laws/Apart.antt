@@ -2,7 +2,7 @@
 use Rattle.std.specs.Prelude.{◌≡◌, refl, Bool, true, false, ◌||◌, List, [], ◌∷◌, ◌++◌, ◌⊎◌, suc, ◌≤◌, length}
 use Rattle.std.proofs.Common.{ap, inl, inr, arith}
 use Rattle.exploration.specs.Lists.{has}
-use Rattle.exploration.specs.Laws.Lists.{or-false, true_false, or_left, or_right, or_cases}
+use Rattle.exploration.proofs.Laws.Lists.{or-false, true_false, or_left, or_right, or_cases}
 
 has_snoc_false : {A : Type 0} (p : A → Bool) (xs : List A) (x : A) → has p xs ≡ false → p x ≡ false → has p (xs ++ (x ∷ [])) ≡ false
 has_snoc_false p [] x e h = rw h refl

@@ -8,8 +8,8 @@ use Rattle.std.proofs.Math.Dec.{ltb}
 use borrow.Author.Tests.{ltb-true, ltb-false, lt-ltb, le-ltb, eqb-true, eqb-false}
 use Rattle.exploration.specs.Choose.{choose, WaitsAt, Least, Ordered}
 use Rattle.exploration.specs.Estimates.{at_most, Comparison, sooner, Before, First}
-use Rattle.exploration.specs.Laws.Choices.{chosen_least, least_chosen}
-use Rattle.exploration.specs.Laws.Lists.{true_false, true_or_false, nth_one, and_second, or_left, or_right}
+use Rattle.exploration.proofs.Laws.Choices.{chosen_least, least_chosen}
+use Rattle.exploration.proofs.Laws.Lists.{true_false, true_or_false, nth_one, and_second, or_left, or_right}
 
 module _ {E : Type 0} (below level : E → E → Bool) (Number : E → Type 0) (laws : Comparison below level Number) where
   -- two numbers: one is lower, or they are level

@@ -6,9 +6,9 @@ use Rattle.exploration.specs.Lists.{nth, count}
 use Rattle.exploration.specs.Graph.{Graph, Reach, at_start_lem, by_step, has_step, GraphLaws}
 use Rattle.exploration.specs.Policy.{Node, Policy}
 use Rattle.exploration.specs.Explore.{ending, State, child, waypoint, points}
-use Rattle.exploration.specs.Laws.Apart.{Apart, apart_snoc}
-use Rattle.exploration.specs.Laws.Lists.{true_false, and_both, and_first, and_second, nth_snoc, nth_left, nth_set, nth_set_other, has_left, has_map, count_snoc, count_same, map_set, map_snoc}
-use Rattle.exploration.specs.Laws.Visits.{known, Visited, kept, reparented, retained, lost}
+use Rattle.exploration.proofs.Laws.Apart.{Apart, apart_snoc}
+use Rattle.exploration.proofs.Laws.Lists.{true_false, and_both, and_first, and_second, nth_snoc, nth_left, nth_set, nth_set_other, has_left, has_map, count_snoc, count_same, map_set, map_snoc}
+use Rattle.exploration.proofs.Laws.Visits.{known, Visited, kept, reparented, retained, lost}
 
 module _ {P L A B : Type 0} (𝓖 : Graph P L) (𝓟 : Policy P L A B) where
   open 𝓖 use {same, alike, start, start_label, goal, steps, connector}
@@ -88,28 +88,28 @@ module _ {P L A B : Type 0} (𝓖 : Graph P L) (𝓟 : Policy P L A B) where
   points_stay s k j m l a e = map_set _ s.nodes j _ m e refl
 
   -- points are kept and added to, and the drops are counted; where the budget is full, no point is added
-  pub more_of : {b k : ℕ} {s t : State P L A B} {w : P × L} → Visited 𝓖 𝓟 b k s w t → (r : List P) × (points t ≡ points s ++ r)
+  pub more_of : {b k : ℕ} {w : P × L} {s t : State P L A B} → Visited 𝓖 𝓟 b k s w t → (r : List P) × (points t ≡ points s ++ r)
   more_of (kept h) = ([], sym (append-nil _))
   more_of (lost h i) = ([], sym (append-nil _))
-  more_of {k = k} {s = s} {w = w} (reparented j m a g e h o v) = ([], points_stay s k j m w.1 a e ∙ sym (append-nil _))
-  more_of {s = s} {w = w} (retained a g h r v) = (w.0 ∷ [], map_snoc _ s.nodes _)
+  more_of {k = k} {w = w} {s = s} (reparented j m a g e h o v) = ([], points_stay s k j m w.1 a e ∙ sym (append-nil _))
+  more_of {w = w} {s = s} (retained a g h r v) = (w.0 ∷ [], map_snoc _ s.nodes _)
 
-  pub drops_of : {b k : ℕ} {s t : State P L A B} {w : P × L} → Visited 𝓖 𝓟 b k s w t → s.dropped ≤ t.dropped
+  pub drops_of : {b k : ℕ} {w : P × L} {s t : State P L A B} → Visited 𝓖 𝓟 b k s w t → s.dropped ≤ t.dropped
   drops_of (kept h) = omega arith
   drops_of (lost h i) = omega arith
   drops_of (reparented j m a g e h o v) = omega arith
   drops_of (retained a g h r v) = omega arith
 
-  counted_of : {b k : ℕ} {s t : State P L A B} {w : P × L} → Visited 𝓖 𝓟 b k s w t → t.closings ≡ s.closings
+  counted_of : {b k : ℕ} {w : P × L} {s t : State P L A B} → Visited 𝓖 𝓟 b k s w t → t.closings ≡ s.closings
   counted_of (kept h) = refl
   counted_of (lost h i) = refl
   counted_of (reparented j m a g e h o v) = refl
   counted_of (retained a g h r v) = refl
 
-  pub full_of : {b k : ℕ} {s t : State P L A B} {w : P × L} → b ≤ length s.nodes → Visited 𝓖 𝓟 b k s w t → points t ≡ points s
+  pub full_of : {b k : ℕ} {w : P × L} {s t : State P L A B} → b ≤ length s.nodes → Visited 𝓖 𝓟 b k s w t → points t ≡ points s
   full_of f (kept h) = refl
   full_of f (lost h i) = refl
-  full_of {k = k} {s = s} {w = w} f (reparented j m a g e h o v) = points_stay s k j m w.1 a e
+  full_of {k = k} {w = w} {s = s} f (reparented j m a g e h o v) = points_stay s k j m w.1 a e
   full_of f (retained a g h r v) = absurd (omega arith)
 
   module _ (𝓛 : GraphLaws 𝓖) where

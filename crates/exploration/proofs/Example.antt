@@ -7,8 +7,9 @@ use Rattle.exploration.specs.Graph.{Graph, GraphLaws, Route}
 use Rattle.exploration.specs.Explore.{Found, Unreachable, BudgetExceeded, effect, advance, begin, outcome, answer, ending}
 use Rattle.exploration.specs.WalkBack.{is_route, is_way}
 use Rattle.exploration.specs.Canonical.{canonical, canonical_laws}
-use Rattle.exploration.specs.Flood.{flood, flood_laws}
-use Rattle.exploration.specs.Claims.{unreachable_has_no_route, unreachable_stays_unreachable}
+use Rattle.exploration.specs.Flood.{flood}
+use Rattle.exploration.proofs.Flood.{flood_laws}
+use Rattle.exploration.proofs.Claims.{unreachable_has_no_route, unreachable_stays_unreachable}
 
 -- labels: 1 up, 2 down, 9 the connector, 0 the start
 unfoldable line : ℕ → Graph ℕ ℕ

@@ -8,9 +8,9 @@ use Rattle.exploration.specs.Lists.{nth}
 use Rattle.exploration.specs.Graph.{Graph}
 use Rattle.exploration.specs.Policy.{Node, Policy, PolicyLaws}
 use Rattle.exploration.specs.Explore.{State, child, seek, ending, keep_or_drop, apply, effect_known, effect_at, effect, visit, visits, closed_node, close, expand_by, advance_by, advance, run, blank, start_node, begin}
-use Rattle.exploration.specs.Laws.Lists.{Each}
-use Rattle.exploration.specs.Laws.Counts.{visits_closings}
-use Rattle.exploration.specs.Laws.Visits.{Sought, at, nowhere, sought}
+use Rattle.exploration.proofs.Laws.Lists.{Each}
+use Rattle.exploration.proofs.Laws.Counts.{visits_closings}
+use Rattle.exploration.proofs.Laws.Visits.{Sought, at, nowhere, sought}
 
 -- nothing is asked of any
 pub each_any : {A : Type 0} (xs : List A) → Each (λ x. Unit {0}) xs

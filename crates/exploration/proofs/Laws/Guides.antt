@@ -7,10 +7,10 @@ use Rattle.exploration.specs.Graph.{Graph, GraphLaws}
 use Rattle.exploration.specs.Policy.{Policy, PolicyLaws}
 use Rattle.exploration.specs.Explore.{State, Outcome, Found, Unreachable, BudgetExceeded, Searching, advance, run, begin, final, outcome}
 use Rattle.exploration.specs.Guides.{Guide, one, two, other, is_searching, next_by, movers_by, Both, move, searching, next, movers, play, begin_both, turns, Fair}
-use Rattle.exploration.specs.Laws.Endings.{done_ended, ended_done, done_final}
-use Rattle.exploration.specs.Laws.Expansions.{Sound, sound_room, Done, full_done, advanced, begin_sound}
-use Rattle.exploration.specs.Laws.Invariant.{closed_count}
-use Rattle.exploration.specs.Laws.Lists.{true_false, count_le}
+use Rattle.exploration.proofs.Laws.Endings.{done_ended, ended_done, done_final}
+use Rattle.exploration.proofs.Laws.Expansions.{Sound, sound_room, Done, full_done, advanced, begin_sound}
+use Rattle.exploration.proofs.Laws.Invariant.{closed_count}
+use Rattle.exploration.proofs.Laws.Lists.{true_false, count_le}
 
 module _ {P L A B : Type 0} (𝓖 : Graph P L) (𝓟 : Policy P L A B) where
   idle_done : (s : State P L A B) → is_searching (outcome 𝓖 𝓟 s) ≡ false → Done 𝓖 𝓟 s

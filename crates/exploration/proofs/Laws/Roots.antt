@@ -7,8 +7,8 @@ use Rattle.exploration.specs.Lists.{nth}
 use Rattle.exploration.specs.Graph.{Graph}
 use Rattle.exploration.specs.Policy.{Node, Policy, PolicyLaws}
 use Rattle.exploration.specs.Explore.{child, closed_node, start_node, run, begin}
-use Rattle.exploration.specs.Laws.Kept.{Kept, each_any, run_kept}
-use Rattle.exploration.specs.Laws.Lists.{none_some, true_false, true_or_false, nth_snoc, nth_left, nth_one, nth_set, nth_set_same, nth_set_other}
+use Rattle.exploration.proofs.Laws.Kept.{Kept, each_any, run_kept}
+use Rattle.exploration.proofs.Laws.Lists.{none_some, true_false, true_or_false, nth_snoc, nth_left, nth_one, nth_set, nth_set_same, nth_set_other}
 
 some_none : {j : ℕ} → some j ≢ none
 some_none e = none_some (sym e)
