@@ -1,6 +1,19 @@
 -- Words that commas part, as the code has them, and how they stand in a slice: what its functions promise each other.
-use Rattle.std.specs.Prelude.{ℕ, zero, suc, ◌≤◌, ◌≡◌, cond, List, [], ◌∷◌, eqb, length, drop}
+use Rattle.std.specs.Prelude.{ℕ, zero, suc, ◌≤◌, ◌≡◌, Bool, true, false, cond, List, [], ◌∷◌, eqb, length, take, drop}
 use Rattle.answer_words.specs.Table.{at_start}
+
+-- the bytes at the places from one on and below another
+unfoldable pub slice : ℕ → ℕ → List ℕ → List ℕ
+slice from to s = drop from (take to s)
+
+-- the first place of a byte; the length where there is none
+abbrev pub index_after : Bool → ℕ → ℕ
+index_after true n = 0
+index_after false n = suc n
+
+unfoldable pub index_of : ℕ → List ℕ → ℕ
+index_of b [] = 0
+index_of b (x ∷ s) = index_after (eqb x b) (index_of b s)
 
 -- what stands before the first comma, 44, and what behind it
 unfoldable pub before_comma : List ℕ → List ℕ

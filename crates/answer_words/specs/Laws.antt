@@ -7,9 +7,8 @@ use Rattle.std.proofs.Common.{sym, ap, ◌∙◌, inl, inr, ⊎_elim, eqb-true, 
 use Rattle.std.proofs.lemmas.Bool.{eqb-false, lt-leb}
 use Rattle.std.proofs.Math.Dec.{when}
 use Rattle.std.proofs.Math.Seq.{take-length, drop-length}
-use Rattle.bytes.specs.Bytes.{slice, index_of, indexAfter}
 use Rattle.answer_words.specs.Table.{answer_table, ascii, words_in, words_of, at_start}
-use Rattle.answer_words.specs.Commas.{before_comma, behind_comma, kth, KthAt, PutWords}
+use Rattle.answer_words.specs.Commas.{slice, index_after, index_of, before_comma, behind_comma, kth, KthAt, PutWords}
 
 -- ---- the table
 
@@ -51,20 +50,20 @@ no_words_beyond n h = ⊎_elim (λ e. e) (λ t. absurd (rw (lt-leb n 133 h) at t
 -- ---- words that commas part
 
 take_before : (s : List ℕ) → take (index_of 44 s) s ≡ before_comma s
-unfolding before_comma index_of indexAfter
+unfolding before_comma index_of
 take_before [] = refl
 take_before (b ∷ s) = go (eqb b 44) (take_before s)
   where
-    go : (t : Bool) → take (index_of 44 s) s ≡ before_comma s → take (indexAfter t (index_of 44 s)) (b ∷ s) ≡ cond t [] (b ∷ before_comma s)
+    go : (t : Bool) → take (index_of 44 s) s ≡ before_comma s → take (index_after t (index_of 44 s)) (b ∷ s) ≡ cond t [] (b ∷ before_comma s)
     go true e = refl
     go false e = ap (λ (l : List ℕ). b ∷ l) e
 
 drop_behind : (s : List ℕ) → drop (suc (index_of 44 s)) s ≡ behind_comma s
-unfolding behind_comma index_of indexAfter
+unfolding behind_comma index_of
 drop_behind [] = refl
 drop_behind (b ∷ s) = go (eqb b 44) (drop_behind s)
   where
-    go : (t : Bool) → drop (suc (index_of 44 s)) s ≡ behind_comma s → drop (suc (indexAfter t (index_of 44 s))) (b ∷ s) ≡ cond t s (behind_comma s)
+    go : (t : Bool) → drop (suc (index_of 44 s)) s ≡ behind_comma s → drop (suc (index_after t (index_of 44 s))) (b ∷ s) ≡ cond t s (behind_comma s)
     go true e = refl
     go false e = e
 

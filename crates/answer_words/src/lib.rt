@@ -2,11 +2,26 @@
 // reasons of 02, No. 3, and what a search in slices is told by No. 10, in small letters.
 #![tactic(auto)]
 
-ghost use Rattle.std.specs.Prelude.{◌≡◌, length};
+ghost use Rattle.std.specs.Prelude.{◌≡◌, ◌+◌, ◌≤◌, length};
 ghost use Rattle.answer_words.specs.Table.{words_of, at_start};
-ghost use Rattle.answer_words.specs.Commas.{kth, KthAt, PutWords};
+ghost use Rattle.answer_words.specs.Commas.{slice, index_of, kth, KthAt, PutWords};
 
 const COMMA: u8 = 44;
+
+// The first place from `from` on that holds the byte; `to` where none before it does.
+fn find(texts: &[u8], from: usize, to: usize, byte: u8) -> usize
+    requires in_order { from ≤ to }
+    requires inside { to ≤ length texts.now }
+    ensures first { result ≡ from + index_of byte (slice from to texts.now) }
+    ensures within { result ≤ to }
+{
+    for i in from..to {
+        if texts[i] == byte {
+            return i;
+        }
+    }
+    to
+}
 
 // Where the k-th of the words that commas part begin, from 0 on; the end where there are fewer.
 fn start_of(texts: &[u8], k: u64) -> usize
@@ -15,7 +30,7 @@ fn start_of(texts: &[u8], k: u64) -> usize
     let mut from = 0;
     let mut left = k;
     while 0 < left {
-        let comma = bytes::scan::find(texts, from, texts.len(), COMMA);
+        let comma = find(texts, from, texts.len(), COMMA);
         if comma == texts.len() {
             return comma;
         }
@@ -30,12 +45,13 @@ fn put_kth(texts: &[u8], k: u64, out: &mut [u8]) -> u64
     ensures { PutWords (kth k texts.now) out.old out.new result }
 {
     let from = start_of(texts, k);
-    let to = bytes::scan::find(texts, from, texts.len(), COMMA);
+    let to = find(texts, from, texts.len(), COMMA);
     let size = to - from;
     if out.len() < size {
         return size as u64;
     }
-    bytes::copy(&texts[from..to], out) as u64
+    out[..size].copy_from_slice(&texts[from..to]);
+    size as u64
 }
 
 // How many bytes a number's words have, 0 where it has none; and the words in the first bytes of `out`, where they fit. A text has the words of the numbers
