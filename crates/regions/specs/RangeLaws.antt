@@ -96,7 +96,7 @@ next_fits k last f e h =
 
 -- a number of the range of an i32, and one less a few, as the machine works them out from their bits
 pub small_is : (z : ℤ) → mag z < 2 ^ 31 → to_z w64 (of_z w64 z) ≡ z
-small_is z h = to_z-of_z (record { sfits = omega arith })
+small_is z h = to_z-of_z {w = w64} (record { sfits = omega arith })
 
 module _ (z : ℤ) (k : ℕ) (h : mag z < 2 ^ 31) (l : k < 2 ^ 31) where
   read : to_z w64 (of_z w64 z) -ℤ to_z w64 k ≡ z -ℤ pos k
@@ -109,7 +109,7 @@ module _ (z : ℤ) (k : ℕ) (h : mag z < 2 ^ 31) (l : k < 2 ^ 31) where
   less_fits = rw read fits
 
   pub less_is : to_z w64 (of_z w64 (to_z w64 (of_z w64 z) -ℤ to_z w64 k)) ≡ z -ℤ pos k
-  less_is = rw read (to_z-of_z fits)
+  less_is = rw read (to_z-of_z {w = w64} fits)
 
 pub less_none : (z : ℤ) → z -ℤ pos 0 ≡ z
 less_none z = equal (z -ℤ pos 0) z (omega (arith, difference z (pos 0)))
