@@ -2,23 +2,39 @@
 #![tactic(auto)]
 
 ghost use Rattle.std.specs.Prelude.{◌≤◌};
-ghost use Rattle.io.specs.Counts.{IsPrefixLen};
+ghost use Rattle.input.specs.Counts.{IsPrefixLen};
 
-use libc::STDIN_FILENO;
+use std::io::Read;
 
 // The next bytes of the input, at most n and as many as the buffer has.
-pub fn take(n: usize, buffer: &mut [u8]) -> usize
+pub fn take(rt: &impl Input, n: usize, buffer: &mut [u8]) -> usize
     ensures { (result ≤ n) × IsPrefixLen result buffer.new }
 {
     if n < buffer.len() {
-        return io::read_full(STDIN_FILENO, &mut buffer[..n]);
+        return read_full(rt, &mut buffer[..n]);
     }
-    io::read_full(STDIN_FILENO, buffer)
+    read_full(rt, buffer)
+}
+
+// Reads until the buffer is full or the input ends, where an error ends it too; how many bytes came.
+fn read_full(rt: &impl Input, buffer: &mut [u8]) -> usize
+    ensures { IsPrefixLen result buffer.new }
+{
+    let mut reader = rt.reader();
+    let mut done = 0;
+    while done < buffer.len() {
+        let n = reader.read(&mut buffer[done..]).unwrap_or(0);
+        if n == 0 {
+            break;
+        }
+        done += n;
+    }
+    done
 }
 
 // The next number, of so many bytes, at most 4, the lowest first.
-pub fn number(bytes: usize) -> u32 {
+pub fn number(rt: &impl Input, bytes: usize) -> u32 {
     let mut b = [0u8; 4];
-    take(bytes, &mut b);
+    take(rt, bytes, &mut b);
     fields::u32_at(&b, 0)
 }

@@ -1,0 +1,2 @@
+-- What the input's counts promise.
+pub mod Counts
