@@ -1,8 +1,9 @@
 -- The two rooms as a state of the search: record k of the node room with record k of the frontier room is node k. The state keeps every word of both, so
 -- that any rooms are some state, and its nodes, written back, are the node room's bytes (`Laws.Rooms`). Definitions only.
-use Rattle.std.specs.Prelude.{ℕ, ◌*◌, Bool, not, cond, List, ◌++◌, eqb, length, drop}
+use Rattle.std.specs.Prelude.{◌≡◌, ℕ, ◌*◌, Bool, not, cond, List, ◌++◌, eqb, length, drop}
 use Rattle.std.proofs.Math.Option.{Option, none, some}
 use Rattle.std.specs.Float.Ieee.{lt, eq}
+use Rattle.exploration.specs.Graph.{Graph}
 use Rattle.exploration.specs.Policy.{Node}
 use Rattle.exploration.specs.Explore.{State}
 use Rattle.exploration.specs.Estimates as estimates
@@ -13,6 +14,7 @@ use Rattle.rooms.specs.declared.NodeRecord.{NodeRecord}
 use Rattle.rooms.specs.declared.Entry.{Entry}
 use Rattle.rooms.specs.declared.Counts.{Counts}
 use Rattle.rooms.specs.Records.{node_layout, node_words, node_at, entry_layout, entry_words, entry_at}
+use Rattle.rooms.specs.Waypoints.{same_point}
 use Rattle.rooms.specs.Scans.{waits, estimate_of}
 
 -- what the search notes of a node: the pattern of its cost, its closed mark, and its frontier record
@@ -41,6 +43,10 @@ nodes_of n a f = firsts n (node_in a f)
 -- the state of a search that goes on: its book is the number of pushes
 unfoldable pub state_of : List ℕ → List ℕ → Counts → State Feet Label Note ℕ
 state_of a f c = record { nodes = nodes_of c.retained a f; book = c.pushed; closings = c.closed; dropped = c.dropped; found = none }
+
+-- a graph whose points compare as 01 says
+abbrev pub BySamePoint : Graph Feet Label → Type 0
+BySamePoint 𝓖 = (p q : Feet) → 𝓖.same p q ≡ same_point p q
 
 -- ---- the frontier, of nodes
 

@@ -2,7 +2,7 @@
 ghost use Rattle.std.specs.Prelude.{◌≡◌, ◌*◌, ◌≤◌, ◌<◌, length};
 ghost use Rattle.fields.specs.Records.{record_at};
 ghost use Rattle.rooms.specs.Records.{feet_from, waypoint_from, waypoint_layout, waypoint_at, node_at, entry_at};
-ghost use Rattle.rooms.specs.Laws.Fields.{Offset};
+ghost use Rattle.rooms.specs.Offsets.{Offset};
 
 use crate::{Entry, Feet, Label, NodeRecord, WaypointRecord};
 

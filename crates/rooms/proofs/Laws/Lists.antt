@@ -1,12 +1,11 @@
 -- The walk back on the node room is the theory's trace.
 use Rattle.std.specs.Prelude.{◌≡◌, Bool, ◌⊎◌, eqb, length}
 use Rattle.std.proofs.Math.Path.{refl, sym, ap}
-use Rattle.std.proofs.Common.{◌∙◌, inl, inr, arith, lt-ltb, le-ltb, ne_eqb, le-leb}
+use Rattle.std.proofs.Common.{◌∙◌, inl, inr, arith, lt-ltb, le-ltb, ne_eqb, le-leb, List, [], ◌∷◌, ℕ, zero, suc, ◌*◌, ◌/◌, ◌≤◌, ◌<◌}
 use Rattle.std.proofs.Math.Bool.{true, false}
 use Rattle.std.proofs.Math.Option.{none, some}
-use mathlib.Core.List.{List, [], ◌∷◌, reverse_aux}
+use mathlib.Core.List.{reverse_aux}
 use Rattle.std.proofs.Math.Logic.{⊎_elim}
-use Prim.Native.Nat.{ℕ, zero, suc, ◌*◌, ◌/◌, ◌≤◌, ◌<◌}
 use Rattle.exploration.specs.Lists.{nth}
 use Rattle.exploration.specs.Explore.{trace, trace_at, arrive}
 use Rattle.fields.specs.RecordLaws.{length_firsts}
@@ -16,7 +15,7 @@ use Rattle.rooms.specs.declared.Counts.{Counts}
 use Rattle.rooms.specs.Records.{node_at}
 use Rattle.rooms.specs.Rooms.{nobody, parent_of, node_of, node_in, nodes_of, state_of}
 use Rattle.rooms.specs.Lists.{node_waypoint, walk, list_of}
-use Rattle.rooms.specs.Laws.Rooms.{nth_firsts}
+use Rattle.rooms.proofs.Laws.Rooms.{nth_firsts}
 
 -- ---- one turn of a walk
 

@@ -8,6 +8,7 @@ use Rattle.rooms.specs.declared.Feet.{Feet}
 use Rattle.rooms.specs.declared.WaypointRecord.{WaypointRecord}
 use Rattle.rooms.specs.declared.NodeRecord.{NodeRecord}
 use Rattle.rooms.specs.declared.Entry.{Entry}
+use Rattle.rooms.specs.Offsets.{Offset}
 use Rattle.rooms.specs.Records.{waypoint_layout, feet_from, waypoint_from, node_layout, node_from, entry_layout, entry_from}
 
 -- ---- past the end
@@ -28,11 +29,6 @@ fields_end (n ∷ ns) a at to by h i =
     let f = field_end n a (to + by) (omega arith) in
     let more = fields_end ns a at to (by + n) h i in
     cc
-
--- where the record at an offset is read: inside the room or at its end, from where every record reads as from the offset
-pub record Offset (a : List ℕ) (at r : ℕ) : Type 0 where
-  pub within : r ≤ length a
-  pub reads : (ws : List ℕ) → record_at ws a r ≡ record_at ws a at
 
 -- record k, at so many bytes a record, starts past the end or not
 module _ (a : List ℕ) (size k : ℕ) (some : 0 < size) where

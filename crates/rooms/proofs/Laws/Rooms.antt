@@ -1,9 +1,8 @@
 -- The rooms as a state: a record written is a node set or retained, the scans are the theory's, and a state in bytes is the rooms that it was read from.
 use Rattle.std.specs.Prelude.{◌≡◌, refl, Bool, true, false, ◌≢◌, ℕ, zero, suc, ◌+◌, ◌*◌, ◌≤◌, ◌<◌, eqb, length, take, drop, set}
-use Rattle.std.proofs.Common.{sym, subst, ◌∙◌, ⊎_elim, arith, eqb-true}
+use Rattle.std.proofs.Common.{sym, subst, ◌∙◌, ⊎_elim, arith, eqb-true, List, [], ◌∷◌, ◌++◌, map}
 use Rattle.std.proofs.Math.Path.{ap}
 use Rattle.std.proofs.Math.Option.{Option, none, some}
-use mathlib.Core.List.{List, [], ◌∷◌, ◌++◌, map}
 use Rattle.exploration.specs.Lists.{nth}
 use Rattle.exploration.specs.Graph.{Graph}
 use Rattle.exploration.specs.Policy.{Node}
@@ -20,13 +19,13 @@ use Rattle.rooms.specs.declared.Label.{Label}
 use Rattle.rooms.specs.declared.NodeRecord.{NodeRecord}
 use Rattle.rooms.specs.declared.Entry.{Entry}
 use Rattle.rooms.specs.declared.Counts.{Counts}
-use Rattle.rooms.specs.Waypoints.{same_point}
 use Rattle.rooms.specs.Records.{node_layout, node_at, entry_layout, entry_at}
 use Rattle.rooms.specs.Scans as scans
 use Rattle.rooms.specs.Scans.{waits, is_at, first_at, index_or, next_of}
+pub use Rattle.rooms.specs.Rooms.{BySamePoint}
 use Rattle.rooms.specs.Rooms.{Note, nobody, parent_of, node_of, node_in, nodes_of, state_of, node_waits, node_sooner, parent_word, node_bytes, node_room, entry_bytes, front_room, counts_in}
-use Rattle.rooms.specs.Laws.Writes.{WroteNode, WroteEntry}
-use Rattle.rooms.specs.Laws.Scans.{First, first_is}
+use Rattle.rooms.specs.Writes.{WroteNode, WroteEntry}
+use Rattle.rooms.proofs.Laws.Scans.{First, first_is}
 
 -- ---- the first n values of a function, by place
 
@@ -85,10 +84,6 @@ module _ {P L A : Type 0} (𝓖 : Graph P L) (q : P) where
     where
       go : r ≡ n → or_last (seek 𝓖 (firsts n g) q) (length (firsts n g)) (g n) (𝓖.same (g n).point q) ≡ some (r, g r)
       go m = let e = seek_miss n g (λ j k. h j (omega arith)) in let f : 𝓖.same (g n).point q ≡ true = rw (← m) t in rw (e, f, length_firsts, m)
-
--- a graph whose points compare as 01 says
-abbrev pub BySamePoint : Graph Feet Label → Type 0
-BySamePoint 𝓖 = (p q : Feet) → 𝓖.same p q ≡ same_point p q
 
 module _ (𝓖 : Graph Feet Label) (same : BySamePoint 𝓖) (a f : List ℕ) (n : ℕ) (q : Feet) where
   first : First (is_at a q) 0 n (first_at a n q)
