@@ -1,12 +1,10 @@
 -- `boxes::intersects` meets its contract. Assumes nothing.
 use mathlib.Core.Path.{◌≡◌, refl, sym}
 use mathlib.Core.Bool.{Bool, true, false, ◌&&◌}
-use borrow.Author.Tests.{not-true, not-false}
 use lib.Ieee.{lt}
 use Rattle.world.specs.declared.Aabb.{Aabb}
 use Rattle.world.specs.Boxes.{meets}
-use Rattle.boxes.proofs.intersects.Statement.{statement}
-use Rattle.boxes.proofs.intersects.Tie as tie
+use Rattle.boxes.proofs.intersects.Goals as goal
 
 -- the tests of y, taken out of the others
 apart : (x r s t u : Bool) → (r && s) ≡ false → (x && r && s && t && u) ≡ false
@@ -34,11 +32,8 @@ module _ (a b : Aabb) where
   unfolding meets
   beside e = level along (lt a.min.y b.max.y) (lt b.min.y a.max.y) (lt a.min.z b.max.z) (lt b.min.z a.max.z) e
 
-returns : tie.Need-returns
-returns c = sym (above c.before.before.before.before.before.args.a c.before.before.before.before.before.args.b (not-true _ c.if1.true))
+pub returns-then-not-level : goal.returns-then-not-level
+returns-then-not-level c = sym (above c.args.a c.args.b c.if-not-level.true)
 
-returns-2 : tie.Need-returns-2
-returns-2 c = sym (beside c.before.before.before.before.before.before.before.before.before.before.before.before.before.args.a c.before.before.before.before.before.before.before.before.before.before.before.before.before.args.b (not-false _ c.before.before.before.before.before.before.before.before.if1.false))
-
-pub intersects-spec : {M : Type 1} → statement M
-intersects-spec = tie.close (tie.spec returns returns-2)
+pub returns : goal.returns
+returns c = sym (beside c.args.a c.args.b c.if-not-level.false)
