@@ -9,7 +9,7 @@ use Rattle.fields.specs.RecordLaws.{record_in, record_same, halves, length_recor
 use Rattle.rooms.specs.declared.NodeRecord.{NodeRecord}
 use Rattle.rooms.specs.declared.Entry.{Entry}
 use Rattle.rooms.specs.Records.{node_layout, node_words, node_from, node_at, with_node, entry_layout, entry_words, entry_from, entry_at, with_entry}
-use Rattle.rooms.specs.Laws.Writes.{WroteNode, PutNode, WroteEntry, PutEntry}
+use Rattle.rooms.specs.Writes.{WroteNode, PutNode, WroteEntry, PutEntry}
 
 -- a node in eight words: the last one is its two last fields
 abbrev pub as_words : NodeRecord → List ℕ

@@ -4,7 +4,7 @@
 
 ghost use Rattle.std.specs.Prelude.{◌≡◌, length, replicate};
 ghost use Rattle.rooms.specs.Records.{with_waypoint};
-ghost use Rattle.rooms.specs.Laws.Writes.{PutNode, PutEntry};
+ghost use Rattle.rooms.specs.Writes.{PutNode, PutEntry};
 
 use rooms::{Entry, Feet, Label, NodeRecord};
 
