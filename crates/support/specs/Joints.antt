@@ -1,6 +1,6 @@
 -- Intervals gathered in a room, two floats each, and joined one after the other: what is covered so is covered by 01's sentence, whatever intervals of the
 -- list were gathered, and in whatever order.
-use Rattle.std.specs.Prelude.{ℕ, zero, suc, ◌+◌, ◌-◌, ◌*◌, ◌/◌, ◌≤◌, ◌<◌, ◌≢◌, Bool, eqb, length, get_or, set, drop, Float}
+use Rattle.std.specs.Prelude.{ℕ, ◌+◌, ◌-◌, ◌*◌, ◌≤◌, ◌<◌, ◌≢◌, Bool, eqb, length, get_or, set, drop, Float}
 use Rattle.std.proofs.Common.{arith, ap, ◌∙◌, eqb-true, length-set, get_or-set_same, get_or-set_other}
 use Rattle.std.proofs.Math.Path.{◌≡◌, refl, sym, subst}
 use Rattle.std.proofs.Math.Bool.{true, false, cond}

@@ -53,6 +53,7 @@ first_kept c j is e = go (reached c j) (rounded (reach_one c j) is) e
 
 all_kept : (is : List Interval) (c : Float) → round c is ≡ c → (i : Interval) → Memᴰ i is → reach_one c i ≡ c
 unfolding round
+all_kept [] c e i m = elim m [ ]
 all_kept (j ∷ is) c e i (Memᴰ.head z) = rw z (first_kept c j is e)
 all_kept (j ∷ is) c e i (Memᴰ.tail m) = all_kept is c (rw (first_kept c j is e) at e) i m
 

@@ -7,7 +7,7 @@ use Rattle.std.proofs.Math.Option.{Option, none, some}
 use mathlib.Core.List.{List, [], ◌∷◌, foldl-append}
 use Rattle.std.specs.Float.{binary64}
 use Rattle.std.specs.Float.Ieee.{lt, le, add}
-use Rattle.floats.specs.Floats.{E, nought, larger}
+use Rattle.floats.specs.Floats.{E, larger}
 use Rattle.floats.specs.Order.{false_true, le_trans}
 use Rattle.regions.specs.RangeLaws.{fold_stays}
 use Rattle.regions.specs.RegionLaws.{to_come, ended}

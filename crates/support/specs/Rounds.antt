@@ -8,7 +8,7 @@ use Rattle.std.proofs.Common.{ap, ◌∙◌, inl, inr}
 use Rattle.std.proofs.Math.Bool.{true, false, cond}
 use mathlib.Core.List.{List, [], ◌∷◌, Memᴰ}
 use Rattle.std.specs.Float.Ieee.{lt, le}
-use Rattle.floats.specs.Floats.{nought, larger}
+use Rattle.floats.specs.Floats.{larger}
 use Rattle.floats.specs.Order.{false_true, lt_trans, lt_irrefl, lt_le, lt_right, le_left, not_lt, le_trans, le_not_lt}
 use Rattle.support.specs.declared.Interval.{Interval}
 use Rattle.support.specs.Cover.{joins, reach_one, round, rounds}
@@ -70,6 +70,7 @@ beyond_less c d h (i ∷ is) = go (beyond_less c d h is) (lt d i.end) refl (lt c
 module _ (c d : Float) (h : lt c d ≡ true) where
   beyond_fewer : (is : List Interval) (i : Interval) → Memᴰ i is → i.end ≡ d → beyond d is < beyond c is
   unfolding beyond
+  beyond_fewer [] i m q = elim m [ ]
   beyond_fewer (j ∷ is) i (Memᴰ.head e) q =
       let z : j.end ≡ d = sym (ap (λ (k : Interval). k.end) e) ∙ q in
       rw (z, lt_irrefl d, h) (omega (arith, beyond_less c d (lt_le c d h) is))
