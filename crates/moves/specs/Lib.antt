@@ -1,4 +1,3 @@
--- The movement and the lift of an edge. What a reader must believe: Moves. What is proved of it: Laws, Unique.
+-- The movement and the lift of an edge. What a reader must believe: Moves. What is proved of it: Laws, and Unique in proofs/.
 pub mod Moves
 pub mod Laws
-pub mod Unique
