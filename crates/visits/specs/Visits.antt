@@ -12,7 +12,7 @@ use Rattle.rooms.specs.Waypoints.{standing}
 use Rattle.rooms.specs.Records.{node_at, entry_at}
 use Rattle.rooms.specs.Scans.{waits}
 use Rattle.rooms.specs.Rooms.{Note, nobody, node_in, state_of}
-use Rattle.rooms.specs.Laws.Writes.{PutNode, PutEntry}
+use Rattle.rooms.specs.Writes.{PutNode, PutEntry}
 use Rattle.visits.specs.declared.Aim.{Aim}
 use Rattle.visits.specs.declared.Closing.{Closing}
 use Rattle.visits.specs.declared.Visit.{Visit}
@@ -125,6 +125,10 @@ pub record ClosedIf (aim : Aim) (k : ℕ) (c : Counts) (r : Closing) (a f b g : 
   pub node : r.node ≡ node_at a k
   pub done : ready (length a) (length f) aim.budget k c ≡ true → Closed aim k c r.counts a f b g
   pub left : ready (length a) (length f) aim.budget k c ≡ false → Untouched c r.counts a f b g
+
+-- the node that a step from node k retains or re-parents
+abbrev pub child_record : ℕ → Feet → Label → ℕ → NodeRecord
+child_record k p l cost = record { feet = p; label = l; cost = cost; parent = k; closed = 0 }
 
 abbrev pub start_record : Feet → NodeRecord
 start_record p = record { feet = p; label = standing; cost = 0; parent = nobody; closed = 0 }

@@ -1,10 +1,9 @@
 -- A closing, the start and a visit have one result: two that meet the same contract are the same, answer and both rooms. The theory fixes the state, a state
 -- fixes the counts and the records, and `Kept` fixes the bytes past the records.
-use Rattle.std.specs.Prelude.{◌≡◌, Bool, true, false, ℕ, zero, suc, ◌+◌, ◌*◌, ◌≤◌, length}
+use Rattle.std.specs.Prelude.{◌≡◌, Bool, true, false, ℕ, zero, suc, ◌*◌, ◌≤◌, length}
 use Rattle.std.proofs.Math.Path.{refl, sym, ap}
-use Rattle.std.proofs.Common.{◌∙◌, arith}
+use Rattle.std.proofs.Common.{◌∙◌, arith, List, []}
 use Rattle.std.proofs.Math.Option.{none}
-use mathlib.Core.List.{List, []}
 use Rattle.exploration.specs.Graph.{Graph}
 use Rattle.exploration.specs.Explore.{State, apply, effect_at, close}
 use Rattle.exploration.proofs.Laws.Lists.{true_false}
@@ -17,14 +16,14 @@ use Rattle.rooms.specs.declared.Counts.{Counts}
 use Rattle.rooms.specs.Waypoints.{same_point, alike, standing}
 use Rattle.rooms.specs.Scans.{idle}
 use Rattle.rooms.specs.Rooms.{Note, node_of, node_in, nodes_of, state_of, node_room, front_room}
-use Rattle.rooms.specs.Laws.Rooms.{node_room_lem, front_room_lem}
+use Rattle.rooms.proofs.Laws.Rooms.{node_room_lem, front_room_lem}
 use Rattle.visits.specs.declared.Aim.{Aim}
 use Rattle.visits.specs.declared.Closing.{Closing}
 use Rattle.visits.specs.declared.Visit.{Visit}
 use Rattle.visits.specs.declared.Visit.TheVariants.{Closed as ToClosed, Counted}
 use Rattle.visits.specs.Best.{best}
 use Rattle.visits.specs.Visits.{ready, Kept, Untouched, counts_by, says_closed, found_at, Visited, VisitedIf, ClosedIf, Started}
-use Rattle.visits.specs.Laws.Visits.{ready_is}
+use Rattle.visits.proofs.Laws.Visits.{ready_is}
 
 -- What the language gives of two lent u8 slices, a and f before and b and g after: their lengths stay, and what they hold are bytes. The contracts do not say
 -- it: a full room whose last records are zero could be cut short.

@@ -1,14 +1,13 @@
 -- The paths of the code through one step, one closing and the start, each in the definitions' words; and how they compose.
 use Rattle.std.specs.Prelude.{◌≡◌, Bool, true, false, ◌&&◌, List, [], ◌∷◌, ◌++◌, ◌≢◌, ℕ, zero, suc, ◌+◌, ◌*◌, ◌/◌, ◌^◌, ◌≤◌, ◌<◌, eqb, length}
 use Rattle.std.proofs.Math.Path.{refl, sym, ap}
-use Rattle.std.proofs.Common.{subst, ◌∙◌, add-one, Fits}
+use Rattle.std.proofs.Common.{subst, ◌∙◌, add-one, Fits, arith, eq-eqb, ne_eqb, lt-ltb, le-ltb, le-leb, ltb-true, leb-true, eqb-true}
 use Rattle.std.proofs.Math.Option.{Option, none, some}
 use Rattle.std.proofs.Math.Logic.{⊎_elim}
-use native.Mathlib.Omega.{arith}
 use Rattle.std.proofs.Math.Dec.{ltb, leb}
 use Rattle.std.proofs.Math.ListN.{set}
 use Rattle.std.specs.Int.{w64}
-use borrow.Author.Tests.{eq-eqb, ne_eqb, lt-ltb, le-ltb, le-leb, ltb-true, leb-true, eqb-true, eqb-false}
+use borrow.Author.Tests.{eqb-false}
 use Rattle.exploration.specs.Graph.{Graph}
 use Rattle.exploration.specs.Policy.{Node}
 use Rattle.exploration.specs.Explore.{State, child, apply, effect, effect_at, seek, visit, begin}
@@ -22,14 +21,15 @@ use Rattle.rooms.specs.declared.Counts.{Counts}
 use Rattle.rooms.specs.Records.{node_at, entry_at}
 use Rattle.rooms.specs.Scans.{first_at, waits, idle}
 use Rattle.rooms.specs.Rooms.{Note, nobody, parent_of, node_of, node_in, nodes_of, state_of}
-use Rattle.rooms.specs.Laws.Writes.{WroteNode, WroteEntry}
-use Rattle.rooms.specs.Laws.Rooms.{BySamePoint, nodes_set, nodes_more, seek_none, seek_some}
-use Rattle.rooms.specs.Laws.Lists.{in_or_out}
+use Rattle.rooms.specs.Writes.{WroteNode, WroteEntry}
+use Rattle.rooms.proofs.Laws.Rooms.{BySamePoint, nodes_set, nodes_more, seek_none, seek_some}
+use Rattle.rooms.proofs.Laws.Lists.{in_or_out}
 use Rattle.visits.specs.declared.Aim.{Aim}
 use Rattle.visits.specs.declared.Visit.{Visit}
 use Rattle.visits.specs.declared.Visit.TheVariants.{Counted}
 use Rattle.costs.specs.Costs.{cost_by, estimate_by, cheaper, pushed_as, lowered}
 use Rattle.visits.specs.Best.{opened, relaxed, best}
+pub use Rattle.visits.specs.Visits.{child_record}
 use Rattle.visits.specs.Visits.{Ready, ready, Kept, Still, Rested, Rests, Untouched, Near, Seen, counts_by, says_closed, is_shut, found_at, shut_at, Visited, VisitedIf, Closed, start_record, counted, Started, Begun}
 
 -- ---- the bytes that stay, and the counts
@@ -153,9 +153,6 @@ module _ {a f : List ℕ} {budget : ℕ} {c : Counts} (r : Ready a f budget 1 c)
   closes_fit = omega (arith, r.closes)
 
 -- ---- a step
-
-abbrev pub child_record : ℕ → Feet → Label → ℕ → NodeRecord
-child_record k p l cost = record { feet = p; label = l; cost = cost; parent = k; closed = 0 }
 
 child_node : (k : ℕ) (p : Feet) (l : Label) (cost : ℕ) (e : Entry) → k < nobody → node_of (child_record k p l cost) e ≡ child k p l (opened cost e)
 unfolding node_of parent_of
