@@ -7,6 +7,7 @@ ghost use Rattle.rooms.specs.Waypoints.{canonical_word, same_word, same_point};
 use rooms::Feet;
 
 // -0.0's pattern as 0.0's, and any other as it is.
+#[tactic(auto, unfolding(rooms::specs::Waypoints::canonical_word))]
 pub fn canonical_word(n: u64) -> u64
     ensures { result ≡ canonical_word n }
 {
