@@ -75,6 +75,7 @@ fn in_use(c: Counts) -> InUse
 }
 
 // What stands where the input ends: a scene and the part of each lent table that it made, or a refusal. One of the first three records may be missing.
+#[tactic(auto, unfolding(crate::specs::Answers::ended, crate::specs::Answers::scene_of))]
 pub fn end(progress: Progress) -> SceneAnswer
     ensures { scene_answer result ≡ scene_of (progress_answer progress) }
 {
