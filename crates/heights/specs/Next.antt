@@ -1,10 +1,10 @@
 -- The heights one after the other: the next one is the first of the sorted tops that is not within E of the last kept.
 use Rattle.std.specs.Prelude.{ℕ, zero, suc, refl, Bool, true, false, not, cond, Float}
 use Rattle.std.proofs.Math.Path.{◌≡◌}
-use Rattle.std.proofs.Common.{sym, ap, ◌∙◌, subst, arith}
-use mathlib.Core.List.{List, [], ◌∷◌, ◌++◌, foldl}
-use Rattle.std.specs.Float.Ieee.{lt, le, is_nan}
-use Rattle.floats.specs.Order.{le_refl, le_trans, lt_le, lt_trans, not_lt, not_le, le_not_lt}
+use Rattle.std.proofs.Common.{sym, ◌∙◌, subst, arith}
+use mathlib.Core.List.{List, [], ◌∷◌, ◌++◌}
+use Rattle.std.specs.Float.Ieee.{le, is_nan}
+use Rattle.floats.specs.Order.{le_refl, le_trans, lt_le, not_le}
 use Rattle.regions.specs.Ranges.{gather}
 use Rattle.heights.specs.declared.Height.{Height}
 use Rattle.heights.specs.declared.Height.TheVariants.{At, None}

@@ -1,11 +1,11 @@
 -- A top put in its place among the lowest of a room, turn by turn; and that so, of a column's tops in any order, the room has the lowest.
-use Rattle.std.specs.Prelude.{ℕ, zero, suc, ◌+◌, ◌-◌, ◌≤◌, ◌<◌, min, refl, Bool, true, false, not, cond, ltb, get_or, drop, set}
-use Rattle.std.proofs.Common.{arith, add-one, sym, ◌∙◌, subst, ltb-true, ltb-false, lt-ltb, le-ltb, take-append-drop, length-append, length-drop, drop_of_length-le, drop-cons, take-suc, get_or-append-add, get_or-drop, length-take-le, take_at, take_all, drop-drop}
+use Rattle.std.specs.Prelude.{ℕ, zero, suc, ◌+◌, ◌-◌, ◌≤◌, ◌<◌, refl, Bool, true, false, cond, ltb, get_or, drop, set}
+use Rattle.std.proofs.Common.{arith, add-one, sym, ◌∙◌, ltb-true, ltb-false, lt-ltb, take-append-drop, length-append, length-drop, drop-cons, take-suc, get_or-append-add, get_or-drop, length-take-le, take_at, take_all, drop-drop}
 use Rattle.std.proofs.Math.Path.{◌≡◌, ap}
 use mathlib.Core.List.{List, [], ◌∷◌, ◌++◌, foldl, append-nil, append_assoc}
 use Rattle.std.proofs.Math.ListN.{length, take, length-take, get_or-append}
 use Rattle.std.proofs.lemmas.List.{set_at, get_or_at, take-append-le, drop-append-le}
-use Rattle.std.proofs.Math.Seq.{append_snoc, take-append_seam, drop-append_seam, take-append-add, drop-append-add, take-length, take-nil}
+use Rattle.std.proofs.Math.Seq.{append_snoc, drop-append_seam, drop-append-add, take-nil}
 use Rattle.std.specs.Float.Ieee.{Float, lt, le, is_nan}
 use Rattle.std.specs.Float.{nan}
 use Rattle.floats.specs.Order.{false_true, le_trans, lt_le, lt_turned, not_lt, not_le, le_not_lt, lt_le_trans}

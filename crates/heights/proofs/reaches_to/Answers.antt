@@ -1,14 +1,12 @@
 -- `heights::reaches_to` meets its contract. Assumes nothing.
-use mathlib.Core.Path.{◌≡◌, refl, sym}
-use mathlib.Core.Bool.{Bool, true, false, ◌&&◌}
-use borrow.Author.Tests.{not-true, not-false}
-use lib.Ieee.{Float, binary64, le, add, sub}
+use Rattle.std.proofs.Common.{◌≡◌, refl, sym, Bool, true, false, ◌&&◌, Float}
+use Rattle.std.specs.Float.{binary64}
+use lib.Ieee.{le, add, sub}
 use Rattle.floats.specs.Floats.{E}
 use Rattle.world.specs.declared.Aabb.{Aabb}
 use Rattle.heights.specs.declared.Band.{Band}
 use Rattle.heights.specs.Heights.{reaches}
-use Rattle.heights.proofs.reaches_to.Statement.{statement}
-use Rattle.heights.proofs.reaches_to.Tie as tie
+use Rattle.heights.proofs.reaches_to.Goals as goal
 
 -- the tests of the top, taken out of the others
 off : (x r s : Bool) → (r && s) ≡ false → (x && r && s) ≡ false
@@ -35,11 +33,8 @@ module _ (band : Band) (x z : Float) (b : Aabb) where
   unfolding reaches
   inside e = kept spans (le (sub binary64 band.low E) b.max.y) (le b.max.y (add binary64 band.high E)) e
 
-returns : tie.Need-returns
-returns c = let a = c.before.before.before.before.before.args in sym (outside a.band a.x a.z a.b (not-true _ c.if1.true))
+pub returns-then-not-level : goal.returns-then-not-level
+returns-then-not-level c = let a = c.args in sym (outside a.band a.x a.z a.b (c.if-not-level.true))
 
-returns-2 : tie.Need-returns-2
-returns-2 c = let a = c.before.before.before.before.before.before.before.before.before.args in sym (inside a.band a.x a.z a.b (not-false _ c.before.before.before.before.if1.false))
-
-pub reaches-to-spec : {M : Type 1} → statement M
-reaches-to-spec = tie.close (tie.spec returns returns-2)
+pub returns : goal.returns
+returns c = let a = c.args in sym (inside a.band a.x a.z a.b (c.if-not-level.false))
