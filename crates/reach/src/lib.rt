@@ -6,9 +6,9 @@
 ghost use Rattle.std.specs.Prelude.{◌≡◌, ◌+◌, ◌*◌, ◌≤◌, ◌<◌, length};
 ghost use Rattle.rooms.specs.Records.{node_at};
 ghost use Rattle.rooms.specs.Rooms.{nobody};
-ghost use Rattle.rooms.specs.Laws.Writes.{WroteNode, WroteEntry};
+ghost use Rattle.rooms.specs.Writes.{WroteNode, WroteEntry};
 ghost use Rattle.costs.specs.Costs.{cost_by};
-ghost use Rattle.visits.specs.Laws.Visits.{child_record};
+ghost use Rattle.visits.proofs.Laws.Visits.{child_record};
 ghost use Rattle.visits.specs.Visits.{Ready, Seen, counts_by, says_closed, is_shut, VisitedIf};
 
 use costs::{cheaper, cost_by, estimate, lowered, pushed_as};
