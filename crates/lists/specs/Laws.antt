@@ -12,7 +12,7 @@ use Rattle.rooms.specs.declared.Feet.{Feet}
 use Rattle.rooms.specs.declared.Label.{Label}
 use Rattle.rooms.specs.Records.{waypoint_layout, waypoint_words, with_waypoint, node_at}
 use Rattle.rooms.specs.Lists.{node_waypoint, walk, list_of, waypoint_bytes, list_bytes, written, Listed}
-use Rattle.rooms.specs.Laws.Lists.{walk_on, walk_off, in_or_out}
+use Rattle.rooms.proofs.Laws.Lists.{walk_on, walk_off, in_or_out}
 
 -- ---- in a loop that counts
 
