@@ -1,0 +1,5 @@
+-- `places::near` meets its contract. Assumes nothing.
+use Rattle.places.proofs.near.Goals as goal
+
+pub returns : goal.returns
+returns c = rw c.abs.ensures
