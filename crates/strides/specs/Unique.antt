@@ -5,7 +5,7 @@ use Rattle.moves.specs.declared.answer.EdgeAnswer.{EdgeAnswer}
 use Rattle.moves.specs.declared.answer.EdgeAnswer.TheVariants.{To, Nowhere}
 use Rattle.rooms.specs.declared.Counts.{Counts}
 use Rattle.visits.specs.declared.Aim.{Aim}
-use Rattle.visits.specs.Unique.{Lent, one_untouched, one_visited}
+use Rattle.visits.proofs.Unique.{Lent, one_untouched, one_visited}
 use Rattle.strides.specs.declared.Place.{Place}
 use Rattle.strides.specs.declared.Column.{Column}
 use Rattle.strides.specs.Strides.{VisitedBy, Strode}
