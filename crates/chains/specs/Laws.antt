@@ -1,13 +1,13 @@
 -- Chains of parents: one that ends passes no node twice, so it is no longer than there are nodes.
 use Prim.Native.Nat.{ℕ, zero, suc, ◌+◌, ◌-◌, ◌≤◌, ◌<◌}
-use Rattle.std.proofs.Common.{arith, ap, subst, ◌∙◌, inl, inr, ⊎_elim}
-use Rattle.std.specs.Prelude.{◌≡◌, Bool, true, false, ◌&&◌, ◌||◌, List, [], ◌∷◌, ◌⊎◌, ◌≢◌, ltb, leb, length}
+use Rattle.std.proofs.Common.{arith, ap, subst, ◌∙◌, ⊎_elim}
+use Rattle.std.specs.Prelude.{◌≡◌, Bool, true, false, List, [], ◌∷◌, ◌≢◌, ltb, length}
 use Rattle.std.proofs.Math.Path.{refl, sym}
 use Rattle.std.proofs.Math.Dec.{eqb}
 use borrow.Author.Tests.{eq-eqb, ne_eqb, eqb-true, ltb-true, lt-ltb, le-ltb, le-leb, lt-leb}
 use Rattle.exploration.specs.Lists.{has}
 use Rattle.exploration.proofs.Laws.Apart.{Apart, Covered, pigeon}
-use Rattle.exploration.proofs.Laws.Lists.{and_both, and_first, and_second, or_cases, or_left, or_right, true_false, has_left, has_last}
+use Rattle.exploration.proofs.Laws.Lists.{and_both, and_first, and_second, or_cases, true_false, has_left, has_last}
 use Rattle.fields.specs.Records.{firsts}
 use Rattle.fields.specs.RecordLaws.{length_firsts, last_or}
 use Rattle.rooms.specs.Records.{node_at}
