@@ -7,7 +7,7 @@ use Rattle.std.proofs.Math.ListN.{length, drop, length-reverse_aux}
 use Rattle.std.proofs.lemmas.List.{take-append-le}
 use borrow.Author.Tests.{le-leb, lt-leb}
 use Rattle.std.specs.Int.{w64}
-use Rattle.fields.specs.RecordLaws.{record_in, with_record_is}
+use Rattle.fields.proofs.RecordLaws.{record_in, with_record_is}
 use Rattle.rooms.specs.declared.Feet.{Feet}
 use Rattle.rooms.specs.declared.Label.{Label}
 use Rattle.rooms.specs.Records.{waypoint_layout, waypoint_words, with_waypoint, node_at}

@@ -2,7 +2,7 @@
 use Rattle.std.specs.Prelude.{ℕ, zero, suc, ◌+◌, ◌*◌, ◌<◌, ◌≤◌, ◌≡◌, refl, Bool, true, false, not, ◌&&◌, ◌||◌, cond, List, ltb, leb, eqb, length, get_or, drop}
 use Rattle.std.proofs.Common.{arith, add-one, eq-eqb, ne_eqb, drop_of_length-le, drop-cons}
 use Rattle.fields.specs.Little.{field}
-use Rattle.fields.specs.Laws.{four}
+use Rattle.fields.proofs.Laws.{four}
 use Rattle.tables.specs.BadWorld.{box_rule}
 use Rattle.scene_records.specs.Layout.{three_zeros, number_of, by_kind, zeros, box_of}
 use Rattle.scene_rules.specs.declared.Counts.{Counts}

@@ -7,8 +7,8 @@ use Rattle.std.proofs.Math.Option.{none}
 use Rattle.exploration.specs.Graph.{Graph}
 use Rattle.exploration.specs.Explore.{State, apply, effect_at, close}
 use Rattle.exploration.proofs.Laws.Lists.{true_false}
-use Rattle.fields.specs.Pieces.{Bytes}
-use Rattle.fields.specs.RecordLaws.{length_firsts}
+use Rattle.fields.specs.Bytes.{Bytes}
+use Rattle.fields.proofs.RecordLaws.{length_firsts}
 use Rattle.rooms.specs.declared.Feet.{Feet}
 use Rattle.rooms.specs.declared.Label.{Label}
 use Rattle.rooms.specs.declared.NodeRecord.{NodeRecord}

@@ -10,8 +10,8 @@ use borrow.Author.Tests.{lt-ltb, le-ltb, le-leb, ltb-true, ltb-false, leb-true, 
 use Rattle.std.proofs.Math.Dec.{ltb}
 use Rattle.std.proofs.Math.ListN.{length}
 use Rattle.fields.specs.Little.{field, float_field}
-use Rattle.fields.specs.Laws.{field_out}
-use Rattle.fields.specs.Pieces.{field_drop, field_take, low_part, high_part}
+use Rattle.fields.proofs.Laws.{field_out}
+use Rattle.fields.proofs.Pieces.{field_drop, field_take, low_part, high_part}
 use Rattle.world.specs.declared.Window.{Window}
 use Rattle.world.specs.declared.Point.{Point}
 use Rattle.world.specs.declared.Aabb.{Aabb}

@@ -5,7 +5,7 @@ use Rattle.std.proofs.Common.{sym, ◌∙◌, ⊎_elim, arith}
 use mathlib.Core.List.{List, [], ◌∷◌}
 use Rattle.std.proofs.Math.Logic.{inl, inr}
 use Rattle.fields.specs.Records.{with_fields, with_words, Fill}
-use Rattle.fields.specs.RecordLaws.{record_in, record_same, halves, length_record, record_back, record_apart, drop_record}
+use Rattle.fields.proofs.RecordLaws.{record_in, record_same, halves, length_record, record_back, record_apart, drop_record}
 use Rattle.rooms.specs.declared.NodeRecord.{NodeRecord}
 use Rattle.rooms.specs.declared.Entry.{Entry}
 use Rattle.rooms.specs.Records.{node_layout, node_words, node_from, node_at, with_node, entry_layout, entry_words, entry_from, entry_at, with_entry}

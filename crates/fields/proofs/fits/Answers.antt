@@ -1,7 +1,7 @@
 -- `fields::fits` meets its contract. Assumes nothing.
 use Rattle.std.proofs.Common.{arith, sym, ◌∙◌, ◌+◌, ◌-◌}
 use Rattle.std.proofs.lemmas.Bool.{lt-leb}
-use Rattle.fields.specs.Laws.{leb_same}
+use Rattle.fields.proofs.Laws.{leb_same}
 use Rattle.fields.proofs.fits.Goals as goal
 
 pub returns-then-bytes-n : goal.returns-then-bytes-n

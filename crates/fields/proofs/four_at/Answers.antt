@@ -1,6 +1,6 @@
 -- `fields::four_at` meets its contract. Assumes nothing.
 use Rattle.std.proofs.Common.{arith}
-use Rattle.fields.specs.Laws.{field_parts}
+use Rattle.fields.proofs.Laws.{field_parts}
 use Rattle.fields.proofs.four_at.Goals as goal
 
 pub returns : goal.returns

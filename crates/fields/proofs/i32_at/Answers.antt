@@ -1,7 +1,7 @@
 -- `fields::i32_at` meets its contract. Assumes nothing.
 use Rattle.std.proofs.Common.{arith, ap, ◌∙◌, w32, to_z}
 use Rattle.fields.specs.Little.{signed_field}
-use Rattle.fields.specs.Signed.{flip_fits, flip_is}
+use Rattle.fields.proofs.Signed.{flip_fits, flip_is}
 use Rattle.fields.proofs.i32_at.Goals as goal
 
 pub overflow_sub-result-else-n-lt2147483648 : goal.overflow_sub-result-else-n-lt2147483648

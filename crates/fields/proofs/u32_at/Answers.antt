@@ -1,6 +1,6 @@
 -- `fields::u32_at` meets its contract. Assumes nothing.
 use Rattle.std.proofs.Common.{sym, ◌∙◌, leb-true, leb-false}
-use Rattle.fields.specs.Laws.{field_out}
+use Rattle.fields.proofs.Laws.{field_out}
 use Rattle.fields.proofs.u32_at.Goals as goal
 
 pub four_at-requires : goal.four_at-requires

@@ -1,6 +1,6 @@
 -- `fields::u64_at` meets its contract. Assumes nothing.
 use Rattle.std.proofs.Common.{arith, sym, ◌∙◌, ◌+◌, ◌≤◌, length, leb-true, leb-false}
-use Rattle.fields.specs.Laws.{field_out, field_parts}
+use Rattle.fields.proofs.Laws.{field_out, field_parts}
 use Rattle.fields.proofs.u64_at.Goals as goal
 use Rattle.fields.proofs.u64_at.Goals.{Then-fits}
 

@@ -3,7 +3,7 @@ use Rattle.std.specs.Prelude.{◌≡◌, refl, Bool, true, false, cond, List, []
 use Rattle.std.proofs.Common.{sym, ap, ◌∙◌, arith, add-zero, le-div_iff_mul-le, div-lt_iff_lt-mul, mul_comm}
 use Rattle.fields.specs.Little.{fits_at, field}
 use Rattle.fields.specs.Records.{fields_at, record_at}
-use Rattle.fields.specs.Laws.{field_out}
+use Rattle.fields.proofs.Laws.{field_out}
 use Rattle.rooms.specs.declared.Feet.{Feet}
 use Rattle.rooms.specs.declared.WaypointRecord.{WaypointRecord}
 use Rattle.rooms.specs.declared.NodeRecord.{NodeRecord}

@@ -8,7 +8,7 @@ use mathlib.Core.List.{reverse_aux}
 use Rattle.std.proofs.Math.Logic.{⊎_elim}
 use Rattle.exploration.specs.Lists.{nth}
 use Rattle.exploration.specs.Explore.{trace, trace_at, arrive}
-use Rattle.fields.specs.RecordLaws.{length_firsts}
+use Rattle.fields.proofs.RecordLaws.{length_firsts}
 use Rattle.rooms.specs.declared.Feet.{Feet}
 use Rattle.rooms.specs.declared.Label.{Label}
 use Rattle.rooms.specs.declared.Counts.{Counts}

@@ -11,9 +11,9 @@ use Rattle.exploration.specs.Choose.{choose, scan, keep, swap}
 use Rattle.exploration.specs.Estimates.{sooner}
 use Rattle.exploration.proofs.Laws.Lists.{nth_left, nth_last, nth_lt, map_snoc}
 use Rattle.exploration.proofs.Laws.Choices.{choose_some}
-use Rattle.fields.specs.Pieces.{Bytes}
+use Rattle.fields.specs.Bytes.{Bytes}
 use Rattle.fields.specs.Records.{firsts, records_bytes}
-use Rattle.fields.specs.RecordLaws.{last_or, length_firsts, firsts_more, firsts_set, record_bytes_lem, room_is}
+use Rattle.fields.proofs.RecordLaws.{last_or, length_firsts, firsts_more, firsts_set, record_bytes_lem, room_is}
 use Rattle.rooms.specs.declared.Feet.{Feet}
 use Rattle.rooms.specs.declared.Label.{Label}
 use Rattle.rooms.specs.declared.NodeRecord.{NodeRecord}

@@ -1,6 +1,6 @@
 -- `stores::put_four` meets its contract. Assumes nothing.
 use Rattle.std.proofs.Common.{arith, ℕ, ◌+◌, ◌/◌, ◌%◌, ◌≤◌, ◌<◌, ◌≡◌, refl, lit<, length-set, w32, Fits}
-use Rattle.fields.specs.Laws.{put_four}
+use Rattle.fields.proofs.Laws.{put_four}
 use Rattle.stores.proofs.put_four.Goals as goal
 
 -- the sums, each from the one fact that it needs: `omega` reads all that is in scope

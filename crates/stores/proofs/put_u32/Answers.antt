@@ -1,6 +1,6 @@
 -- `stores::put_u32` meets its contract. Assumes nothing.
 use Rattle.std.proofs.Common.{◌+◌, ◌≤◌, sym, ◌∙◌, length, leb-true, leb-false}
-use Rattle.fields.specs.Laws.{with_out}
+use Rattle.fields.proofs.Laws.{with_out}
 use Rattle.stores.proofs.put_u32.Goals as goal
 use Rattle.stores.proofs.put_u32.Goals.{Then-fits}
 

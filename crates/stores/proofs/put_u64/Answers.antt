@@ -1,7 +1,7 @@
 -- `stores::put_u64` meets its contract. Assumes nothing.
 use Rattle.std.proofs.Common.{arith, ℕ, ◌+◌, ◌/◌, ◌≤◌, sym, ap, ◌∙◌, List, length, leb-true, leb-false}
 use Rattle.fields.specs.Little.{with_field}
-use Rattle.fields.specs.Laws.{with_out, with_parts}
+use Rattle.fields.proofs.Laws.{with_out, with_parts}
 use Rattle.stores.proofs.put_u64.Goals as goal
 use Rattle.stores.proofs.put_u64.Goals.{Then-fits}
 

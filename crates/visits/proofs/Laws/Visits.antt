@@ -12,7 +12,7 @@ use Rattle.exploration.specs.Graph.{Graph}
 use Rattle.exploration.specs.Policy.{Node}
 use Rattle.exploration.specs.Explore.{State, child, apply, effect, effect_at, seek, visit, begin}
 use Rattle.exploration.proofs.Laws.Lists.{and_both, and_first, and_second, true_false}
-use Rattle.fields.specs.RecordLaws.{length_firsts}
+use Rattle.fields.proofs.RecordLaws.{length_firsts}
 use Rattle.rooms.specs.declared.Feet.{Feet}
 use Rattle.rooms.specs.declared.Label.{Label}
 use Rattle.rooms.specs.declared.NodeRecord.{NodeRecord}

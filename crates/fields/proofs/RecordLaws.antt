@@ -3,8 +3,8 @@ use Rattle.std.specs.Prelude.{ℕ, zero, suc, ◌+◌, ◌*◌, ◌/◌, ◌%◌
 use Rattle.std.proofs.Common.{arith, add-zero, mul-zero, mul-suc, sym, ap, ◌∙◌, append_assoc, append-nil, inl, inr, ⊎_elim, le-leb, leb-true, length-append, take-append-drop, take-add, drop-drop, take_at, length-take-le}
 use Rattle.std.proofs.lemmas.List.{set-append_left, set_at}
 use Rattle.fields.specs.Little.{bytes_of, fits_at, field, with_field}
-use Rattle.fields.specs.Laws.{length_with, length_bytes, read_back, read_other, with_parts}
-use Rattle.fields.specs.Pieces.{Bytes, bytes_field, with_is, drop_with}
+use Rattle.fields.proofs.Laws.{length_with, length_bytes, read_back, read_other, with_parts}
+use Rattle.fields.proofs.Pieces.{Bytes, bytes_field, with_is, drop_with}
 use Rattle.fields.specs.Records.{record_size, fields_at, with_fields, with_record, record_bytes, records_bytes, Fill, firsts}
 
 -- ---- a record written, field by field

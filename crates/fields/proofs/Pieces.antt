@@ -1,4 +1,5 @@
 -- Fields of a piece of a table: behind an offset, before one, behind other bytes; and a table with a field set, piece by piece.
+pub use Rattle.fields.specs.Bytes.{Bytes}
 use Rattle.std.specs.Prelude.{ℕ, zero, suc, ◌+◌, ◌*◌, ◌/◌, ◌%◌, ◌^◌, ◌<◌, ◌≤◌, ◌≡◌, refl, Bool, true, false, cond, List, [], ◌∷◌, ◌++◌, length, get_or, set, take, drop}
 use Rattle.std.proofs.Common.{arith, pow-suc, mod-eq_of_lt, sym, ap, ◌∙◌, append_assoc, length-append, length-take, length-drop, drop-cons, get_or-drop, get_or-take, drop-set-lt}
 use Rattle.std.proofs.Math.Nat.{mod-one, pow-zero, div-eq_of_lt, add-mul-mod_self_left, add-mul-div_left, min-le_right, le-min}
@@ -6,7 +7,7 @@ use Rattle.std.proofs.lemmas.List.Edits.{sets, sets-eq}
 use Rattle.std.proofs.Math.Seq.{drop-append_seam}
 use Rattle.std.proofs.Math.Arith.{mod-mul}
 use Rattle.fields.specs.Little.{le_at, bytes_of, fits_at, field, with_field}
-use Rattle.fields.specs.Laws.{field_in, field_parts, with_in, length_bytes, le_same, leb_same, positive}
+use Rattle.fields.proofs.Laws.{field_in, field_parts, with_in, length_bytes, le_same, leb_same, positive}
 
 -- ---- reading
 
@@ -66,9 +67,6 @@ field_front n v s h =
     field_in n (bytes_of n v ++ s) 0 (omega (arith, length-append (bytes_of n v) s, length_bytes n v)) ∙ le_front n v s ∙ mod-eq_of_lt h
 
 -- ---- tables whose elements are bytes
-
-abbrev pub Bytes : List ℕ → Type 0
-Bytes s = (i : ℕ) → get_or s i 0 < 256
 
 le_below : (n : ℕ) (s : List ℕ) (at : ℕ) → Bytes s → le_at n s at < 256 ^ n
 le_below zero s at b = rw pow-zero (omega arith)

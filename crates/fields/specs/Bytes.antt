@@ -1,0 +1,5 @@
+-- Tables whose elements are bytes.
+use Rattle.std.specs.Prelude.{ℕ, ◌<◌, List, get_or}
+
+abbrev pub Bytes : List ℕ → Type 0
+Bytes s = (i : ℕ) → get_or s i 0 < 256
