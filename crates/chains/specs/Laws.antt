@@ -9,7 +9,7 @@ use Rattle.exploration.specs.Lists.{has}
 use Rattle.exploration.proofs.Laws.Apart.{Apart, Covered, pigeon}
 use Rattle.exploration.proofs.Laws.Lists.{and_both, and_first, and_second, or_cases, true_false, has_left, has_last}
 use Rattle.fields.specs.Records.{firsts}
-use Rattle.fields.specs.RecordLaws.{length_firsts, last_or}
+use Rattle.fields.proofs.RecordLaws.{length_firsts, last_or}
 use Rattle.rooms.specs.Records.{node_at}
 use Rattle.rooms.specs.Rooms.{nobody}
 use Rattle.chains.specs.Chains.{each_below, good_parent, parent_back, parents_back, ends_at_start, good_chains}

@@ -7,7 +7,7 @@ use Rattle.exploration.specs.Choose.{choose, scan, keep}
 use Rattle.exploration.proofs.Laws.Loops.{scan_snoc}
 use Rattle.fields.specs.Little.{field}
 use Rattle.fields.specs.Records.{firsts}
-use Rattle.fields.specs.RecordLaws.{length_firsts, last_or}
+use Rattle.fields.proofs.RecordLaws.{length_firsts, last_or}
 use Rattle.rooms.specs.declared.Feet.{Feet}
 use Rattle.rooms.specs.declared.Entry.{Entry}
 use Rattle.rooms.specs.Waypoints.{same_word, same_point}

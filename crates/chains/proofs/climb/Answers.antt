@@ -1,6 +1,6 @@
 -- `chains::climb` meets its contract. The loop's invariant: `at` is m parents back, and no node before it is node 0. Assumes nothing.
 use Rattle.std.proofs.Common.{arith, ℕ, refl, sym, ap, ◌∙◌, ⊎_elim}
-use Rattle.fields.specs.RecordLaws.{last_or}
+use Rattle.fields.proofs.RecordLaws.{last_or}
 use Rattle.chains.specs.Chains.{parent_back, parents_back}
 use Rattle.chains.specs.Laws.{back_more, back_inside}
 use Rattle.chains.specs.Marks.{climbed_first, climbed_marked, climbed_none}

@@ -1,7 +1,7 @@
 -- `chains::look` meets its contract. The loop's invariant: the nodes before `k` have good parents, and if `all` is true they reach node 0. Assumes nothing.
 use Rattle.std.proofs.Common.{arith, ◌≡◌, refl, sym, ap, ◌∙◌, not, ⊎_elim, ◌≢◌, eq-eqb, eqb, get_or}
 use Rattle.exploration.proofs.Laws.Lists.{and_first, and_second, true_false}
-use Rattle.fields.specs.RecordLaws.{last_or}
+use Rattle.fields.proofs.RecordLaws.{last_or}
 use Rattle.rooms.specs.Records.{node_at}
 use Rattle.chains.specs.Chains.{good_parent}
 use Rattle.chains.specs.Laws.{each_all}
