@@ -3,7 +3,7 @@ use Rattle.std.proofs.Common.{◌∙◌}
 use Rattle.world.specs.Space.{space}
 use Rattle.heights.specs.Heights.{tops, next_after}
 use Rattle.heights.specs.Lowest.{height_at}
-use Rattle.heights.specs.Batches.{one_next}
+use Rattle.heights.proofs.BatchLaws.{one_next}
 use Rattle.heights.proofs.next_height.Goals as goal
 
 pub returns : goal.returns

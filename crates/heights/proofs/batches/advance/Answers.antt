@@ -1,7 +1,7 @@
 -- `heights::batches::advance` meets its contract. Assumes nothing.
 use Rattle.std.proofs.Common.{arith, ℕ, ◌-◌, ◌≡◌, sym, ap, ◌∙◌, ◌||◌, ltb, lt-ltb, le-ltb, length}
 use Rattle.heights.specs.Lowest.{first_from, batch_count, place_in, moved_on}
-use Rattle.heights.specs.Batches.{batch_count_le}
+use Rattle.heights.proofs.BatchLaws.{batch_count_le}
 use Rattle.heights.proofs.batches.advance.Goals as goal
 use Rattle.heights.proofs.batches.advance.Goals.{After-first_beyond-at, Joined-short, then-short, else-short}
 

@@ -1,7 +1,7 @@
 -- `heights::batches::first_beyond` meets its contract. Assumes nothing.
 use Rattle.std.proofs.Common.{arith, ◌≡◌, sym, ap, ◌∙◌, ◌-◌, ◌+◌}
 use Rattle.heights.specs.Lowest.{first_from}
-use Rattle.heights.specs.Batches.{place_here, place_later, place_end}
+use Rattle.heights.proofs.BatchLaws.{place_here, place_later, place_end}
 use Rattle.heights.proofs.batches.first_beyond.Goals as goal
 
 pub loop-at-preserved : goal.loop-at-preserved

@@ -1,6 +1,6 @@
 -- `heights::batches::height_at` meets its contract. Assumes nothing.
 use Rattle.std.proofs.Common.{arith, ltb-true, ltb, length}
-use Rattle.heights.specs.Laws.{last_holds}
+use Rattle.heights.proofs.Laws.{last_holds}
 use Rattle.heights.specs.Lowest.{height_at}
 use Rattle.heights.proofs.batches.height_at.Goals as goal
 

@@ -3,7 +3,7 @@ use Rattle.std.proofs.Common.{◌≡◌, sym, ◌∙◌, w64, SFits, to_z-of_z}
 use Rattle.world.specs.Boxes.{corner}
 use Rattle.world.specs.Space.{cell_at, space}
 use Rattle.heights.specs.Put.{taken}
-use Rattle.heights.specs.Laws.{unknown_none, no_support, supports}
+use Rattle.heights.proofs.Laws.{unknown_none, no_support, supports}
 use Rattle.heights.proofs.lowest.cell_lowest.Goals as goal
 use Rattle.heights.proofs.lowest.cell_lowest.Goals.{After-cell_at, After-corner_of-by}
 

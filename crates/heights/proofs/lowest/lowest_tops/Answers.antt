@@ -5,8 +5,9 @@ use Rattle.cells.specs.Cells.{floor_cell}
 use Rattle.cells.specs.CellLaws.{floor_range}
 use Rattle.world.specs.Space.{space}
 use Rattle.heights.specs.Heights.{tops}
-use Rattle.heights.specs.Put.{taken, all_taken}
-use Rattle.heights.specs.Laws.{numbers}
+use Rattle.heights.specs.Put.{taken}
+use Rattle.heights.proofs.Put.{all_taken}
+use Rattle.heights.proofs.Laws.{numbers}
 use Rattle.heights.proofs.lowest.lowest_tops.Goals as goal
 
 pub column_lowest-requires : goal.column_lowest-requires

@@ -1,6 +1,6 @@
 -- `heights::lowest::place_of` meets its contract. Assumes nothing.
 use Rattle.std.proofs.Common.{arith, refl, sym, ◌∙◌}
-use Rattle.heights.specs.Put.{place_down, place_stays, place_first}
+use Rattle.heights.proofs.Put.{place_down, place_stays, place_first}
 use Rattle.heights.proofs.lowest.place_of.Goals as goal
 
 pub loop-place-init : goal.loop-place-init

@@ -1,7 +1,8 @@
 -- `heights::lowest::put_top` meets its contract. The loop's invariant: before `i` the room is as it will be, from there on as it was, and the top that belongs
 use Rattle.std.proofs.Common.{arith, ◌≡◌, refl, ap, ◌∙◌, List, lt-ltb, le-ltb, length, get_or, length-set, set, Float}
 use lib.Ieee.{nan}
-use Rattle.heights.specs.Put.{one_more, put_before, with_front, place_le, carry_begins, carried_first, carry_on, carried_on, no_fewer, no_more}
+use Rattle.heights.specs.Put.{one_more, put_before, with_front}
+use Rattle.heights.proofs.Put.{place_le, carry_begins, carried_first, carry_on, carried_on, no_fewer, no_more}
 use Rattle.heights.proofs.lowest.put_top.Goals as goal
 use Rattle.heights.proofs.lowest.put_top.Goals.{Joined-count-room, then-count-room, else-count-room}
 

@@ -4,7 +4,8 @@ use Rattle.world.specs.declared.Found.TheVariants.{Here}
 use Rattle.world.specs.Space.{box_here}
 use Rattle.world.specs.Laws.{box_room}
 use Rattle.heights.specs.Put.{taken}
-use Rattle.heights.specs.Laws.{run_fold, run_end, run_on, run_none}
+use Rattle.heights.specs.Laws.{run_fold}
+use Rattle.heights.proofs.Laws.{run_end, run_on, run_none}
 use Rattle.heights.proofs.lowest.run_lowest.Goals as goal
 use Rattle.heights.proofs.lowest.run_lowest.Goals.{In-Here}
 

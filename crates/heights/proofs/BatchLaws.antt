@@ -1,12 +1,8 @@
 -- A batch of a column's lowest tops gone through: each time the next of the heights, until there is none.
-use Prim.Native.Nat.{ℕ, zero, suc, ◌+◌, ◌-◌, ◌≤◌, ◌<◌}
-use native.Mathlib.Omega.{arith}
-use Rattle.std.proofs.Common.{◌∙◌, drop_of_length-le, drop-cons, get_or-take}
+use Rattle.std.proofs.Common.{ℕ, zero, suc, ◌+◌, ◌-◌, ◌≤◌, ◌<◌, arith, ◌∙◌, drop_of_length-le, drop-cons, get_or-take, List, [], ◌∷◌, ◌++◌, ltb-true, ltb-false, lt-ltb, le-ltb}
 use Rattle.std.specs.Prelude.{◌≡◌, Bool, not, ◌||◌, cond, get_or, take, drop}
 use Rattle.std.proofs.Math.Path.{refl, sym, ap, subst}
 use Rattle.std.proofs.Math.Bool.{true, false}
-use mathlib.Core.List.{List, [], ◌∷◌, ◌++◌}
-use borrow.Author.Tests.{ltb-true, ltb-false, lt-ltb, le-ltb}
 use Rattle.std.proofs.Math.Dec.{ltb}
 use Rattle.std.proofs.Math.ListN.{length, length-take}
 use Rattle.std.proofs.Math.Seq.{take-nil, take-append_seam}
@@ -20,8 +16,8 @@ use Rattle.heights.specs.declared.Height.TheVariants.{At, None}
 use Rattle.heights.specs.declared.batches.Batch.{Batch}
 use Rattle.heights.specs.Heights.{sorted, within, thinned, thinned_after, kept_after, first_of}
 use Rattle.heights.specs.Lowest.{beyond, beyonds, lowest, laid_over, first_from, batch_count, moved_on, height_at}
-use Rattle.heights.specs.Put.{length_laid}
-use Rattle.heights.specs.Next.{Numbers, Number, Least, Upward, upward_sorted, first_beyond, first_kept, number_first, within_self, kept_next}
+use Rattle.heights.proofs.Put.{length_laid}
+use Rattle.heights.proofs.Next.{Numbers, Number, Least, Upward, upward_sorted, first_beyond, first_kept, number_first, within_self, kept_next}
 
 -- ---- those further up are beyond it, too
 

@@ -1,8 +1,7 @@
 -- The heights one after the other: the next one is the first of the sorted tops that is not within E of the last kept.
 use Rattle.std.specs.Prelude.{ℕ, zero, suc, refl, Bool, true, false, not, cond, Float}
 use Rattle.std.proofs.Math.Path.{◌≡◌}
-use Rattle.std.proofs.Common.{sym, ◌∙◌, subst, arith}
-use mathlib.Core.List.{List, [], ◌∷◌, ◌++◌}
+use Rattle.std.proofs.Common.{sym, ◌∙◌, subst, arith, List, [], ◌∷◌, ◌++◌}
 use Rattle.std.specs.Float.Ieee.{le, is_nan}
 use Rattle.floats.specs.Order.{le_refl, le_trans, lt_le, not_le}
 use Rattle.regions.specs.Ranges.{gather}
