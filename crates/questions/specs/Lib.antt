@@ -1,3 +1,2 @@
--- What is judged before a question about a world is answered. What a reader must believe: Questions. What is proved of it: Laws.
+-- What is judged before a question about a world is answered. What a reader must believe: Questions. What is proved of it: proofs/Laws.
 pub mod Questions
-pub mod Laws
