@@ -11,8 +11,8 @@ use Rattle.std.specs.Float.Ieee.Scale.{finite}
 use Rattle.fields.specs.Little.{float_field}
 use Rattle.floats.specs.Floats.{nought, absolute, canonical}
 use Rattle.floats.specs.Zeros.{nil, by_zeros}
-use Rattle.root.specs.Method.{rootOf, answer}
-use Rattle.root.specs.Distance.{squareRoot, distance}
+use Rattle.root.specs.Method.{root_of, answer}
+use Rattle.root.specs.Distance.{square_root, distance}
 use Rattle.world.specs.Boxes.{minus}
 use Rattle.world.specs.Space.{point_at}
 use Rattle.lengths.specs.declared.Stop.{Stop}
@@ -64,9 +64,9 @@ sign_free_square nan = inr (unfold mul in refl)
 sign_free_square (inf s) = inl (square_not_negative (inf s) (unfold is_nan in refl))
 sign_free_square (fin s m e) = inl (square_not_negative (fin s m e) (unfold is_nan in refl))
 
-sign_free_root : (x : Float) → T (fits binary64 x) → SignFree x → SignFree (squareRoot x)
+sign_free_root : (x : Float) → T (fits binary64 x) → SignFree x → SignFree (square_root x)
 sign_free_root x h (inl n) = inl (root_not_negative h n)
-sign_free_root x h (inr e) = inr (rw e (unfold squareRoot in refl))
+sign_free_root x h (inr e) = inr (rw e (unfold square_root in refl))
 
 zero_is_nil : {x : Float} → Zero x → SignFree x → T (fits binary64 x) → x ≡ nil
 unfolding canonical fits
@@ -84,8 +84,8 @@ alike_is_same x y a p q f g = go (zero_or_same x y a)
 
 -- ---- one edge
 
-root_held : (x : Float) → T (fits binary64 x) → T (fits binary64 (squareRoot x))
-unfolding squareRoot answer rootOf
+root_held : (x : Float) → T (fits binary64 x) → T (fits binary64 (square_root x))
+unfolding square_root answer root_of
 root_held nan h = nan-fits binary64
 root_held (inf true) h = nan-fits binary64
 root_held (inf false) h = inf-fits binary64 false
@@ -93,12 +93,12 @@ root_held (fin s zero e) h = h
 root_held (fin true (suc m) e) h = nan-fits binary64
 root_held (fin false (suc m) e) h = of_bits-fits binary64 _
 
-root_canonical : (x : Float) → canonical (squareRoot (canonical x)) ≡ canonical (squareRoot x)
-unfolding squareRoot answer canonical
-root_canonical = by_zeros (λ v. canonical (squareRoot v)) (λ s e. refl)
+root_canonical : (x : Float) → canonical (square_root (canonical x)) ≡ canonical (square_root x)
+unfolding square_root answer canonical
+root_canonical = by_zeros (λ v. canonical (square_root v)) (λ s e. refl)
 
-root_alike : (x y : Float) → Alike x y → Alike (squareRoot x) (squareRoot y)
-root_alike x y e = sym (root_canonical x) ∙ ap (λ (v : Float). canonical (squareRoot v)) e ∙ root_canonical y
+root_alike : (x y : Float) → Alike x y → Alike (square_root x) (square_root y)
+root_alike x y e = sym (root_canonical x) ∙ ap (λ (v : Float). canonical (square_root v)) e ∙ root_canonical y
 
 module _ (from to : Stop) (held : T (fits binary64 from.feet.y)) (flat : Flat from to) where
   abbrev y : Float

@@ -6,7 +6,7 @@ use Rattle.world.specs.declared.Point.{Point}
 use Rattle.world.specs.declared.Body.{Body}
 use Rattle.world.specs.declared.Window.{Window}
 use Rattle.mob_request.specs.Asked.{request_of}
-use Rattle.search.specs.FindWalkPath.{found, nodes_after, front_after, indexAfter, out_after}
+use Rattle.search.specs.FindWalkPath.{found, nodes_after, front_after, index_after, out_after}
 use Rattle.outcomes.specs.declared.Path.{Path}
 use Rattle.outcomes.specs.declared.Path.TheVariants.{Searched, BadTable}
 
@@ -41,7 +41,7 @@ module _
 
     unfoldable pub index_after_path : (nodes front index out : List ℕ) → List ℕ
     index_after_path nodes front index out =
-        unless_bad flags perms (indexAfter w cells (permission_table p in_water flags perms) shapes boxes (request_of p start goal body) body nodes front index out) index
+        unless_bad flags perms (index_after w cells (permission_table p in_water flags perms) shapes boxes (request_of p start goal body) body nodes front index out) index
 
     unfoldable pub out_after_path : (nodes front index out : List ℕ) → List ℕ
     out_after_path nodes front index out =

@@ -8,7 +8,7 @@ use Rattle.world.specs.declared.Body.{Body}
 use Rattle.world.specs.declared.Request.{Request}
 use Rattle.world.specs.declared.Window.{Window}
 use Rattle.mob_request.specs.Asked.{request_of}
-use Rattle.search.specs.FindWalkPath.{found, nodes_after, front_after, indexAfter, out_after}
+use Rattle.search.specs.FindWalkPath.{found, nodes_after, front_after, index_after, out_after}
 use Rattle.outcomes.specs.declared.Answer.{Answer}
 use Rattle.outcomes.specs.declared.Path.TheVariants.{Searched, BadTable}
 use Rattle.outcomes.specs.Outcomes.{path_given}
@@ -44,7 +44,7 @@ module _ (p : WalkPolicy) (in_water : Bool) (flags : List ℕ) (w : Window) (cel
   pub searched : {table : List ℕ} {r : Request} {a : Answer} {b g y x : List ℕ} → eqb (length flags) (length perms) ≡ true
       → table ≡ permission_table p in_water flags perms → r ≡ request_of p start goal body
       → (a ≡ found w cells table shapes boxes r body (length nodes) (length front) (length index) (length out)) × ((b ≡ nodes_after w cells table shapes boxes r body nodes front index out)
-      × ((g ≡ front_after w cells table shapes boxes r body nodes front index out) × ((y ≡ indexAfter w cells table shapes boxes r body nodes front index out)
+      × ((g ≡ front_after w cells table shapes boxes r body nodes front index out) × ((y ≡ index_after w cells table shapes boxes r body nodes front index out)
       × (x ≡ out_after w cells table shapes boxes r body nodes front index out))))
       → (path_given (Searched a) ≡ path_given (path p in_water flags w cells perms shapes boxes start goal body (length nodes) (length front) (length index) (length out)))
       × ((table ≡ permission_table p in_water flags perms) × ((b ≡ nodes_after_path p in_water flags w cells perms shapes boxes start goal body nodes front index out)

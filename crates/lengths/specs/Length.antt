@@ -7,7 +7,7 @@ use Rattle.std.specs.Float.{binary64}
 use Rattle.std.specs.Float.Ieee.{add, sub, mul}
 use Rattle.fields.specs.Little.{float_field}
 use Rattle.floats.specs.Floats.{nought, absolute}
-use Rattle.root.specs.Distance.{squareRoot}
+use Rattle.root.specs.Distance.{square_root}
 use Rattle.world.specs.declared.Point.{Point}
 use Rattle.world.specs.Space.{point_at}
 use Rattle.lengths.specs.declared.Stop.{Stop}
@@ -18,7 +18,7 @@ use Rattle.lengths.specs.declared.Stop.{Stop}
 abbrev pub crossing_length : Point → Point → Float
 crossing_length from to =
     let dx = sub binary64 to.x from.x in
-    let dz = sub binary64 to.z from.z in squareRoot (add binary64 (mul binary64 dx dx) (mul binary64 dz dz))
+    let dz = sub binary64 to.z from.z in square_root (add binary64 (mul binary64 dx dx) (mul binary64 dz dz))
 
 -- "the size of to.y - (from.y + lift)": the way up or down from the raised height to the target
 abbrev pub settle_length : Point → Point → Float → Float

@@ -6,7 +6,7 @@ use Rattle.std.specs.Float.{nan, binary64}
 use Rattle.std.specs.Float.Ieee.{of_bits, to_bits, le, lt, eq, add, sub, neg}
 use Rattle.floats.specs.Floats.{larger}
 use Rattle.root.specs.Root.{Given, value, refusal, quanta}
-use Rattle.root.specs.Method.{answer, rootOf, isqrt}
+use Rattle.root.specs.Method.{answer, root_of, isqrt}
 use Rattle.heights.specs.Heights.{insert, sorted, within, thinned, thinned_after}
 use Rattle.support.specs.declared.Interval.{Interval}
 use Rattle.support.specs.Cover.{joins, enough, reach_one, round, rounds, covers}
@@ -102,5 +102,5 @@ all (r ∷ rs) = holds r && all rs
 
 -- The claim: every row of the table has its definition's answer.
 pub marked : T (all table)
-unfolding answer rootOf isqrt quanta insert sorted within thinned thinned_after covers rounds round reach_one joins enough larger door_case forbidden permission of_bits to_bits le lt eq add sub neg
+unfolding answer root_of isqrt quanta insert sorted within thinned thinned_after covers rounds round reach_one joins enough larger door_case forbidden permission of_bits to_bits le lt eq add sub neg
 marked = tt

@@ -3,7 +3,7 @@ use Rattle.std.specs.Prelude.{◌≡◌, List, ℕ, length, take}
 use Rattle.scene_state.specs.declared.state.Scene.{Scene}
 use Rattle.scene_state.specs.Answers.{given}
 use Rattle.outcomes.specs.declared.Answer as search
-use Rattle.search.specs.FindWalkPath.{found, nodes_after, front_after, indexAfter, out_after}
+use Rattle.search.specs.FindWalkPath.{found, nodes_after, front_after, index_after, out_after}
 use Rattle.print_lines.specs.declared.Told.{Told}
 use Rattle.print.specs.Print.{told_of, answered, nodes_of, front_of, index_of, out_of, told}
 
@@ -13,7 +13,7 @@ module _ (cells perms shapes boxes nodes front index out : List ℕ) (s : Scene)
       (a ≡ found s.window c p h b s.request s.body (length nodes) (length front) (length index) (length out)) ×
       ((nodes' ≡ nodes_after s.window c p h b s.request s.body nodes front index out) ×
       ((front' ≡ front_after s.window c p h b s.request s.body nodes front index out) ×
-      ((index' ≡ indexAfter s.window c p h b s.request s.body nodes front index out) × (out' ≡ out_after s.window c p h b s.request s.body nodes front index out)))) →
+      ((index' ≡ index_after s.window c p h b s.request s.body nodes front index out) × (out' ≡ out_after s.window c p h b s.request s.body nodes front index out)))) →
       t ≡ told_of a out' →
       (t ≡ told cells perms shapes boxes (given s) nodes front index out) ×
       ((nodes' ≡ nodes_of cells perms shapes boxes (given s) nodes front index out) ×

@@ -8,7 +8,7 @@ use Rattle.scene_state.specs.declared.state.Scene.{Scene}
 use Rattle.scene_state.specs.Answers.{Answer, given, refused}
 use Rattle.outcomes.specs.declared.Answer as search
 use Rattle.outcomes.specs.Outcomes.{outcome_number}
-use Rattle.search.specs.FindWalkPath.{found, nodes_after, front_after, indexAfter, out_after}
+use Rattle.search.specs.FindWalkPath.{found, nodes_after, front_after, index_after, out_after}
 use Rattle.lengths.specs.Length.{length_of}
 use Rattle.print_lines.specs.declared.Told.{Told}
 
@@ -48,7 +48,7 @@ module _ (cells perms shapes boxes : List ℕ) where
 
   unfoldable pub index_of : Answer Scene → (nodes front index out : List ℕ) → List ℕ
   index_of (refused n k) nodes front index out = index
-  index_of (given s) nodes front index out = asked indexAfter s nodes front index out
+  index_of (given s) nodes front index out = asked index_after s nodes front index out
 
   unfoldable pub out_of : Answer Scene → (nodes front index out : List ℕ) → List ℕ
   out_of (refused n k) nodes front index out = out

@@ -13,10 +13,10 @@ use lib.Ieee.Fits.{kept-lt}
 use lib.Ieee.Bits.{of_bits-to_bits, nan_bits_above}
 use lib.Ieee.Positive.{positive}
 use Rattle.root.specs.Root.{quanta}
-use Rattle.root.specs.Method.{Whole, Scaled, widened, pattern, rootOf}
-use Rattle.root.specs.Quanta.{bits-by-size, size-lt}
-use Rattle.root.specs.Near.{one-or-two}
-use Rattle.root.specs.Laws.{only-root, right-at, rootOf-right}
+use Rattle.root.specs.Method.{Whole, Scaled, widened, pattern, root_of}
+use Rattle.root.specs.Quanta.{bits_by_size, size-lt}
+use Rattle.root.specs.Near.{one_or_two}
+use Rattle.root.specs.Laws.{only_root, right_at, root_of_right}
 
 -- ---- the pattern of x
 
@@ -35,7 +35,7 @@ bits_lt (fin false m e) t p =
     let k = size n - 53 in
     let s : size n ≤ 2098 = size-le n 2098 (size-lt (fin false m e) t p) in
     let q : n / 2 ^ k < 2 ^ 53 = kept-lt 53 n in
-    subst (λ (x : ℕ). x < 2047 * 2 ^ 52) (sym (bits-by-size m e)) (omega arith)
+    subst (λ (x : ℕ). x < 2047 * 2 ^ 52) (sym (bits_by_size m e)) (omega arith)
 
 zero_not_positive : T (positive (of_bits binary64 0)) → ⊥
 unfolding of_bits
@@ -51,7 +51,7 @@ bits_pos x t p = go (to_bits binary64 x) refl
 -- ---- the root's digits
 
 pub evened : (m e : ℕ) → m < 2 ^ 53 → (m * 2 ^ (e % 2) % 2 ^ 64 ≡ m * 2 ^ (e % 2)) × (m * 2 ^ (e % 2) < 2 ^ 54)
-evened m e h = let l = width (2 ^ (e % 2)) (one-or-two (e % 2) (mod-lt e (zero-lt-suc 1))) in (mod-eq_of_lt (lt_of_lt_of_le l (lit≤ tt)), l)
+evened m e h = let l = width (2 ^ (e % 2)) (one_or_two (e % 2) (mod-lt e (zero-lt-suc 1))) in (mod-eq_of_lt (lt_of_lt_of_le l (lit≤ tt)), l)
   where
     width : (p : ℕ) → (p ≡ 1) ⊎ (p ≡ 2) → m * p < 2 ^ 54
     width p (inl e) = let x : m * p ≡ m * 1 = ap (λ (y : ℕ). m * y) e in omega arith
@@ -63,5 +63,5 @@ evened_whole m e r h w = subst (λ (x : ℕ). Whole (x * 2 ^ 54) r) (evened m e 
 pub no_nan_bits : (b : ℕ) → b < 2047 * 2 ^ 52 → T (not (nan_bits binary64 b))
 no_nan_bits b h = subst (λ (t : Bool). T (not t)) (sym (nan_bits_above binary64 b)) (le→nltb (2047 * 2 ^ 52) (b % 2 ^ 63) (omega arith))
 
-pub right_root : (x : Float) (m e r : ℕ) → T (fits binary64 x) → T (positive x) → Scaled x m e → Whole (m * 2 ^ (e % 2) % 2 ^ 64 * 2 ^ 54) r → of_bits binary64 (pattern e r) ≡ rootOf x
-right_root x m e r t p s w = only-root x (of_bits binary64 (pattern e r)) (rootOf x) (right-at x m e r s (evened_whole m e r s.small w)) (rootOf-right x t p)
+pub right_root : (x : Float) (m e r : ℕ) → T (fits binary64 x) → T (positive x) → Scaled x m e → Whole (m * 2 ^ (e % 2) % 2 ^ 64 * 2 ^ 54) r → of_bits binary64 (pattern e r) ≡ root_of x
+right_root x m e r t p s w = only_root x (of_bits binary64 (pattern e r)) (root_of x) (right_at x m e r s (evened_whole m e r s.small w)) (root_of_right x t p)

@@ -11,7 +11,7 @@ ghost use Rattle.std.specs.Prelude.{◌≡◌, ◌*◌, ◌^◌, ◌<◌, T};
 ghost use Rattle.std.specs.Float.{binary64};
 ghost use Rattle.std.specs.Float.Ieee.{of_bits};
 ghost use Rattle.std.specs.Float.Ieee.Positive.{positive};
-ghost use Rattle.root.specs.Method.{Scaled, rootOf};
+ghost use Rattle.root.specs.Method.{Scaled, root_of};
 
 use crate::whole;
 
@@ -28,7 +28,7 @@ struct Parts {
 // The nearest f64 to the root of an x above 0.
 pub(crate) fn nearest_root(x: f64) -> f64
     requires { T (positive x) }
-    ensures { result ≡ rootOf x }
+    ensures { result ≡ root_of x }
 {
     let b = f64::to_bits(x);
     let s = scaled(b);

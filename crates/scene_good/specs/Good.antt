@@ -237,7 +237,7 @@ sound_world r t s k =
     let b : length (take (48 * r.counts.boxes) t.boxes) ≡ 48 * r.counts.boxes = length-take-le (48 * r.counts.boxes) t.boxes (omega (arith, s.boxes.room, s.boxes.few)) in
     record {
       sizes = (s.window k).0;
-      eight_aCell = c ∙ ap (λ (n : ℕ). 8 * n) (s.window k).1;
+      eight_a_cell = c ∙ ap (λ (n : ℕ). 8 * n) (s.window k).1;
       whole_shapes = rw p (omega arith);
       whole_boxes = rw b (omega arith);
       counts = λ i h.

@@ -80,8 +80,8 @@ module _ (w : Window) (cells perms shapes boxes : List ℕ) (r : Request) (body 
   front_after nodes front index out = zero_by (before_search_in nodes front index out) front
 
   -- 02, No. 7: "The index room is zero after a search and untouched by one that never began."
-  unfoldable pub indexAfter : (nodes front index out : List ℕ) → List ℕ
-  indexAfter nodes front index out = zero_by (before_search_in nodes front index out) index
+  unfoldable pub index_after : (nodes front index out : List ℕ) → List ℕ
+  index_after nodes front index out = zero_by (before_search_in nodes front index out) index
 
   unfoldable pub out_after : (nodes front index out : List ℕ) → List ℕ
   out_after nodes front index out = out_by (before_search_in nodes front index out) out

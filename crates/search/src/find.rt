@@ -1,7 +1,7 @@
 // The public call (01, "Numbers given back": "Search order"): the start, as many expansions as the budget, the list, and the frontier and index rooms all zero.
 ghost use Rattle.std.specs.Prelude.{◌≡◌, length};
 ghost use Rattle.outcomes.specs.Outcomes.{answer_given};
-ghost use Rattle.search.specs.FindWalkPath.{found, nodes_after, front_after, indexAfter, out_after};
+ghost use Rattle.search.specs.FindWalkPath.{found, nodes_after, front_after, index_after, out_after};
 
 use crate::Task;
 use crate::turns::spin;
@@ -28,7 +28,7 @@ pub fn find_walk_path(
     ensures result_value { answer_given result ≡ answer_given (found w cells.now perms.now shapes.now boxes.now r body (length nodes.old) (length front.old) (length index.old) (length out.old)) }
     ensures nodes_after { nodes.new ≡ nodes_after w cells.now perms.now shapes.now boxes.now r body nodes.old front.old index.old out.old }
     ensures front_after { front.new ≡ front_after w cells.now perms.now shapes.now boxes.now r body nodes.old front.old index.old out.old }
-    ensures index_after { index.new ≡ indexAfter w cells.now perms.now shapes.now boxes.now r body nodes.old front.old index.old out.old }
+    ensures index_after { index.new ≡ index_after w cells.now perms.now shapes.now boxes.now r body nodes.old front.old index.old out.old }
     ensures out_after { out.new ≡ out_after w cells.now perms.now shapes.now boxes.now r body nodes.old front.old index.old out.old }
 {
     let judged = refusals::judge(

@@ -12,7 +12,7 @@ use Rattle.tables.specs.Laws.{none_is, is_none}
 
 pub record GoodWorld (w : Window) (cells shapes boxes : List ℕ) : Type 0 where
   pub sizes : Sizes w
-  pub eight_aCell : length cells ≡ cell_bytes w
+  pub eight_a_cell : length cells ≡ cell_bytes w
   pub whole_shapes : length shapes % 8 ≡ 0
   pub whole_boxes : length boxes % 48 ≡ 0
   pub counts : (i : ℕ) → i < records 8 shapes → count_of shapes i ≤ 16
@@ -38,7 +38,7 @@ module _ (w : Window) (cells shapes boxes : List ℕ) where
     le-ltb 256 w.sx g.sizes.sx,
     le-ltb 256 w.sy g.sizes.sy,
     le-ltb 256 w.sz g.sizes.sz,
-    eq-eqb (length cells) (cell_bytes w) g.eight_aCell,
+    eq-eqb (length cells) (cell_bytes w) g.eight_a_cell,
     eq-eqb (length shapes % 8) 0 g.whole_shapes,
     eq-eqb (length boxes % 48) 0 g.whole_boxes,
     none_is (count_above shapes) (records 8 shapes) (λ i h. le-ltb 16 (count_of shapes i) (g.counts i h)),
@@ -54,7 +54,7 @@ module _ (w : Window) (cells shapes boxes : List ℕ) where
       (some (count_above shapes) (records 8 shapes)) (some (run_past shapes (records 48 boxes)) (records 8 shapes)) (some (off_rule boxes) (records 48 boxes)) e in
       record {
         sizes = sizes_of w t.0;
-        eight_aCell = eqb-true (length cells) (cell_bytes w) (not-false _ t.1);
+        eight_a_cell = eqb-true (length cells) (cell_bytes w) (not-false _ t.1);
         whole_shapes = eqb-true (length shapes % 8) 0 (not-false _ t.2);
         whole_boxes = eqb-true (length boxes % 48) 0 (not-false _ t.3);
         counts = λ i h. ltb-false 16 (count_of shapes i) (is_none (count_above shapes) (records 8 shapes) t.4 i h);

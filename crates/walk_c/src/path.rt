@@ -1,7 +1,7 @@
 // The search (01, "Numbers given back": "Search order").
 ghost use Rattle.std.specs.Prelude.{◌≡◌, length};
 ghost use Rattle.outcomes.specs.Outcomes.{outcome_number};
-ghost use Rattle.search.specs.FindWalkPath.{found, nodes_after, front_after, indexAfter, out_after};
+ghost use Rattle.search.specs.FindWalkPath.{found, nodes_after, front_after, index_after, out_after};
 ghost use Rattle.c_records.specs.Records.{window_in, body_in};
 ghost use Rattle.c_records.specs.Asked.{asked};
 ghost use Rattle.c_answers.specs.Answers.{answer_written};
@@ -30,7 +30,7 @@ pub extern "C" fn walkprint_find_walk_path(
     ensures answer { answer.new ≡ answer_written (found (window_in window.now) cells.now permissions.now shapes.now boxes.now (asked window.now request.now body.now) (body_in body.now) (length nodes.old) (length front.old) (length index.old) (length out.old)) answer.old }
     ensures nodes { nodes.new ≡ nodes_after (window_in window.now) cells.now permissions.now shapes.now boxes.now (asked window.now request.now body.now) (body_in body.now) nodes.old front.old index.old out.old }
     ensures front { front.new ≡ front_after (window_in window.now) cells.now permissions.now shapes.now boxes.now (asked window.now request.now body.now) (body_in body.now) nodes.old front.old index.old out.old }
-    ensures index { index.new ≡ indexAfter (window_in window.now) cells.now permissions.now shapes.now boxes.now (asked window.now request.now body.now) (body_in body.now) nodes.old front.old index.old out.old }
+    ensures index { index.new ≡ index_after (window_in window.now) cells.now permissions.now shapes.now boxes.now (asked window.now request.now body.now) (body_in body.now) nodes.old front.old index.old out.old }
     ensures out { out.new ≡ out_after (window_in window.now) cells.now permissions.now shapes.now boxes.now (asked window.now request.now body.now) (body_in body.now) nodes.old front.old index.old out.old }
 {
     let q = question_in(window, request, body);

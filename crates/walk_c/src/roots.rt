@@ -1,6 +1,6 @@
 // The square root (01, Numbers): the one that refuses, and the one that answers every number, as the search uses it.
 ghost use Rattle.std.specs.Prelude.{◌≡◌};
-ghost use Rattle.root.specs.Distance.{squareRoot};
+ghost use Rattle.root.specs.Distance.{square_root};
 ghost use Rattle.root.specs.Method.{answer};
 ghost use Rattle.walk_c.specs.Answers.{root_number, root_written};
 
@@ -24,7 +24,7 @@ pub extern "C" fn walkprint_root(x: f64, root: &mut [u8]) -> u64
 // The root, or NaN where there is none; the infinity's is itself.
 #[unsafe(no_mangle)]
 pub extern "C" fn walkprint_square_root(x: f64) -> f64
-    ensures { result ≡ squareRoot x }
+    ensures { result ≡ square_root x }
 {
     root::square_root(x)
 }

@@ -20,7 +20,7 @@ use Rattle.floats.specs.Floats.{nought, absolute}
 use Rattle.floats.specs.Order.{false_true, le_fin, le_right, not_lt, le_not_lt}
 use Rattle.root.specs.Root.{quanta, IsRoot}
 use Rattle.root.specs.Method.{answer}
-use Rattle.root.specs.Distance.{squareRoot, distance}
+use Rattle.root.specs.Distance.{square_root, distance}
 use Rattle.root.specs.Laws.{square_root_right}
 use Rattle.root.specs.Quanta.{quanta_exact}
 use Rattle.claims.specs.Laws.NotNegative.{NotNegative, endless, sized, of_rounding, sum_not_negative, square_not_negative}
@@ -305,10 +305,10 @@ by_root x (fin false k j) v h =
         le_of_mul-le-mul_right
         (subst (λ (z : ℕ). z ≤ 17179869184 * down j * q) (sym e) (subst (λ (z : ℕ). r * down j ≤ z) (mul_right_comm 17179869184 q (down j)) (mul-le-mul_right (down j) l))) p
 
-root_up_to : {x : Float} → T (fits binary64 x) → NotNegative x → UpTo 295147905179352825856 x → UpTo 17179869184 (squareRoot x)
-root_up_to t (sized zero e) u = unfold squareRoot answer in of_size false zero e (omega (arith, zero-mul (up e)))
+root_up_to : {x : Float} → T (fits binary64 x) → NotNegative x → UpTo 295147905179352825856 x → UpTo 17179869184 (square_root x)
+root_up_to t (sized zero e) u = unfold square_root answer in of_size false zero e (omega (arith, zero-mul (up e)))
 root_up_to t (sized (suc m) e) (of_size s n d h) =
-    by_root (fin false (suc m) e) (squareRoot (fin false (suc m) e)) (square_root_right (fin false (suc m) e) t (lt→ltb 0 (suc m) (zero-lt-suc m)))
+    by_root (fin false (suc m) e) (square_root (fin false (suc m) e)) (square_root_right (fin false (suc m) e) t (lt→ltb 0 (suc m) (zero-lt-suc m)))
     (unfold quanta in few_quanta 295147905179352825856 (2 ^ 1074) (suc m) e h)
 
 -- how far apart two points are, of whose coordinates each pair differs by at most 2 ^ 33: three squares of 2 ^ 66, whose root is below 2 ^ 34

@@ -9,7 +9,7 @@ use Rattle.std.specs.Float.Ieee.Fits.{round_is, add-fits}
 use Rattle.std.specs.Float.Ieee.Positive.{positive}
 use Rattle.std.specs.Float.Ieee.Scale.{finite}
 use Rattle.root.specs.Method.{answer}
-use Rattle.root.specs.Distance.{squareRoot, distance}
+use Rattle.root.specs.Distance.{square_root, distance}
 use Rattle.root.specs.Laws.{square_root_right}
 use Rattle.floats.specs.Floats.{canonical}
 use Rattle.arrival.specs.Alike.{Zero}
@@ -120,8 +120,8 @@ positive_not_negative (inf s) p = absurd p
 positive_not_negative (fin true m e) p = absurd p
 positive_not_negative (fin false m e) p = sized m e
 
-pub root_not_negative : {x : Float} → T (fits binary64 x) → NotNegative x → NotNegative (squareRoot x)
-unfolding squareRoot answer
+pub root_not_negative : {x : Float} → T (fits binary64 x) → NotNegative x → NotNegative (square_root x)
+unfolding square_root answer
 root_not_negative t endless = endless
 root_not_negative t (sized zero e) = sized zero e
 root_not_negative t (sized (suc m) e) = positive_not_negative _ (square_root_right (fin false (suc m) e) t (lt→ltb 0 (suc m) (zero-lt-suc m))).above_zero

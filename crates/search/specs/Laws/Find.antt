@@ -8,7 +8,7 @@ use Rattle.world.specs.declared.Window.{Window}
 use Rattle.outcomes.specs.declared.Outcome.{Outcome}
 use Rattle.outcomes.specs.declared.Answer.{Answer}
 use Rattle.outcomes.specs.Outcomes.{answer_given}
-use Rattle.search.specs.FindWalkPath.{answer_by, before_search, nodes_by, zero_by, out_by, found, nodes_after, front_after, indexAfter, out_after}
+use Rattle.search.specs.FindWalkPath.{answer_by, before_search, nodes_by, zero_by, out_by, found, nodes_after, front_after, index_after, out_after}
 
 module _ (w : Window) (cells perms shapes boxes : List ℕ) (r : Request) (body : Body) (nodes front index out : List ℕ) {a : Answer} {b g y x : List ℕ} where
   pub leaves : (way : Option Outcome) → way ≡ before_search w cells perms shapes boxes r body (length nodes) (length front) (length index) (length out) →
@@ -17,7 +17,7 @@ module _ (w : Window) (cells perms shapes boxes : List ℕ) (r : Request) (body 
       (answer_given a ≡ answer_given (found w cells perms shapes boxes r body (length nodes) (length front) (length index) (length out))) ×
       ((b ≡ nodes_after w cells perms shapes boxes r body nodes front index out) ×
       ((g ≡ front_after w cells perms shapes boxes r body nodes front index out) ×
-      ((y ≡ indexAfter w cells perms shapes boxes r body nodes front index out) ×
+      ((y ≡ index_after w cells perms shapes boxes r body nodes front index out) ×
       (x ≡ out_after w cells perms shapes boxes r body nodes front index out))))
-  unfolding found nodes_after front_after indexAfter out_after
+  unfolding found nodes_after front_after index_after out_after
   leaves way e i j l k m = rw (sym e) (ap answer_given i, (j, (k, (m, l))))

@@ -1,4 +1,4 @@
--- `root::nearest::nearest_root` meets its contract: the pattern that it makes is a root by `right-at` of the laws, and there is one root only. Assumes nothing.
+-- `root::nearest::nearest_root` meets its contract: the pattern that it makes is a root by `right_at` of the laws, and there is one root only. Assumes nothing.
 use native.Mathlib.Omega.{arith}
 use mathlib.Core.Path.{sym, subst}
 use Prim.Native.Nat.{ℕ, ◌+◌, ◌^◌, ◌<◌, ◌≤◌}
