@@ -1,3 +1,2 @@
 -- The way of an edge. What a reader must believe: Ways. What the code goes by: Laws.
 pub mod Ways
-pub mod Laws
