@@ -4,7 +4,7 @@ use Rattle.std.proofs.Common.{sym, ap, subst, ◌∙◌, ⊎_elim, arith, eq-eqb
 use Rattle.std.proofs.Math.Nat.{pow-le-pow_right}
 use Rattle.std.proofs.lemmas.Bool.{lt-leb, not-false}
 use Rattle.exploration.proofs.Laws.Lists.{true_false, and_first, and_second, or_cases, or_left, or_right}
-use Rattle.rooms.specs.Laws.Lists.{in_or_out}
+use Rattle.rooms.proofs.Laws.Lists.{in_or_out}
 use Rattle.index.specs.Size.{power_below, is_power, wrong_size}
 
 -- ---- powers of two

@@ -1,21 +1,20 @@
 -- A lookup by an index of nodes answers as the scan does (02, No. 7: "It is proved that each lookup answers as the scan does"); nodes that are entered keep it
 -- an index of nodes; and it is one as long as the nodes' points stay. A room all zero is the index of no nodes.
 use Rattle.std.specs.Prelude.{◌≡◌, ℕ, zero, suc, ◌+◌, ◌-◌, ◌*◌, ◌/◌, ◌%◌, ◌^◌, ◌<◌, ◌≤◌, Bool, true, false, cond, ◌&&◌, ◌||◌, ltb, List, length, replicate, ◌==◌, ◌≢◌, nat_lt, refl}
-use Rattle.std.proofs.Common.{sym, ap, ◌∙◌, subst, lt-ltb, le-ltb, ltb-true, ltb-false, eqb-true, ne_eqb}
+use Rattle.std.proofs.Common.{sym, ap, ◌∙◌, subst, lt-ltb, le-ltb, ltb-true, ltb-false, eqb-true, ne_eqb, arith}
 use Rattle.std.proofs.Math.Logic.{inl, inr, ⊎_elim}
-use native.Mathlib.Omega.{arith}
 use Rattle.std.proofs.Math.Nat.{mod-eq_of_lt}
 use Rattle.std.proofs.lemmas.Bool.{eqb-false}
 use Rattle.exploration.proofs.Laws.Lists.{true_false, and_first, and_second}
-use Rattle.fields.specs.Laws.{field_zeros, length_with, read_back, read_other}
+use Rattle.fields.proofs.Laws.{field_zeros, length_with, read_back, read_other}
 use Rattle.rooms.specs.declared.Feet.{Feet}
 use Rattle.rooms.specs.Waypoints.{canonical_word, same_word, same_point}
 use Rattle.rooms.specs.Records.{node_at}
 use Rattle.rooms.specs.Scans.{first_of, is_at, first_at}
-use Rattle.rooms.specs.Laws.Scans.{First, first_is}
-use Rattle.rooms.specs.Laws.Lists.{in_or_out}
+use Rattle.rooms.proofs.Laws.Scans.{First, first_is}
+use Rattle.rooms.proofs.Laws.Lists.{in_or_out}
 use Rattle.index.specs.Index.{home, slots, slot_at, next_slot, probe_from, probed, looked_up, free_from, free_for, entered, extend_by, extended}
-use Rattle.index.specs.Turns.{probe_stops, probe_finds, probe_goes_on}
+use Rattle.index.proofs.Turns.{probe_stops, probe_finds, probe_goes_on}
 use Rattle.index.specs.Indexed.{Leads, here, on, Indexed}
 
 -- ---- same points have one own slot
