@@ -8,8 +8,8 @@ use Rattle.fields.specs.Little.{field}
 use Rattle.rooms.specs.declared.Entry.{Entry}
 use Rattle.rooms.specs.Records.{entry_at}
 use Rattle.rooms.specs.Scans.{first_of, waits}
-use Rattle.rooms.specs.Laws.Scans.{First, first_is}
-use Rattle.rooms.specs.Laws.Lists.{in_or_out}
+use Rattle.rooms.proofs.Laws.Scans.{First, first_is}
+use Rattle.rooms.proofs.Laws.Lists.{in_or_out}
 use Rattle.scans.specs.Laws.{Idle, idle_none, idle_more, first_past}
 use Rattle.chains.specs.Chains.{each_below, good_chains}
 use Rattle.chains.specs.Laws.{each_all, each_at, each_not}

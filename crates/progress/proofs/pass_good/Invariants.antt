@@ -1,0 +1,11 @@
+-- `progress::pass_good` meets its contract. The loop's invariant: the nodes before `k` are good. Assumes nothing.
+use Rattle.std.proofs.Common.{◌≤◌, ◌-◌, ◌≡◌, true}
+use Rattle.chains.specs.Chains.{each_below}
+use Rattle.progress.specs.Progress.{good_node}
+use Rattle.progress.proofs.pass_good.Given as goal
+
+abbrev pub invariant-loop-k : goal.invariant-loop-k
+invariant-loop-k l = (l.k ≤ l.n) × (each_below (good_node l.r l.nodes l.front) l.k ≡ true)
+
+abbrev pub decreases-loop-k : goal.decreases-loop-k
+decreases-loop-k l = l.n - l.k
