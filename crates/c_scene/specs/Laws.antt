@@ -4,7 +4,7 @@ use Rattle.std.proofs.Common.{arith, ap, ◌∙◌, of_z}
 use Rattle.std.proofs.Math.Path.{refl}
 use mir.Syntax.{w32}
 use Rattle.fields.specs.Records.{with_fields, with_words}
-use Rattle.fields.specs.RecordLaws.{halves, record_same, length_record}
+use Rattle.fields.proofs.RecordLaws.{halves, record_same, length_record}
 use Rattle.scene_state.specs.declared.state.Scene.{Scene}
 use Rattle.c_scene.specs.Scenes.{request_fields, body_fields, in_use_fields, scene_layout, scene_fields, with_scene}
 
