@@ -1,4 +1,2 @@
--- Whether a search begins. What a reader must believe: Refusals. What is proved of it: Laws, Unique.
+-- Whether a search begins. What a reader must believe: Refusals. What is proved of it, in proofs/: Laws, Unique.
 pub mod Refusals
-pub mod Laws
-pub mod Unique

@@ -1,11 +1,12 @@
 -- The ways out of `judge_call` and `judge`, and what a call that passed them may rely on.
 use Rattle.std.specs.Prelude.{◌≡◌, Bool, not, ◌||◌, List, ℕ, ◌+◌, ◌*◌, ◌/◌, ◌≤◌, ◌<◌, eqb, leb}
 use Rattle.std.proofs.Math.Path.{refl}
-use Rattle.std.proofs.Common.{sym, ap, ◌∙◌, mul_comm, div-lt_iff_lt-mul, le-div_iff_mul-le, arith}
+use Rattle.std.proofs.Common.{sym, ap, ◌∙◌, mul_comm, div-lt_iff_lt-mul, le-div_iff_mul-le, arith, ltb-true, ltb-false, lt-ltb, le-ltb, le-leb}
+use Rattle.std.proofs.lemmas.Bool.{lt-leb}
 use Rattle.std.proofs.Math.Bool.{true, false, cond}
 use Rattle.std.proofs.Math.Option.{Option, none, some}
 use Rattle.std.proofs.Math.Dec.{ltb}
-use borrow.Author.Tests.{not-false, eqb-false, ltb-true, ltb-false, lt-ltb, le-ltb, le-leb, lt-leb}
+use borrow.Author.Tests.{not-false, eqb-false}
 use Rattle.exploration.proofs.Laws.Lists.{none_some, or-false}
 use Rattle.world.specs.declared.Body.{Body}
 use Rattle.world.specs.declared.Request.{Request}

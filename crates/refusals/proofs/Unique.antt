@@ -5,7 +5,7 @@ use Rattle.std.proofs.Math.Option.{Option, none, some}
 use Rattle.exploration.proofs.Laws.Lists.{none_some}
 use Rattle.outcomes.specs.declared.Outcome.{Outcome}
 use Rattle.outcomes.specs.Outcomes.{outcome_number}
-use Rattle.outcomes.specs.Unique.{one_outcome}
+use Rattle.outcomes.proofs.Unique.{one_outcome}
 use Rattle.refusals.specs.declared.Judged.{Judged}
 use Rattle.refusals.specs.declared.Judged.TheVariants.{Refused, Begins}
 use Rattle.refusals.specs.Refusals.{number_if, judged_number}
