@@ -9,8 +9,8 @@ use mathlib.Core.List.{List, [], ◌∷◌, foldl}
 use borrow.Author.Tests.{leb-true, ltb-true, ltb-false, eqb-true, eqb-false}
 use Rattle.std.proofs.Math.Dec.{eqb}
 use Rattle.fields.specs.Little.{field, float_field}
-use Rattle.fields.specs.Laws.{length_with, read_back, read_other}
-use Rattle.fields.specs.Pieces.{Bytes, field_take}
+use Rattle.fields.proofs.Laws.{length_with, read_back, read_other}
+use Rattle.fields.proofs.Pieces.{Bytes, field_take}
 use Rattle.regions.specs.declared.Spot.{Spot}
 use Rattle.regions.specs.Regions.{cells_of}
 use Rattle.world.specs.declared.Window.{Window}
@@ -18,12 +18,14 @@ use Rattle.world.specs.Space.{first_of, count_of, box_at}
 use Rattle.world.specs.Sizes.{size_above, Sizes, sizes_of}
 use Rattle.tables.specs.BadWorld.{box_rule, records, bad_world}
 use Rattle.tables.specs.Good.{GoodWorld, good_is_not_bad}
-use Rattle.scene_good.specs.Sums.{counts_before, Summed, none_before, one_more, same_sum, empty_sum, run_within}
+use Rattle.scene_good.specs.Sums.{counts_before, Summed}
+use Rattle.scene_good.specs.AllBytes.{AllBytes}
+use Rattle.scene_good.proofs.SumLaws.{none_before, one_more, same_sum, empty_sum, run_within}
 use Rattle.scene_rules.specs.declared.Counts.{Counts}
 use Rattle.scene_records.specs.Layout.{kind_of, number_of, window_of, volume, cell_count, box_of}
 use Rattle.scene_tables.specs.Made.{in_turn, with_entry, unfilled, empty_shapes, with_shape, with_box}
 use Rattle.scene_fills.specs.Fills.{region_of, record_at, with_cell, filled}
-use Rattle.scene_good.specs.Turns.{entry_length, turn_length, run_first, run_second, out_first, out_second, box_length, box_number_lem, box_away}
+use Rattle.scene_good.proofs.Turns.{entry_length, turn_length, run_first, run_second, out_first, out_second, box_length, box_number_lem, box_away}
 use Rattle.scene_state.specs.declared.state.Reading.{Reading}
 use Rattle.scene_state.specs.declared.state.Scene.{Scene}
 use Rattle.scene_state.specs.State.{empty, in_use}
@@ -364,10 +366,6 @@ module _ (r : Reading) (t : Tables) (s : List ℕ) (b : Bytes s) (h : Sound r t)
   sound_more = rw g (record { cells = rw cells_length h.cells; shapes = shapes_on; boxes = boxes_on; window = window_on })
 
 -- ---- a whole scene
-
-abbrev pub AllBytes : List (List ℕ) → Type 0
-AllBytes [] = Unit {0}
-AllBytes (s ∷ ss) = Bytes s × AllBytes ss
 
 -- the tables that a read scene leaves are what good records make, up to the window at least
 abbrev scene_of : Reading → Scene

@@ -8,8 +8,8 @@ use Rattle.std.proofs.Math.Logic.{inl, inr, ⊎_elim}
 use borrow.Author.Tests.{ltb-true, ltb-false, eqb-true, eqb-false}
 use Rattle.std.proofs.Math.Dec.{eqb}
 use Rattle.fields.specs.Little.{field, with_field}
-use Rattle.fields.specs.Laws.{length_with, read_back, read_other}
-use Rattle.fields.specs.Pieces.{Bytes, field_below}
+use Rattle.fields.proofs.Laws.{length_with, read_back, read_other}
+use Rattle.fields.proofs.Pieces.{Bytes, field_below}
 use Rattle.scene_tables.specs.Made.{in_turn, with_entry, box_number, with_box}
 
 apart : (i j : ℕ) → (i ≡ j → ⊥) → (i < j) ⊎ (j < i)
