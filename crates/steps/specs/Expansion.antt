@@ -15,8 +15,8 @@ use Rattle.heights.specs.declared.Band.{Band}
 use Rattle.heights.specs.declared.Height.{Height}
 use Rattle.heights.specs.declared.Height.TheVariants.{At, None}
 use Rattle.heights.specs.Heights.{tops, sorted, heights, kept_after, next_after}
-use Rattle.heights.specs.Next.{kept_next, kept_end}
-use Rattle.heights.specs.Laws.{numbers}
+use Rattle.heights.proofs.Next.{kept_next, kept_end}
+use Rattle.heights.proofs.Laws.{numbers}
 use Rattle.moves.specs.declared.answer.Waypoint.{Waypoint}
 use Rattle.edges.specs.Edges.{edge}
 use Rattle.sides.specs.declared.Sides.{Sides}
