@@ -1,10 +1,9 @@
 -- No box top of a world is -0.0, whatever its tables hold, because a cell's position is never -0.0. So tops that are equal as numbers are one float, and it is
 -- all one whether they are sorted by number or by the total order of floats.
-use Prim.Native.Nat.{ℕ, zero, suc, ◌+◌, ◌*◌}
+use Rattle.std.proofs.Common.{ℕ, zero, suc, ◌+◌, ◌*◌, sym, ap, ◌∙◌, arith, List, [], ◌∷◌, ◌++◌, map}
 use Rattle.std.specs.Prelude.{◌≡◌, refl, Bool, cond, T, ℤ, drop, Float}
-use Rattle.std.proofs.Common.{sym, ap, ◌∙◌, arith}
 use Rattle.std.proofs.Math.Bool.{true, false}
-use mathlib.Core.List.{List, [], ◌∷◌, ◌++◌, map, Memᴰ}
+use mathlib.Core.List.{Memᴰ}
 use Rattle.std.specs.Float.{nan, inf, fin, binary64}
 use Rattle.std.specs.Float.Ieee.{fits, eq, of_int}
 use Rattle.std.specs.Float.Ieee.Bits.{of_bits-fits}
@@ -22,7 +21,8 @@ use Rattle.world.specs.Space.{Space, Block, box_at, box_here, ahead, run, block_
 use Rattle.heights.specs.declared.Band.{Band}
 use Rattle.heights.specs.Heights.{reaches, tops_of, tops_in, tops}
 use Rattle.arrival.specs.Exact.{unit_exponent}
-use Rattle.arrival.specs.MinusZero.{minus_zero, is_minus_zero, not_minus, sum_not_minus, whole_not_minus}
+use Rattle.arrival.specs.MinusZero.{minus_zero, is_minus_zero}
+use Rattle.arrival.proofs.MinusZero.{not_minus, sum_not_minus, whole_not_minus}
 use Rattle.arrival.specs.Lifts.{same_number}
 
 -- an f64 that is not -0.0
@@ -49,6 +49,7 @@ module _ {A : Type 0} (P : A → Type 0) where
   Each (x ∷ xs) = (P x) × Each xs
 
   each_one : (xs : List A) → Each xs → (x : A) → Memᴰ x xs → P x
+  each_one [] h x x4 = elim x4 [ ]
   each_one (y ∷ xs) h x (Memᴰ.head e) = rw e h.0
   each_one (y ∷ xs) h x (Memᴰ.tail m) = each_one xs h.1 x m
 
