@@ -1,14 +1,13 @@
 -- The ways out of `begin_search`, as its proof cites them; and the counts that it gives.
-use Rattle.std.specs.Prelude.{◌≡◌, List, [], ◌∷◌, ℕ, zero, suc, ◌*◌, ◌≤◌, length, replicate}
+use Rattle.std.specs.Prelude.{◌≡◌, List, [], ◌∷◌, ℕ, ◌≤◌, length, replicate}
 use Rattle.std.proofs.Math.Path.{refl, ap}
-use Rattle.std.proofs.Common.{sym, subst, ◌∙◌, arith}
+use Rattle.std.proofs.Common.{sym, subst, ◌∙◌, arith, lt-ltb}
 use Rattle.std.proofs.Math.Bool.{true, false}
 use Rattle.std.proofs.Math.Option.{Option, none, some}
 use Rattle.std.proofs.Math.Dec.{ltb}
 use Rattle.std.proofs.lemmas.List.{length-replicate}
-use borrow.Author.Tests.{lt-ltb}
 use Rattle.exploration.specs.Explore.{State, begin}
-use Rattle.fields.specs.Pieces.{Bytes}
+use Rattle.fields.specs.Bytes.{Bytes}
 use Rattle.world.specs.declared.Body.{Body}
 use Rattle.world.specs.declared.Request.{Request}
 use Rattle.world.specs.declared.Window.{Window}
@@ -19,16 +18,15 @@ use Rattle.rooms.specs.declared.Feet.{Feet}
 use Rattle.rooms.specs.declared.Label.{Label}
 use Rattle.rooms.specs.declared.Counts.{Counts}
 use Rattle.rooms.specs.Rooms.{Note, nodes_of, state_of, node_room, front_room, counts_in}
-use Rattle.rooms.specs.Laws.Rooms.{node_room_lem, front_room_lem, counts_back}
+use Rattle.rooms.proofs.Laws.Rooms.{node_room_lem, front_room_lem, counts_back}
 use Rattle.visits.specs.Best.{best}
 use Rattle.visits.specs.Visits.{Started, Begun}
-use Rattle.visits.specs.Laws.Visits.{begun as started_begun}
+use Rattle.visits.proofs.Laws.Visits.{begun as started_begun}
 use Rattle.outcomes.specs.declared.Outcome.{Outcome}
-use Rattle.outcomes.specs.declared.Tick.{Tick}
 use Rattle.outcomes.specs.declared.Tick.TheVariants.{Refused, Searching}
-use Rattle.outcomes.specs.Ticks.{tick_given, Ticked, nothing_written, Gives, GoesFrom}
+use Rattle.outcomes.specs.Ticks.{tick_given, Ticked, Gives}
 use Rattle.refusals.specs.Refusals.{without_search}
-use Rattle.refusals.specs.Laws.{Passed, some_budget}
+use Rattle.refusals.proofs.Laws.{Passed, some_budget}
 use Rattle.openings.specs.Openings.{start_state, begun_by, begun_search}
 
 module _ (w : Window) (cells perms shapes boxes : List ℕ) (r : Request) (body : Body) (a f o : List ℕ) where
