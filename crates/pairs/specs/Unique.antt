@@ -4,7 +4,7 @@ use Rattle.std.proofs.Common.{sym, ap, ◌∙◌}
 use Rattle.moves.specs.declared.answer.Reason.{Reason}
 use Rattle.moves.specs.declared.answer.Reason.TheVariants.{TooHigh, TooDeep, TargetOutOfRange, RaisedOutOfRange, TargetNotStandable, LiftBlocked, CrossingBlocked, SettleBlocked, Unsupported}
 use Rattle.moves.specs.Moves.{reason_number}
-use Rattle.moves.specs.Unique.{reason}
+use Rattle.moves.proofs.Unique.{reason}
 use Rattle.pairs.specs.declared.PairFault.{PairFault}
 use Rattle.pairs.specs.declared.PairFault.TheVariants.{NoEdge, NotAStep, WrongLabel}
 use Rattle.pairs.specs.Pairs.{pair_number}
