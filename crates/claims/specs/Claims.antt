@@ -31,7 +31,7 @@ use Rattle.search.specs.FindWalkPath.{end_of, before_search, found, nodes_after,
 use Rattle.walk_back.specs.declared.Walked.TheVariants.{Yes}
 use Rattle.walk_back.specs.Movements.{movement_at}
 use Rattle.walk_back.specs.WalkBack.{IsRoute, RouteList, walked}
-use Rattle.fields.specs.Pieces.{Bytes}
+use Rattle.fields.specs.Bytes.{Bytes}
 use Rattle.claims.specs.Words.{with_budget, InF64, kept_points, closed_words, push_of, after, LowestFirst}
 use Rattle.claims.specs.Laws.Calls as calls
 use Rattle.claims.specs.Laws.Search.{not_searching}

@@ -15,7 +15,7 @@ use Rattle.moves.specs.declared.answer.EdgeCheck.{EdgeCheck}
 use Rattle.moves.specs.declared.answer.EdgeCheck.TheVariants.{Passes, Fails}
 use Rattle.edges.specs.Edges.{edge, near_goal}
 use Rattle.edges.specs.Reasons.{edge_check, edge_of}
-use Rattle.edges.specs.Laws.{check_is}
+use Rattle.edges.proofs.Laws.{check_is}
 use Rattle.pairs.specs.declared.PairFault.{PairFault}
 use Rattle.pairs.specs.declared.PairFault.TheVariants.{NoEdge, NotAStep, WrongLabel}
 use Rattle.pairs.specs.Pairs.{pair_fault_by, pair_fault}

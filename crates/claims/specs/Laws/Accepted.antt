@@ -1,7 +1,7 @@
 -- The list that a search wrote, as the walk-back reads it.
 use Rattle.std.specs.Prelude.{ℕ, ◌*◌, ◌≡◌, List, length, take, drop}
 use Rattle.std.proofs.Common.{ap, ◌∙◌}
-use Rattle.fields.specs.Pieces.{Bytes}
+use Rattle.fields.specs.Bytes.{Bytes}
 use Rattle.world.specs.declared.Body.{Body}
 use Rattle.world.specs.declared.Request.{Request}
 use Rattle.world.specs.declared.Window.{Window}
@@ -15,7 +15,7 @@ use Rattle.outcomes.specs.declared.Answer.{Answer}
 use Rattle.search.specs.FindWalkPath.{out_after}
 use Rattle.walk_back.specs.declared.Walked.TheVariants.{Yes}
 use Rattle.walk_back.specs.WalkBack.{IsRoute, RouteList, walked}
-use Rattle.walk_back.specs.Claims.{a_route_is_yes}
+use Rattle.walk_back.proofs.Claims.{a_route_is_yes}
 use Rattle.claims.specs.Words.{InF64}
 use Rattle.claims.specs.Laws.Calls as calls
 use Rattle.claims.specs.Laws.Doors.{space_doors}

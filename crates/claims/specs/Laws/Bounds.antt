@@ -307,6 +307,7 @@ by_root x (fin false k j) v h =
 
 root_up_to : {x : Float} → T (fits binary64 x) → NotNegative x → UpTo 295147905179352825856 x → UpTo 17179869184 (square_root x)
 root_up_to t (sized zero e) u = unfold square_root answer in of_size false zero e (omega (arith, zero-mul (up e)))
+root_up_to t endless u = elim u [ ]
 root_up_to t (sized (suc m) e) (of_size s n d h) =
     by_root (fin false (suc m) e) (square_root (fin false (suc m) e)) (square_root_right (fin false (suc m) e) t (lt→ltb 0 (suc m) (zero-lt-suc m)))
     (unfold quanta in few_quanta 295147905179352825856 (2 ^ 1074) (suc m) e h)

@@ -14,7 +14,7 @@ use Rattle.rooms.specs.declared.Label.{Label}
 use Rattle.rooms.specs.Rooms.{Note}
 use Rattle.costs.specs.Costs.{cost_by, estimate_by, cheaper, lowered}
 use Rattle.visits.specs.Best.{opened, relaxed, best}
-use Rattle.visits.specs.Laws.Policy.{best_laws, given_is}
+use Rattle.visits.proofs.Laws.Policy.{best_laws, given_is}
 use Rattle.claims.specs.Laws.Nodes.{AllOf, none_there, one_more, in_place}
 use Rattle.claims.specs.Laws.ReadBack.{held}
 

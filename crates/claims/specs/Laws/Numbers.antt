@@ -32,7 +32,7 @@ use Rattle.rooms.specs.Scans.{estimate_of}
 use Rattle.rooms.specs.Rooms.{Note}
 use Rattle.costs.specs.Costs.{float, apart, cost_by, estimate_by, cheaper, lowers, lowered_by, lowered}
 use Rattle.visits.specs.Best.{opened, relaxed, best}
-use Rattle.visits.specs.Laws.Policy.{best_laws, given_is}
+use Rattle.visits.proofs.Laws.Policy.{best_laws, given_is}
 use Rattle.claims.specs.Words.{InF64}
 use Rattle.claims.specs.Laws.Edges.{target_in_range}
 use Rattle.claims.specs.Laws.Fits.{F64, ToppedSpace, steps_each, worded}

@@ -20,7 +20,7 @@ use Rattle.rooms.specs.declared.Feet.{Feet}
 use Rattle.rooms.specs.declared.Label.{Label}
 use Rattle.rooms.specs.Rooms.{Note}
 use Rattle.visits.specs.Best.{best}
-use Rattle.visits.specs.Laws.Policy.{best_laws}
+use Rattle.visits.proofs.Laws.Policy.{best_laws}
 use Rattle.claims.specs.Words.{InF64}
 use Rattle.claims.specs.Laws.Fits.{F64, ToppedSpace, steps_each, worded}
 use Rattle.claims.specs.Laws.Below.{Point64, feet_below}

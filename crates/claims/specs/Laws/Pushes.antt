@@ -15,7 +15,7 @@ use Rattle.rooms.specs.declared.Label.{Label}
 use Rattle.rooms.specs.Rooms.{Note, node_waits}
 use Rattle.costs.specs.Costs.{cost_by, estimate_by, cheaper, lowers, lowered_by, lowered}
 use Rattle.visits.specs.Best.{opened, relaxed, best}
-use Rattle.visits.specs.Laws.Policy.{best_laws, given_is}
+use Rattle.visits.proofs.Laws.Policy.{best_laws, given_is}
 use Rattle.claims.specs.Words.{push_of}
 
 abbrev Nodes : Type 0

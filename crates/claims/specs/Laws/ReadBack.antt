@@ -6,10 +6,10 @@ use Rattle.exploration.specs.Lists.{nth}
 use Rattle.exploration.specs.Policy.{Node}
 use Rattle.exploration.proofs.Laws.Lists.{none_some}
 use Rattle.fields.specs.Little.{field, bytes_of}
-use Rattle.fields.specs.Laws.{length_bytes, bytes_low, positive}
-use Rattle.fields.specs.Pieces.{field_second, field_front}
+use Rattle.fields.proofs.Laws.{length_bytes, bytes_low, positive}
+use Rattle.fields.proofs.Pieces.{field_second, field_front}
 use Rattle.fields.specs.Records.{fields_at, record_bytes, records_bytes, Fill, firsts}
-use Rattle.fields.specs.RecordLaws.{length_record_bytes}
+use Rattle.fields.proofs.RecordLaws.{length_record_bytes}
 use Rattle.rooms.specs.declared.Feet.{Feet}
 use Rattle.rooms.specs.declared.Label.{Label}
 use Rattle.rooms.specs.declared.NodeRecord.{NodeRecord}
