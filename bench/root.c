@@ -16,11 +16,7 @@ enum { NUMBERS = 1 << 14, ROUNDS = 101 };
 /* Not inlined, as the proved one is not: all are timed with the cost of a call. */
 __attribute__((noinline)) static double hardware_square_root(double x) {
     double r;
-#ifdef __aarch64__
-    __asm__ volatile("fsqrt %d0, %d1" : "=w"(r) : "w"(x));
-#else
     __asm__ volatile("sqrtsd %1, %0" : "=x"(r) : "x"(x));
-#endif
     return r;
 }
 

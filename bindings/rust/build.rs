@@ -1,6 +1,6 @@
 //! Links libwalk_c.a from the folder that WALKPRINT_LIB names (tools/library
 //! builds it and prints its folder), or else from the repository's
-//! target/staticlib, where `rt staticlib walk_c` writes it.
+//! crates/walk_c/out, where `rt lib` writes it.
 
 use std::env;
 use std::path::PathBuf;
@@ -8,7 +8,7 @@ use std::path::PathBuf;
 fn main() {
     println!("cargo:rerun-if-env-changed=WALKPRINT_LIB");
     let folder = env::var_os("WALKPRINT_LIB").map_or_else(
-        || PathBuf::from(env!("CARGO_MANIFEST_DIR")).join("../../target/staticlib"),
+        || PathBuf::from(env!("CARGO_MANIFEST_DIR")).join("../../crates/walk_c/out"),
         PathBuf::from,
     );
     let library = folder.join("libwalk_c.a");
