@@ -15,7 +15,7 @@ use Rattle.rooms.specs.declared.Feet.{Feet}
 use Rattle.rooms.specs.declared.Label.{Label}
 use Rattle.rooms.specs.declared.Counts.{Counts}
 use Rattle.rooms.specs.Rooms.{Note, state_of}
-use Rattle.rooms.specs.Laws.Rooms.{BySamePoint}
+use Rattle.rooms.proofs.Laws.Rooms.{BySamePoint}
 use Rattle.visits.specs.declared.Aim.{Aim}
 use Rattle.visits.specs.Best.{best}
 use Rattle.visits.specs.Visits.{Kept, Still, Rests, Near}

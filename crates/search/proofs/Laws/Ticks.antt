@@ -1,16 +1,16 @@
 -- What so many expansions more make of a search that is continued: the turn that the code has, in the words of the contract.
 use Rattle.std.specs.Prelude.{◌≡◌, refl, Bool, true, not, cond, ℕ, zero, suc, ◌+◌, ◌*◌, ◌/◌, ◌≤◌, ◌<◌, leb, ltb, length, drop, replicate}
-use Rattle.std.proofs.Common.{sym, ◌∙◌, arith, ltb-true, ltb-false}
+use Rattle.std.proofs.Common.{sym, ◌∙◌, arith, ltb-true, ltb-false, List, [], ◌∷◌, ◌++◌}
 use Rattle.std.proofs.Math.Path.{ap, subst}
 use Rattle.std.proofs.Math.Bool.{false}
 use Rattle.std.proofs.Math.Option.{Option, none, some}
-use mathlib.Core.List.{List, [], ◌∷◌, ◌++◌, reverse_aux}
+use mathlib.Core.List.{reverse_aux}
 use Rattle.std.proofs.Math.ListN.{length-reverse_aux}
 use Rattle.exploration.specs.Policy.{Node}
 use Rattle.exploration.specs.Explore as explore
 use Rattle.exploration.specs.Explore.{State, outcome}
 use Rattle.exploration.proofs.Laws.Lists.{true_false}
-use Rattle.fields.specs.Pieces.{Bytes}
+use Rattle.fields.specs.Bytes.{Bytes}
 use Rattle.world.specs.declared.Body.{Body}
 use Rattle.world.specs.declared.Request.{Request}
 use Rattle.world.specs.declared.Window.{Window}
@@ -23,7 +23,7 @@ use Rattle.rooms.specs.Records.{node_at}
 use Rattle.rooms.specs.Scans.{next_of}
 use Rattle.rooms.specs.Lists.{node_waypoint, walk_by, walk, list_of, list_bytes, written}
 use Rattle.rooms.specs.Rooms.{Note, nodes_of, state_of, node_room, front_room, counts_in}
-use Rattle.rooms.specs.Laws.Rooms.{node_room_lem, front_room_lem, pick_none, pick_some}
+use Rattle.rooms.proofs.Laws.Rooms.{node_room_lem, front_room_lem, pick_none, pick_some}
 use Rattle.visits.specs.declared.Aim.{Aim}
 use Rattle.visits.specs.Best.{best}
 use Rattle.visits.specs.Visits.{Ready}
@@ -33,18 +33,18 @@ use Rattle.outcomes.specs.declared.Turn.TheVariants.{Rest, Going, At, By}
 use Rattle.outcomes.specs.declared.Answer.{Answer}
 use Rattle.outcomes.specs.declared.Tick.{Tick}
 use Rattle.outcomes.specs.declared.Tick.TheVariants.{Refused, BadProgress, Searching, Ended}
-use Rattle.outcomes.specs.Outcomes.{told_by, list_in, counts_of, end_quiet, end_at, answer_of}
+use Rattle.outcomes.specs.Outcomes.{told_by, list_in, counts_of, end_quiet, end_at}
 use Rattle.outcomes.specs.Ticks.{tick_given, Ticked, nothing_written, tick_by, front_by, Gives, GoesFrom}
 use Rattle.conclusion.specs.GoesOn.{goes_on}
 use Rattle.conclusion.specs.Laws.{written_is, Concludes}
 use Rattle.refusals.specs.Refusals.{without_call}
-use Rattle.refusals.specs.Laws.{Passed, call_refused, call_passed}
+use Rattle.refusals.proofs.Laws.{Passed, call_refused, call_passed}
 use Rattle.progress.specs.Progress.{good_progress}
 use Rattle.progress.specs.Laws.{CountBounds}
 use Rattle.search.specs.Turns.{most_steps, after, Quiet}
 use Rattle.search.specs.Runs.{Spun}
 use Rattle.search.specs.Ticks.{expanded, came_to, expanded_in, gone_on, continued_search}
-use Rattle.search.specs.Laws.Ends.{aim_to, nodes_after_lem, counts_after_lem, Silent, silent_end}
+use Rattle.search.proofs.Laws.Ends.{aim_to, nodes_after_lem, counts_after_lem, Silent, silent_end}
 
 -- ---- a list is no longer than there are nodes, and one
 

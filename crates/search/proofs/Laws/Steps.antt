@@ -27,7 +27,7 @@ use Rattle.rooms.specs.Rooms.{Note, state_of}
 use Rattle.visits.specs.declared.Aim.{Aim}
 use Rattle.visits.specs.Best.{best}
 use Rattle.visits.specs.Visits.{Ready, Near, shut_at, Visited}
-use Rattle.visits.specs.Laws.Visits.{kept_none, kept_trans, still_none, still_trans, rests_none, rests_trans, near_none, near_trans, is_ready, visit_sought, visited_shut}
+use Rattle.visits.proofs.Laws.Visits.{kept_none, kept_trans, still_none, still_trans, rests_none, rests_trans, near_none, near_trans, is_ready, visit_sought, visited_shut}
 use Rattle.strides.specs.declared.Place.{Place}
 use Rattle.strides.specs.declared.Column.{Column}
 use Rattle.search.specs.declared.Around.{Around}

@@ -12,7 +12,7 @@ use Rattle.rooms.specs.declared.Counts.{Counts}
 use Rattle.rooms.specs.Rooms.{state_of}
 use Rattle.visits.specs.declared.Aim.{Aim}
 use Rattle.visits.specs.Best.{best}
-use Rattle.visits.specs.Laws.Visits.{kept_none, kept_trans, near_none, near_trans, near_le}
+use Rattle.visits.proofs.Laws.Visits.{kept_none, kept_trans, near_none, near_trans, near_le}
 use Rattle.outcomes.specs.declared.Turn.{Turn}
 use Rattle.outcomes.specs.declared.Turn.TheVariants.{Rest, Going, At, By}
 use Rattle.search.specs.Turns.{most_steps, after, Quiet, Turned}

@@ -26,20 +26,20 @@ use Rattle.rooms.specs.declared.Counts.{Counts}
 use Rattle.rooms.specs.Waypoints.{same_point}
 use Rattle.rooms.specs.Records.{node_at, entry_at}
 use Rattle.rooms.specs.Scans.{waits, first_of, busy, next_from, next_of}
-use Rattle.rooms.specs.Laws.Scans.{first_is}
-use Rattle.rooms.specs.Laws.Lists.{in_or_out}
+use Rattle.rooms.proofs.Laws.Scans.{first_is}
+use Rattle.rooms.proofs.Laws.Lists.{in_or_out}
 use Rattle.scans.specs.Laws.{next_from_lem}
 use Rattle.rooms.specs.Rooms.{Note, node_of, node_in, state_of}
-use Rattle.rooms.specs.Laws.Rooms.{BySamePoint, pick_none, pick_some}
+use Rattle.rooms.proofs.Laws.Rooms.{BySamePoint, pick_none, pick_some}
 use Rattle.visits.specs.declared.Aim.{Aim}
 use Rattle.visits.specs.Best.{best}
 use Rattle.visits.specs.declared.Closing.{Closing}
 use Rattle.visits.specs.Visits.{Ready, Rested, Rests, Closed, ClosedIf}
-use Rattle.visits.specs.Laws.Visits.{kept_none, kept_trans, still_none, still_trans, rests_none, rests_trans, near_none, near_trans, near_le, is_ready}
+use Rattle.visits.proofs.Laws.Visits.{kept_none, kept_trans, still_none, still_trans, rests_none, rests_trans, near_none, near_trans, near_le, is_ready}
 use Rattle.outcomes.specs.declared.Turn.TheVariants.{Rest, Going, At, By}
 use Rattle.strides.specs.declared.Place.{Place}
 use Rattle.search.specs.Steps.{Stepped}
-use Rattle.search.specs.Laws.Steps.{ready_after}
+use Rattle.search.proofs.Laws.Steps.{ready_after}
 use Rattle.search.specs.Turns.{most_steps, Bounded, Settled, Turned}
 
 pub graph_same : (sp : Space) (r : Request) (body : Body) → BySamePoint (graph sp r body)

@@ -1,9 +1,8 @@
 -- What the end of a run makes of a search: its outcome and its list are those of the theory's final state, and the node room holds that state's nodes.
 use Rattle.std.specs.Prelude.{◌≡◌, List, ◌++◌, ℕ, ◌+◌, ◌*◌, ◌≤◌, drop}
 use Rattle.std.proofs.Math.Path.{refl, sym, ap}
-use Rattle.std.proofs.Common.{subst, ◌∙◌}
+use Rattle.std.proofs.Common.{subst, ◌∙◌, arith}
 use Rattle.std.proofs.Math.Option.{none}
-use native.Mathlib.Omega.{arith}
 use Rattle.std.proofs.Math.ListN.{length}
 use Rattle.exploration.specs.Graph.{Graph}
 use Rattle.exploration.specs.Policy.{Policy}
@@ -12,7 +11,7 @@ use Rattle.exploration.specs.Explore.{State, run, outcome}
 use Rattle.exploration.proofs.Claims.{found_is_route}
 use Rattle.exploration.proofs.Laws.Lists.{none_some}
 use Rattle.exploration.proofs.Laws.Expansions.{Done, at_found, at_end, final_done}
-use Rattle.fields.specs.Pieces.{Bytes}
+use Rattle.fields.specs.Bytes.{Bytes}
 use Rattle.world.specs.declared.Body.{Body}
 use Rattle.world.specs.declared.Request.{Request}
 use Rattle.world.specs.declared.Window.{Window}
@@ -25,12 +24,12 @@ use Rattle.rooms.specs.declared.Label.{Label}
 use Rattle.rooms.specs.declared.Counts.{Counts}
 use Rattle.rooms.specs.Lists.{list_bytes, written}
 use Rattle.rooms.specs.Rooms.{Note, nobody, nodes_of, state_of, node_room, counts_in}
-use Rattle.rooms.specs.Laws.Rooms.{node_room_lem}
+use Rattle.rooms.proofs.Laws.Rooms.{node_room_lem}
 use Rattle.visits.specs.declared.Aim.{Aim}
 use Rattle.visits.specs.Best.{best}
 use Rattle.visits.specs.Visits.{Ready, Started, Begun}
-use Rattle.visits.specs.Laws.Policy.{best_laws}
-use Rattle.visits.specs.Laws.Visits.{kept_trans, begun}
+use Rattle.visits.proofs.Laws.Policy.{best_laws}
+use Rattle.visits.proofs.Laws.Visits.{kept_trans, begun}
 use Rattle.outcomes.specs.declared.Turn.{Turn}
 use Rattle.outcomes.specs.declared.Turn.TheVariants.{Rest, Going, At, By}
 use Rattle.outcomes.specs.declared.Answer.{Answer}
@@ -39,7 +38,7 @@ use Rattle.conclusion.specs.Laws.{written_is, Concludes}
 use Rattle.search.specs.FindWalkPath.{ended, end_of, answer_by, nodes_by, out_by}
 use Rattle.search.specs.Turns.{most_steps, after, Quiet}
 use Rattle.search.specs.Runs.{Spun}
-use Rattle.search.specs.Laws.Ends.{aim_to, nodes_after_lem, counts_after_lem, Silent, silent_end}
+use Rattle.search.proofs.Laws.Ends.{aim_to, nodes_after_lem, counts_after_lem, Silent, silent_end}
 
 -- ---- it is what the theory says of the final state
 

@@ -17,8 +17,8 @@ use Rattle.rooms.specs.declared.Label.{Label}
 use Rattle.rooms.specs.declared.Counts.{Counts}
 use Rattle.rooms.specs.Lists.{list_of}
 use Rattle.rooms.specs.Rooms.{Note, nobody, nodes_of, state_of, counts_in}
-use Rattle.rooms.specs.Laws.Lists.{arrive_list}
-use Rattle.rooms.specs.Laws.Rooms.{counts_back}
+use Rattle.rooms.proofs.Laws.Lists.{arrive_list}
+use Rattle.rooms.proofs.Laws.Rooms.{counts_back}
 use Rattle.visits.specs.declared.Aim.{Aim}
 use Rattle.visits.specs.Best.{best}
 use Rattle.outcomes.specs.declared.Turn.{Turn}
