@@ -70,7 +70,7 @@ module _ (sp : Space) (r : Request) (body : Body) where
   -- "Route: valid request; goal in range; both ends standable; points compared by that rule, the start first (Walk, lift 0); each pair a graph step with its
   -- edge's movement and lift, the last pair allowed to be a connector; the last point equal to the goal. A single point is a route when start equals
   -- goal." And 02, No. 5: "A route must carry the right door too". No search is mentioned here, and not the test of a list above (`is_route_list`). What 01 asks of the request, of the ends, and of one point or pair are
-  -- tests of their own, each of which must be true: `valid_request`, `inRange`, `standable`, and in `Route` and `Way` `same`, `alike`, `has_step` and `connects`.
+  -- tests of their own, each of which must be true: `valid_request`, `in_range`, `standable`, and in `Route` and `Way` `same`, `alike`, `has_step` and `connects`.
   -- That the pairs follow one another from the start to the goal is no test: it is the form of `Way`.
   pub record IsRoute (ws : List (Feet × Label)) : Type 0 where
     pub valid : valid_request r body ≡ true

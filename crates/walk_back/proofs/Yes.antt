@@ -29,7 +29,7 @@ use Rattle.walk_back.specs.declared.Walked.{Walked}
 use Rattle.walk_back.specs.declared.Walked.TheVariants.{Yes, No, BadWorld, TooLarge}
 use Rattle.walk_back.specs.declared.Fault.TheVariants.{BadList, GoalOutOfRange, StartNotStandable, GoalNotStandable, WrongStart}
 use Rattle.walk_back.specs.WalkBack.{is_route_list, walked_by, walked_list}
-use Rattle.walk_back.specs.Laws.{rest, rest_on}
+use Rattle.walk_back.proofs.Laws.{rest, rest_on}
 use Rattle.walk_back.specs.Movements.{movements_named}
 
 -- whole records, and not none; the start's first

@@ -28,7 +28,7 @@ use Rattle.listed.specs.Compared.{starts}
 use Rattle.pairs.specs.Pairs.{pair_fault}
 use Rattle.walk_back.specs.WalkBack.{is_route_list, RouteList, walked_by, going_on, walked_list, walked}
 use Rattle.walk_back.specs.Places.{BreaksAt, EndsElsewhere, broken_at, ends_elsewhere}
-use Rattle.walk_back.specs.Yes.{is_yes, yes_only, yes_exactly}
+use Rattle.walk_back.proofs.Yes.{is_yes, yes_only, yes_exactly}
 
 -- ---- the test of a list
 
