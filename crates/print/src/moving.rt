@@ -1,27 +1,33 @@
 // Moves the bytes (01, "Scenes and walkprint"): a scene from standard input, record by record, and its lines to standard output.
 use crate::telling;
-use libc::STDOUT_FILENO;
 use print_lines::Told;
 use scene_state::SceneAnswer;
 
-fn write_line(told: Told, list: &[u8], k: usize) {
+fn write_line(rt: &impl Print, told: Told, list: &[u8], k: usize) {
     let mut buffer = [0u8; 128];
     let n = print_lines::line(told, list, k, &mut buffer);
-    io::write_all(STDOUT_FILENO, &buffer[..n]);
+    let _ = rt.write_all(&buffer[..n]);
 }
 
 // The first line, and one for each of n waypoints.
-fn write_lines(told: Told, list: &[u8], n: usize) {
-    write_line(told, list, 0);
+fn write_lines(rt: &impl Print, told: Told, list: &[u8], n: usize) {
+    write_line(rt, told, list, 0);
     let mut k: usize = 0;
     while k < n {
         k += 1;
-        write_line(told, list, k);
+        write_line(rt, told, list, k);
     }
 }
 
 // Searches the scene that was read, or not, and prints what there is to tell. The rooms are those of a budget of 512.
-fn print_told(answer: SceneAnswer, cells: &[u8], perms: &[u8], shapes: &[u8], boxes: &[u8]) {
+fn print_told(
+    rt: &impl Print,
+    answer: SceneAnswer,
+    cells: &[u8],
+    perms: &[u8],
+    shapes: &[u8],
+    boxes: &[u8],
+) {
     let mut nodes = [0u8; 32768];
     let mut front = [0u8; 12288];
     let mut index = [0u8; 4096];
@@ -29,12 +35,12 @@ fn print_told(answer: SceneAnswer, cells: &[u8], perms: &[u8], shapes: &[u8], bo
     let told = telling::tell(
         answer, cells, perms, shapes, boxes, &mut nodes, &mut front, &mut index, &mut out,
     );
-    write_lines(told, &out, told.waypoints);
+    write_lines(rt, told, &out, told.waypoints);
 }
 
 // Reads a scene of at most so many bytes and prints it: it ends there, or where the input ends. The tables are those of the largest scene: 4,096 cells, 256
 // states, shapes and boxes.
-pub fn print_scene(bytes: usize) {
+pub fn print_scene<R: Input + Print>(rt: &R, bytes: usize) {
     let mut cells = [0u8; 32768];
     let mut perms = [0u8; 256];
     let mut shapes = [0u8; 2048];
@@ -43,7 +49,7 @@ pub fn print_scene(bytes: usize) {
     let mut progress = scene::begin(&cells, &perms, &shapes, &boxes);
     let mut left = bytes;
     loop {
-        let count = input::take(left, &mut record);
+        let count = input::take(rt, left, &mut record);
         if count == 0 {
             break;
         }
@@ -57,5 +63,5 @@ pub fn print_scene(bytes: usize) {
         );
         left -= count;
     }
-    print_told(scene::end(progress), &cells, &perms, &shapes, &boxes);
+    print_told(rt, scene::end(progress), &cells, &perms, &shapes, &boxes);
 }
