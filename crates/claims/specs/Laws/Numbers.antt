@@ -3,7 +3,7 @@
 use Rattle.std.specs.Prelude.{ℕ, ◌+◌, ◌≡◌, Bool, true, false, pos}
 use Rattle.std.proofs.Math.Option.{some}
 use mathlib.Core.List.{[]}
-use Rattle.std.specs.Float.Ieee.{binary64, is_nan, add, mul, lt, of_bits}
+use Rattle.std.specs.Float.Ieee.{binary64, is_nan, add, mul, of_bits}
 use Rattle.std.specs.Float.Ieee.Fits.{add-fits}
 use Rattle.std.specs.Float.Ieee.Scale.{finite}
 use Rattle.exploration.specs.Lists.{nth}

@@ -22,7 +22,6 @@ use Rattle.rooms.specs.Rooms.{Note}
 use Rattle.rooms.specs.Waypoints.{same_point}
 use Rattle.visits.specs.Best.{best}
 use Rattle.visits.proofs.Laws.Policy.{best_laws}
-use Rattle.outcomes.specs.declared.Outcome.{Outcome}
 use Rattle.outcomes.specs.declared.Outcome.TheVariants.{Found, Unreachable, BudgetExceeded}
 use Rattle.outcomes.specs.Outcomes.{told_by, list_in}
 use Rattle.search.specs.FindWalkPath.{ended, end_of}
