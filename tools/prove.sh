@@ -72,7 +72,7 @@ progress() {
         case $line in
         'rt: chose --jobs '*) crate=${line##* } ;;
         'logic=proved '*) printf '[%s/%s] %s proved\n' "$(printf '%s\n' "$names" | grep -nxF -e "$crate" | cut -d : -f 1)" "$count" "$crate" ;;
-        logic=*) printf '%s NOT PROVED\n' "$crate" ;;
+        'rattle build: nothing was built'*) printf '%s NOT PROVED\n' "$crate" ;;
         'rt: '*': begins with '* | 'rt: rt '* | 'rt: running '* | 'rt: nothing has changed '*) ;;
         'rt: '*) printf '%s\n' "${line#rt: }" ;;
         esac

@@ -35,6 +35,7 @@ one() {
         echo "src/lib.rt:1:1: error: a goal is open"
         echo "fn $1::f: not proved"
         echo "logic=not-proved"
+        echo "rattle build: nothing was built, since only a proved crate is built"
         [ "$1" = "$name" ] || echo "rt: the library $1 did not build, so nothing above it was checked" >&2
         exit 1
     fi
