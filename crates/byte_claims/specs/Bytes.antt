@@ -8,7 +8,7 @@ use Rattle.std.proofs.Math.Bool.{true, false, cond}
 use Rattle.std.specs.Float.Ieee.{binary64, of_bits}
 use Rattle.std.specs.Float.Ieee.Bits.{of_bits-fits}
 use Rattle.exploration.specs.Lists.{has}
-use Rattle.fields.specs.Pieces.{Bytes}
+use Rattle.fields.specs.Bytes.{Bytes}
 use Rattle.exploration.specs.Graph.{Reach}
 use Rattle.world.specs.declared.Body.{Body}
 use Rattle.world.specs.declared.Point.{Point}

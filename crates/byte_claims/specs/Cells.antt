@@ -4,7 +4,7 @@ use Rattle.std.proofs.Common.{arith}
 use mathlib.Core.List.{List, [], ◌∷◌, foldl}
 use Rattle.std.proofs.lemmas.List.Edits.{sets}
 use Rattle.fields.specs.Little.{bytes_of, fits_at, field, with_field}
-use Rattle.fields.specs.Pieces.{Bytes}
+use Rattle.fields.specs.Bytes.{Bytes}
 use Rattle.regions.specs.declared.Spot.{Spot}
 use Rattle.regions.specs.Regions.{cells_of}
 use Rattle.world.specs.declared.Window.{Window}

@@ -19,7 +19,7 @@ use Rattle.walk_back.specs.declared.Walked.{Walked}
 use Rattle.walk_back.specs.declared.Walked.TheVariants.{Yes, No, BadWorld, TooLarge}
 use Rattle.walk_back.specs.WalkBack.{walked_number, walked_places, walked}
 use Rattle.walk_back.specs.Places.{BreaksAt}
-use Rattle.walk_back.specs.Claims.{pairs_told}
+use Rattle.walk_back.proofs.Claims.{pairs_told}
 use Rattle.c_records.specs.Records.{window_in, body_in}
 use Rattle.c_records.specs.Asked.{asked}
 use Rattle.claims.specs.Reasons.{Says, a_pair_whatever_its_label}
