@@ -17,9 +17,9 @@ use Rattle.exploration.specs.Explore.{Searching, outcome}
 use Rattle.exploration.proofs.Laws.Invariant.{Link, first_link, next_link, Trail, first_trail, next_trail}
 use Rattle.exploration.proofs.Laws.Lists.{true_or_false, true_false, none_some, nth_lt, nth_one}
 use Rattle.fields.specs.Little.{field}
-use Rattle.fields.specs.Laws.{field_zeros}
-use Rattle.fields.specs.Pieces.{field_drop}
-use Rattle.fields.specs.RecordLaws.{length_firsts}
+use Rattle.fields.proofs.Laws.{field_zeros}
+use Rattle.fields.proofs.Pieces.{field_drop}
+use Rattle.fields.proofs.RecordLaws.{length_firsts}
 use Rattle.world.specs.declared.Window.{Window}
 use Rattle.world.specs.declared.Body.{Body}
 use Rattle.world.specs.declared.Request.{Request}
@@ -32,7 +32,7 @@ use Rattle.rooms.specs.declared.Counts.{Counts}
 use Rattle.rooms.specs.Records.{node_at, entry_at}
 use Rattle.rooms.specs.Scans.{waits, estimate_of}
 use Rattle.rooms.specs.Rooms.{Note, nobody, parent_of, parent_word, node_of, node_in, state_of}
-use Rattle.rooms.specs.Laws.Rooms.{nth_firsts, parent_word_lem}
+use Rattle.rooms.proofs.Laws.Rooms.{nth_firsts, parent_word_lem}
 use Rattle.words.specs.Words.{feet_of}
 use Rattle.steps.specs.Graph.{graph}
 use Rattle.visits.specs.Best.{best}

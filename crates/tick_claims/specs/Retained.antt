@@ -5,7 +5,7 @@ use Rattle.std.proofs.Common.{arith}
 use Rattle.std.proofs.Math.Option.{some}
 use mathlib.Core.List.{List, []}
 use Rattle.std.specs.Float.{binary64}
-use Rattle.std.specs.Float.Ieee.{add, mul, lt, of_bits}
+use Rattle.std.specs.Float.Ieee.{add, mul, of_bits}
 use Rattle.std.specs.Float.Ieee.Fits.{add-fits}
 use Rattle.exploration.specs.Graph.{Graph}
 use Rattle.exploration.specs.Policy.{Node}
@@ -31,7 +31,7 @@ use Rattle.words.specs.Words.{point_of, feet_of, label_of}
 use Rattle.steps.specs.Graph.{graph}
 use Rattle.costs.specs.Costs.{float, apart, cost_by, estimate_by, cheaper, lowers, lowered_by, lowered}
 use Rattle.visits.specs.Best.{opened, relaxed, best}
-use Rattle.visits.specs.Laws.Policy.{best_laws, given_is}
+use Rattle.visits.proofs.Laws.Policy.{best_laws, given_is}
 use Rattle.walk_back.specs.Movements.{movement_few}
 use Rattle.progress.specs.Progress.{stands_at}
 use Rattle.claims.specs.Words.{InF64}

@@ -4,7 +4,7 @@ use Rattle.std.proofs.Common.{mul-zero, mul-suc, mul-le-mul_left, arith, sym, ap
 use Rattle.std.proofs.Math.Seq.{drop-append-add}
 use Rattle.exploration.specs.Policy.{Node}
 use Rattle.fields.specs.Records.{records_bytes}
-use Rattle.fields.specs.RecordLaws.{length_record_bytes}
+use Rattle.fields.proofs.RecordLaws.{length_record_bytes}
 use Rattle.rooms.specs.declared.Feet.{Feet}
 use Rattle.rooms.specs.declared.Label.{Label}
 use Rattle.rooms.specs.Records.{entry_layout, entry_words}

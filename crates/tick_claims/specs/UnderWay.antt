@@ -28,7 +28,7 @@ use Rattle.steps.specs.Graph.{graph}
 use Rattle.steps.specs.GraphLaws.{graph_laws}
 use Rattle.steps.specs.Bounds.{graph_bounded}
 use Rattle.visits.specs.Best.{best}
-use Rattle.visits.specs.Laws.Policy.{best_laws, best_pushes}
+use Rattle.visits.proofs.Laws.Policy.{best_laws, best_pushes}
 use Rattle.claims.specs.Words.{InF64, after}
 use Rattle.claims.specs.Laws.Fits.{space_tops}
 use Rattle.claims.specs.Laws.Marks.{Marked, nodes_marked}

@@ -19,8 +19,8 @@ use Rattle.refusals.specs.Refusals.{without_search}
 use Rattle.search.specs.Ticks.{came_to}
 use Rattle.claims.specs.Words.{InF64, after}
 use Rattle.tick_claims.specs.Calls.{Lots, LeftByBegin, LeftByContinue, Calls, EndsAlike}
-use Rattle.tick_claims.specs.Divided.{StandsAfter, all_stand}
-use Rattle.tick_claims.specs.Ended.{budget_ends, ends_alike, closed_few, refused_after}
+use Rattle.tick_claims.proofs.Divided.{StandsAfter, all_stand}
+use Rattle.tick_claims.proofs.Ended.{budget_ends, ends_alike, closed_few, refused_after}
 
 -- A search that begins, of a request of f64s, as every caller's are; h is what begin left, and k what the calls after it left, each asked for one lot of expansions.
 module _ (w : Window) (cells perms shapes boxes : List ℕ) (r : Request) (body : Body) (f : InF64 r) (nodes front out : List ℕ)

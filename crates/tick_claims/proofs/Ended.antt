@@ -13,7 +13,7 @@ use Rattle.exploration.specs.Explore as explore
 use Rattle.exploration.specs.Explore.{State, outcome}
 use Rattle.exploration.proofs.Claims.{every_division_ends_alike}
 use Rattle.exploration.proofs.Laws.Lists.{and_first, and_second, true_or_false, true_false}
-use Rattle.fields.specs.Laws.{field_zeros}
+use Rattle.fields.proofs.Laws.{field_zeros}
 use Rattle.world.specs.declared.Window.{Window}
 use Rattle.world.specs.declared.Body.{Body}
 use Rattle.world.specs.declared.Request.{Request}
@@ -28,24 +28,24 @@ use Rattle.words.specs.Words.{feet_of}
 use Rattle.steps.specs.Graph.{graph}
 use Rattle.steps.specs.GraphLaws.{graph_laws}
 use Rattle.visits.specs.Best.{best}
-use Rattle.visits.specs.Laws.Policy.{best_laws}
+use Rattle.visits.proofs.Laws.Policy.{best_laws}
 use Rattle.outcomes.specs.declared.Outcome.{Outcome}
 use Rattle.outcomes.specs.declared.Tick.TheVariants.{BadProgress, Ended}
 use Rattle.outcomes.specs.Outcomes.{told_by, list_in}
 use Rattle.outcomes.specs.Ticks.{Ticked, nothing_written, ticked_by}
 use Rattle.refusals.specs.Refusals.{without_call, without_search}
-use Rattle.refusals.specs.Laws.{Passed, begins, call_begins}
+use Rattle.refusals.proofs.Laws.{Passed, begins, call_begins}
 use Rattle.chains.specs.Chains.{each_below, good_chains}
 use Rattle.progress.specs.Progress.{good_counts, good_node, some_waits, good_wait, good_progress}
 use Rattle.progress.specs.Laws.{waits_none}
 use Rattle.search.specs.FindWalkPath.{ended, end_of, answer_by, before_search, found, nodes_by, nodes_after, zero_by, front_after, out_by, out_after}
 use Rattle.search.specs.Ticks.{came_to, continued_search}
-use Rattle.search.specs.Laws.Ticks.{ended_tick, ended_front, left_bad}
+use Rattle.search.proofs.Laws.Ticks.{ended_tick, ended_front, left_bad}
 use Rattle.claims.specs.Words.{InF64, after}
 use Rattle.claims.specs.Laws.ReadBack.{length_list}
 use Rattle.claims.specs.Laws.Search.{list_within, nodes_within, closings_within, not_searching}
 use Rattle.tick_claims.specs.Calls.{LeftByContinue, RightIndex, EndsAlike}
-use Rattle.tick_claims.specs.Divided.{left_is, StandsAfter}
+use Rattle.tick_claims.proofs.Divided.{left_is, StandsAfter}
 use Rattle.tick_claims.specs.Rewritten.{node_room_length}
 
 -- ---- a frontier room of zeros is no progress

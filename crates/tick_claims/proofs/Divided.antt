@@ -27,17 +27,17 @@ use Rattle.words.specs.Words.{feet_of}
 use Rattle.steps.specs.Graph.{graph}
 use Rattle.steps.specs.GraphLaws.{graph_laws}
 use Rattle.visits.specs.Best.{best}
-use Rattle.visits.specs.Laws.Policy.{best_laws}
+use Rattle.visits.proofs.Laws.Policy.{best_laws}
 use Rattle.outcomes.specs.declared.Tick.{Tick}
 use Rattle.outcomes.specs.declared.Tick.TheVariants.{Searching}
 use Rattle.outcomes.specs.Ticks.{Ticked, tick_by, front_by, ticked_by, Gives, GoesFrom}
-use Rattle.outcomes.specs.Unique.{one_tick}
+use Rattle.outcomes.proofs.Unique.{one_tick}
 use Rattle.refusals.specs.Refusals.{without_call, without_search}
-use Rattle.refusals.specs.Laws.{Passed, begins, some_budget, call_begins}
+use Rattle.refusals.proofs.Laws.{Passed, begins, some_budget, call_begins}
 use Rattle.progress.specs.Progress.{good_progress}
 use Rattle.openings.specs.Openings.{start_state, begun_search, begun_by}
 use Rattle.search.specs.Ticks.{expanded, came_to, expanded_in, gone_on, continued_search}
-use Rattle.search.specs.Laws.Ticks.{went}
+use Rattle.search.proofs.Laws.Ticks.{went}
 use Rattle.claims.specs.Words.{InF64, after}
 use Rattle.tick_claims.specs.Acceptance.{untouched_accepted}
 use Rattle.tick_claims.specs.Calls.{Lots, LeftByBegin, LeftByContinue, Calls, no_call, next_call}
