@@ -1,5 +1,5 @@
 // What reading a scene and the functions asked about it answer.
-use crate::{digest, points, sheet, trial};
+use crate::{digest, sheet, trial, two_points};
 use scene_state::{Scene, SceneAnswer};
 
 // What reading answers, as the C interface writes it, and every byte of the tables.
@@ -52,7 +52,7 @@ pub(crate) fn answered(
     let h = sheet::front(shapes, used.shapes);
     let b = sheet::front(boxes, used.boxes);
     match sheet::number(asked, sheet::KIND) {
-        0 => points::answered(s, c, p, h, b, asked, d),
+        0 => two_points::answered(s, c, p, h, b, asked, d),
         1 => walked(s, c, p, h, b, asked, d),
         _ => trial::searched(s, c, p, h, b, asked, d),
     }

@@ -7,34 +7,31 @@ mod asked;
 mod case;
 mod digest;
 mod lookups;
-mod points;
 mod sheet;
 mod trial;
-
-use libc::STDOUT_FILENO;
+mod two_points;
 
 // The next scene that walkprint is to print: none, or one more than its bytes.
-fn print_scene() {
-    let n = input::number(2) as usize;
+fn print_scene<R: Input + Print>(rt: &R) {
+    let n = input::number(rt, 2) as usize;
     if 0 < n {
-        print::print_scene(n - 1);
+        print::print_scene(rt, n - 1);
     }
 }
 
-fn print_line(d: u64) {
-    io::print_hex(STDOUT_FILENO, d, 16);
-    io::write_all(STDOUT_FILENO, b"\n");
+fn print_line(rt: &impl Print, d: u64) {
+    let _ = println!(rt; "{d:016x}");
 }
 
 // What changes from case to case is a run of the scene's bytes and one of the sheet's.
-fn main() {
+fn main(rt: HostRuntime) {
     let mut scene = [0u8; 24576];
     let mut sheet = [0u8; 356];
-    let count = input::number(2);
+    let count = input::number(&rt, 2);
     for _ in 0..count {
-        print_scene();
-        sheet::change(&mut scene);
-        sheet::change(&mut sheet);
-        print_line(case::read(&scene, &sheet));
+        print_scene(&rt);
+        sheet::change(&rt, &mut scene);
+        sheet::change(&rt, &mut sheet);
+        print_line(&rt, case::read(&scene, &sheet));
     }
 }

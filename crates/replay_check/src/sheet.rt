@@ -1,5 +1,4 @@
 // The sheet that says what is asked of a scene: a list of waypoints from byte 0 on, then numbers at the places below.
-use libc::STDIN_FILENO;
 
 // What is asked: 0 two points, 1 the list, 2 a search.
 pub(crate) const KIND: usize = 256;
@@ -48,10 +47,10 @@ pub(crate) fn front(s: &[u8], n: usize) -> &[u8] {
 }
 
 // The next change: a place, a length, and so many bytes, which are read over those at the place.
-pub(crate) fn change(held: &mut [u8]) {
-    let at = input::number(2) as usize;
-    let end = at + input::number(2) as usize;
+pub(crate) fn change(rt: &impl Input, held: &mut [u8]) {
+    let at = input::number(rt, 2) as usize;
+    let end = at + input::number(rt, 2) as usize;
     if end <= held.len() {
-        io::read_full(STDIN_FILENO, &mut held[at..end]);
+        input::take(rt, end - at, &mut held[at..end]);
     }
 }
