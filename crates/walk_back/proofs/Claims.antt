@@ -152,6 +152,11 @@ module _ (sp : Space) (r : Request) (body : Body) (list : List ℕ) where
   by_tests {fault} false true false false true true true false e = let z : WrongStart ≡ fault = cc in rw (← z) tt
   by_tests false true false false true true true true e = by_going (going_on sp r body list) refl e
 
+  -- the tests of a list, as the definition has them
+  tests : walked_list sp r body list ≡ cond (bad_list list) (No BadList) (cond (not (in_range r r.goal)) (No GoalOutOfRange) (cond (not (standable sp body r.start)) (No StartNotStandable) (cond (not (standable sp body r.goal)) (No GoalNotStandable) (cond (not (starts r.start (waypoint_at list 0))) (No WrongStart) (walked_by sp r body (going_on sp r body list))))))
+  unfolding walked_list
+  tests = refl
+
 module _ (w : Window) (cells perms shapes boxes : List ℕ) (r : Request) (body : Body) (list : List ℕ) where
   abbrev sp : Space
   sp = space w cells perms shapes boxes
@@ -160,14 +165,14 @@ module _ (w : Window) (cells perms shapes boxes : List ℕ) (r : Request) (body 
   pub first_in_order : walked_order (walked w cells perms shapes boxes r body list) ≡ first_failing
       (bad_world w cells shapes boxes ∷ not (valid_request r body) ∷ sizes_too_large r body ∷ bad_list list ∷ not (in_range r r.goal) ∷ not (standable sp body r.start)
       ∷ not (standable sp body r.goal) ∷ not (starts r.start (waypoint_at list 0)) ∷ [])
-  unfolding walked walked_list
+  unfolding walked
   first_in_order =
-      in_order sp r body list (bad_world w cells shapes boxes) (valid_request r body) (sizes_too_large r body) (bad_list list) (in_range r r.goal) (standable sp body r.start) (standable sp body r.goal)
-      (starts r.start (waypoint_at list 0)) (walked_by sp r body (going_on sp r body list)) (behind sp r body list (going_on sp r body list))
+      rw (tests sp r body list) (in_order sp r body list (bad_world w cells shapes boxes) (valid_request r body) (sizes_too_large r body) (bad_list list) (in_range r r.goal) (standable sp body r.start) (standable sp body r.goal)
+      (starts r.start (waypoint_at list 0)) (walked_by sp r body (going_on sp r body list)) (behind sp r body list (going_on sp r body list)))
 
   -- Of the pairs it tells the first that is none of the graph's, with its place, or behind them all the end.
   pub pairs_told : {fault : Fault} → walked w cells perms shapes boxes r body list ≡ No fault → PairsTold sp r body list fault
-  unfolding walked walked_list
+  unfolding walked
   pairs_told e =
       by_tests sp r body list (bad_world w cells shapes boxes) (valid_request r body) (sizes_too_large r body) (bad_list list) (in_range r r.goal) (standable sp body r.start) (standable sp body r.goal)
-      (starts r.start (waypoint_at list 0)) e
+      (starts r.start (waypoint_at list 0)) (rw (tests sp r body list) at e)
