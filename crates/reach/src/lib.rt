@@ -8,8 +8,7 @@ ghost use Rattle.rooms.specs.Records.{node_at};
 ghost use Rattle.rooms.specs.Rooms.{nobody};
 ghost use Rattle.rooms.specs.Writes.{WroteNode, WroteEntry};
 ghost use Rattle.costs.specs.Costs.{cost_by};
-ghost use Rattle.visits.proofs.Laws.Visits.{child_record};
-ghost use Rattle.visits.specs.Visits.{Ready, Seen, counts_by, says_closed, is_shut, VisitedIf};
+ghost use Rattle.visits.specs.Visits.{Ready, Seen, counts_by, says_closed, is_shut, VisitedIf, child_record};
 
 use costs::{cheaper, cost_by, estimate, lowered, pushed_as};
 use rooms::{Counts, Entry, Feet, Label, NodeRecord};

@@ -1,2 +1,2 @@
--- The way of an edge. What a reader must believe: Ways. What the code goes by: Laws.
+-- The way of an edge. What a reader must believe: Ways. What the code goes by: proofs/Laws.
 pub mod Ways
