@@ -1,9 +1,8 @@
 -- The number by which each answer is known. 8 is 01's refusal BadTable, and 0 says that nothing was refused; passages are told apart by 0, 1 and 2, which no call gives back.
-use Rattle.std.specs.Prelude.{ℕ}
+use Rattle.std.specs.Prelude.{ℕ, Result, Ok, Err}
 use Rattle.policy.specs.declared.doors.Passage.{Passage}
 use Rattle.policy.specs.declared.doors.Passage.TheVariants.{Shape, Through, Wall}
-use Rattle.policy.specs.declared.policy.Filled.{Filled}
-use Rattle.policy.specs.declared.policy.Filled.TheVariants.{Whole, BadTable}
+use Rattle.policy.specs.declared.policy.BadTable.{BadTable}
 
 abbrev pub shape : ℕ
 shape = 0
@@ -20,6 +19,6 @@ passage_number Through = through
 passage_number Wall = wall
 
 -- a filled table is no refusal
-abbrev pub filled_number : Filled → ℕ
-filled_number Whole = 0
-filled_number BadTable = 8
+abbrev pub filled_number : Result (Unit {0}) BadTable → ℕ
+filled_number (Ok _) = 0
+filled_number (Err _) = 8

@@ -1,10 +1,9 @@
 -- Each answer's number tells it apart: a contract that gives it allows one answer. Assumes nothing.
-use Rattle.std.specs.Prelude.{◌≡◌, refl}
+use Rattle.std.specs.Prelude.{◌≡◌, refl, Result, Ok, Err}
 use Rattle.std.proofs.Common.{arith}
 use Rattle.policy.specs.declared.doors.Passage.{Passage}
 use Rattle.policy.specs.declared.doors.Passage.TheVariants.{Shape, Through, Wall}
-use Rattle.policy.specs.declared.policy.Filled.{Filled}
-use Rattle.policy.specs.declared.policy.Filled.TheVariants.{Whole, BadTable}
+use Rattle.policy.specs.declared.policy.BadTable.{BadTable}
 use Rattle.policy.specs.Answers.{passage_number, filled_number}
 
 pub one_passage : (a b : Passage) → passage_number a ≡ passage_number b → a ≡ b
@@ -18,8 +17,8 @@ one_passage Wall Shape e = absurd (omega arith)
 one_passage Wall Through e = absurd (omega arith)
 one_passage Wall Wall e = refl
 
-pub one_filled : (a b : Filled) → filled_number a ≡ filled_number b → a ≡ b
-one_filled Whole Whole e = refl
-one_filled Whole BadTable e = absurd (omega arith)
-one_filled BadTable Whole e = absurd (omega arith)
-one_filled BadTable BadTable e = refl
+pub one_filled : (a b : Result (Unit {0}) BadTable) → filled_number a ≡ filled_number b → a ≡ b
+one_filled (Ok _) (Ok _) e = refl
+one_filled (Ok _) (Err _) e = absurd (omega arith)
+one_filled (Err _) (Ok _) e = absurd (omega arith)
+one_filled (Err _) (Err _) e = refl

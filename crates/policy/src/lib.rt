@@ -8,4 +8,4 @@ pub mod policy;
 
 pub use doors::Passage;
 pub use flags::Flags;
-pub use policy::{Filled, WalkPolicy};
+pub use policy::{BadTable, WalkPolicy};

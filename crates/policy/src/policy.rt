@@ -35,13 +35,9 @@ pub struct WalkPolicy {
     pub door_breaker: bool,
 }
 
-// What filling a permission table answers: the whole of it is filled, or its length is another than
-// the flag table's (8).
+// The refusal of tables of two lengths (01's 8).
 #[derive(Clone, Copy)]
-pub enum Filled {
-    Whole,
-    BadTable,
-}
+pub struct BadTable;
 
 impl WalkPolicy {
     // How a state with these flags is met.
@@ -88,17 +84,17 @@ impl WalkPolicy {
     }
 
     // The permission byte of each flag byte, in a table of the same length; else nothing is written.
-    pub fn fill_permissions(self, in_water: bool, flags: &[u8], permissions: &mut [u8]) -> Filled
+    pub fn fill_permissions(self, in_water: bool, flags: &[u8], permissions: &mut [u8]) -> Result<(), BadTable>
         ensures answer { filled_number result ≡ filled flags.now permissions.old }
         ensures written { permissions.new ≡ permission_table self in_water flags.now permissions.old }
     {
         if flags.len() != permissions.len() {
-            return Filled::BadTable;
+            return Err(BadTable);
         }
         for i in 0..flags.len() {
             let bits = flags[i];
             permissions[i] = self.permission(in_water, Flags { bits });
         }
-        Filled::Whole
+        Ok(())
     }
 }
