@@ -1,16 +1,14 @@
 -- What a search's answers give tells them apart, because each can be read back: a contract that says it allows one answer. Assumes nothing.
-use Rattle.std.specs.Prelude.{◌≡◌, refl, false, cond, List, [], ◌∷◌, ℕ, eqb, get_or}
+use Rattle.std.specs.Prelude.{◌≡◌, refl, false, cond, List, [], ◌∷◌, ℕ, eqb, get_or, Ok, Err}
 use Rattle.std.proofs.Common.{sym, ap, ◌∙◌}
 use Rattle.rooms.specs.declared.Counts.{Counts}
 use Rattle.outcomes.specs.declared.Outcome.{Outcome}
 use Rattle.outcomes.specs.declared.Outcome.TheVariants.{Found, Unreachable, BudgetExceeded, BadWorld, TooLarge, NoRoom}
 use Rattle.outcomes.specs.declared.Answer.{Answer}
-use Rattle.outcomes.specs.declared.Path.{Path}
-use Rattle.outcomes.specs.declared.Path.TheVariants.{Searched, BadTable}
-use Rattle.outcomes.specs.declared.Tick.{Tick}
-use Rattle.outcomes.specs.declared.Tick.TheVariants.{Refused, BadProgress, Searching, Ended}
-use Rattle.outcomes.specs.Outcomes.{outcome_number, path_number, answer_given, path_given}
-use Rattle.outcomes.specs.Ticks.{tick_number, tick_given}
+use Rattle.outcomes.specs.declared.Slice.TheVariants.{Searching, Ended}
+use Rattle.outcomes.specs.declared.Refusal.TheVariants.{Judged, BadProgress}
+use Rattle.outcomes.specs.Outcomes.{Path, outcome_number, answer_given, path_given}
+use Rattle.outcomes.specs.Ticks.{Tick, tick_given}
 
 -- ---- an outcome, by its number
 
@@ -46,9 +44,9 @@ answer_back a = ap (λ (o : Outcome). record { outcome = o; count = a.count; ret
 pub one_answer : (a b : Answer) → answer_given a ≡ answer_given b → a ≡ b
 one_answer a b e = sym (answer_back a) ∙ ap answer e ∙ answer_back b
 
--- ---- of a mob's search: BadTable has no outcome's number
+-- ---- of a mob's search: 8 is no outcome's number
 
-other : (o : Outcome) → eqb (outcome_number o) (path_number BadTable) ≡ false
+other : (o : Outcome) → eqb (outcome_number o) 8 ≡ false
 other Found = refl
 other Unreachable = refl
 other BudgetExceeded = refl
@@ -57,12 +55,12 @@ other TooLarge = refl
 other NoRoom = refl
 
 abbrev path : ℕ × List ℕ → Path
-path (n, values) = cond (eqb n (path_number BadTable)) BadTable (Searched (answer (n, values)))
+path (n, values) = cond (eqb n 8) (Err (record {})) (Ok (answer (n, values)))
 
 path_back : (p : Path) → path (path_given p) ≡ p
 unfolding path_given answer_given
-path_back (Searched a) = rw (other a.outcome) (ap Searched (answer_back a))
-path_back BadTable = refl
+path_back (Ok a) = rw (other a.outcome) (ap Ok (answer_back a))
+path_back (Err e) = refl
 
 pub one_path : (a b : Path) → path_given a ≡ path_given b → a ≡ b
 one_path a b e = sym (path_back a) ∙ ap path e ∙ path_back b
@@ -73,13 +71,13 @@ abbrev counts_from : List ℕ → Counts
 counts_from values = record { retained = get_or values 1 0; closed = get_or values 2 0; pushed = get_or values 3 0; dropped = get_or values 4 0 }
 
 abbrev tick_from : ℕ → List ℕ → Tick
-tick_from n [] = cond (eqb n (tick_number BadProgress)) BadProgress (Refused (outcome n))
-tick_from n (count ∷ counts) = cond (eqb n 100) (Searching (counts_from (count ∷ counts))) (Ended (outcome n) count (counts_from (count ∷ counts)))
+tick_from n [] = Err (cond (eqb n 12) BadProgress (Judged (outcome n)))
+tick_from n (count ∷ counts) = Ok (cond (eqb n 100) (Searching (counts_from (count ∷ counts))) (Ended (outcome n) count (counts_from (count ∷ counts))))
 
 abbrev tick : ℕ × List ℕ → Tick
 tick (n, values) = tick_from n values
 
-not_progress : (o : Outcome) → eqb (outcome_number o) (tick_number BadProgress) ≡ false
+not_progress : (o : Outcome) → eqb (outcome_number o) 12 ≡ false
 not_progress Found = refl
 not_progress Unreachable = refl
 not_progress BudgetExceeded = refl
@@ -97,10 +95,10 @@ not_searching NoRoom = refl
 
 tick_back : (t : Tick) → tick (tick_given t) ≡ t
 unfolding tick_given
-tick_back (Refused o) = rw (not_progress o) (ap Refused (outcome_back o))
-tick_back BadProgress = refl
-tick_back (Searching c) = refl
-tick_back (Ended o n c) = rw (not_searching o) (ap (λ (p : Outcome). Ended p n c) (outcome_back o))
+tick_back (Err (Judged o)) = rw (not_progress o) (ap (λ (p : Outcome). Err (Judged p)) (outcome_back o))
+tick_back (Err BadProgress) = refl
+tick_back (Ok (Searching c)) = refl
+tick_back (Ok (Ended o n c)) = rw (not_searching o) (ap (λ (p : Outcome). Ok (Ended p n c)) (outcome_back o))
 
 pub one_tick : (a b : Tick) → tick_given a ≡ tick_given b → a ≡ b
 one_tick a b e = sym (tick_back a) ∙ ap tick e ∙ tick_back b

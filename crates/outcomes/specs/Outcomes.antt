@@ -1,15 +1,14 @@
 -- 01's outcomes and their numbers ("Numbers given back"), what an answer gives, and what the end of a run is told as. Definitions only.
-use Rattle.std.specs.Prelude.{ℕ, zero, suc, List, [], ◌∷◌, length}
+use Rattle.std.specs.Prelude.{ℕ, zero, suc, List, [], ◌∷◌, length, Result, Ok, Err}
 use Rattle.exploration.specs.Explore as explore
 use Rattle.rooms.specs.declared.Feet.{Feet}
 use Rattle.rooms.specs.declared.Label.{Label}
 use Rattle.rooms.specs.declared.Counts.{Counts}
 use Rattle.rooms.specs.Lists.{list_of}
+use Rattle.policy.specs.declared.policy.BadTable.{BadTable}
 use Rattle.outcomes.specs.declared.Outcome.{Outcome}
 use Rattle.outcomes.specs.declared.Outcome.TheVariants.{Found, Unreachable, BudgetExceeded, BadWorld, TooLarge, NoRoom}
 use Rattle.outcomes.specs.declared.Answer.{Answer}
-use Rattle.outcomes.specs.declared.Path.{Path}
-use Rattle.outcomes.specs.declared.Path.TheVariants.{Searched, BadTable}
 use Rattle.outcomes.specs.declared.Turn.{Turn}
 use Rattle.outcomes.specs.declared.Turn.TheVariants.{Rest, Going, At, By}
 
@@ -22,10 +21,14 @@ outcome_number BadWorld = 3
 outcome_number TooLarge = 4
 outcome_number NoRoom = 5
 
--- of a mob's search: "`find_path` gives the outcome number", or the table's 8 BadTable
+-- what a mob's search answers: the search's answer, or that the flag and permission tables differ in length
+abbrev pub Path : Type 0
+Path = Result Answer BadTable
+
+-- of it: "`find_path` gives the outcome number", or the table's 8 BadTable
 abbrev pub path_number : Path → ℕ
-path_number (Searched a) = outcome_number a.outcome
-path_number BadTable = 8
+path_number (Ok a) = outcome_number a.outcome
+path_number (Err e) = 8
 
 -- the theory's outcome in 01's words; no search ends `Searching` (claims, `a_search_ends`), which is told as 2 for want of another
 abbrev pub told_by : explore.Outcome (Feet × Label) → Outcome
@@ -54,8 +57,8 @@ answer_given a = (outcome_number a.outcome, a.count ∷ a.retained ∷ a.closed 
 
 -- of a mob's search the same; 8 has no values
 unfoldable pub path_given : Path → ℕ × List ℕ
-path_given (Searched a) = answer_given a
-path_given BadTable = (path_number BadTable, [])
+path_given (Ok a) = answer_given a
+path_given (Err e) = (path_number (Err e), [])
 
 -- ---- the end of a run
 

@@ -1,5 +1,5 @@
 -- What a search in slices answers (02, No. 10), and what it leaves in its rooms. Definitions only.
-use Rattle.std.specs.Prelude.{ℕ, ◌*◌, ◌≡◌, List, [], ◌∷◌, ◌++◌, length, drop, replicate}
+use Rattle.std.specs.Prelude.{ℕ, ◌*◌, ◌≡◌, List, [], ◌∷◌, ◌++◌, length, drop, replicate, Result, Ok, Err}
 use Rattle.exploration.specs.Policy.{Node}
 use Rattle.exploration.specs.Explore as explore
 use Rattle.exploration.specs.Explore.{State}
@@ -8,18 +8,24 @@ use Rattle.rooms.specs.declared.Label.{Label}
 use Rattle.rooms.specs.declared.Counts.{Counts}
 use Rattle.rooms.specs.Lists.{list_bytes}
 use Rattle.rooms.specs.Rooms.{Note, state_of, node_room, front_room, counts_in}
-use Rattle.outcomes.specs.declared.Tick.{Tick}
-use Rattle.outcomes.specs.declared.Tick.TheVariants.{Refused, BadProgress, Searching, Ended}
+use Rattle.outcomes.specs.declared.Slice.{Slice}
+use Rattle.outcomes.specs.declared.Slice.TheVariants.{Searching, Ended}
+use Rattle.outcomes.specs.declared.Refusal.{Refusal}
+use Rattle.outcomes.specs.declared.Refusal.TheVariants.{Judged, BadProgress}
 use Rattle.outcomes.specs.Outcomes.{outcome_number, told_by, list_in}
 
 -- ---- what an answer gives
 
+-- a slice of the search, or why it was refused
+abbrev pub Tick : Type 0
+Tick = Result Slice Refusal
+
 -- 01's numbers, 02's 12 BadProgress, and for "still searching" a number of our own
 abbrev pub tick_number : Tick → ℕ
-tick_number (Refused o) = outcome_number o
-tick_number BadProgress = 12
-tick_number (Searching c) = 100
-tick_number (Ended o n c) = outcome_number o
+tick_number (Err (Judged o)) = outcome_number o
+tick_number (Err BadProgress) = 12
+tick_number (Ok (Searching c)) = 100
+tick_number (Ok (Ended o n c)) = outcome_number o
 
 -- "the counts (retained, closed, pushed, dropped)"
 abbrev pub counts_given : Counts → List ℕ
@@ -27,10 +33,9 @@ counts_given c = c.retained ∷ c.closed ∷ c.pushed ∷ c.dropped ∷ []
 
 -- An answer without an expansion has no values (1 to 5 of begin, but for its 100; 3, 1, 4, 5 and 12 of continue); else they are the list's count, which is 0 while the search goes on, and the counts.
 unfoldable pub tick_given : Tick → ℕ × List ℕ
-tick_given (Refused o) = (tick_number (Refused o), [])
-tick_given BadProgress = (tick_number BadProgress, [])
-tick_given (Searching c) = (tick_number (Searching c), 0 ∷ counts_given c)
-tick_given (Ended o n c) = (tick_number (Ended o n c), n ∷ counts_given c)
+tick_given (Err r) = (tick_number (Err r), [])
+tick_given (Ok (Searching c)) = (tick_number (Ok (Searching c)), 0 ∷ counts_given c)
+tick_given (Ok (Ended o n c)) = (tick_number (Ok (Ended o n c)), n ∷ counts_given c)
 
 -- ---- what a call leaves
 
@@ -47,10 +52,10 @@ nothing_written t nodes front out = record { tick = t; nodes = nodes; front = fr
 
 -- "it answers the outcome or 'still searching'", with the counts
 abbrev pub tick_by : explore.Outcome (Feet × Label) → Counts → Tick
-tick_by (explore.Found t) c = Ended (told_by (explore.Found t)) (length t) c
-tick_by explore.Unreachable c = Ended (told_by explore.Unreachable) 0 c
-tick_by explore.BudgetExceeded c = Ended (told_by explore.BudgetExceeded) 0 c
-tick_by explore.Searching c = Searching c
+tick_by (explore.Found t) c = Ok (Ended (told_by (explore.Found t)) (length t) c)
+tick_by explore.Unreachable c = Ok (Ended (told_by explore.Unreachable) 0 c)
+tick_by explore.BudgetExceeded c = Ok (Ended (told_by explore.BudgetExceeded) 0 c)
+tick_by explore.Searching c = Ok (Searching c)
 
 -- "The frontier room is zeroed when it ends."
 abbrev pub front_by : explore.Outcome (Feet × Label) → List ℕ → List (Node Feet Label Note) → List ℕ
@@ -79,7 +84,6 @@ pub record Gives (h : Ticked) (t : Tick) (nodes front out : List ℕ) : Type 0 w
 
 -- while the search goes on, its rooms and counts, read as a state, are that state: so the next call goes on from it
 abbrev pub GoesFrom : State Feet Label Note ℕ → Tick → List ℕ → List ℕ → Type 0
-GoesFrom s (Refused o) nodes front = Unit {0}
-GoesFrom s BadProgress nodes front = Unit {0}
-GoesFrom s (Searching c) nodes front = state_of nodes front c ≡ s
-GoesFrom s (Ended o n c) nodes front = Unit {0}
+GoesFrom s (Err r) nodes front = Unit {0}
+GoesFrom s (Ok (Searching c)) nodes front = state_of nodes front c ≡ s
+GoesFrom s (Ok (Ended o n c)) nodes front = Unit {0}

@@ -2,7 +2,8 @@
 #![tactic(auto)]
 
 ghost use Rattle.std.specs.Prelude.{◌≡◌};
-ghost use Rattle.outcomes.specs.Outcomes.{outcome_number, answer_given, unsearched, counts_of, end_quiet, answer_of};
+ghost use Rattle.outcomes.specs.declared.Refusal.TheVariants.{Judged};
+ghost use Rattle.outcomes.specs.Outcomes.{outcome_number, unsearched, counts_of, end_quiet, answer_of};
 
 use rooms::{Counts, Label};
 
@@ -26,13 +27,6 @@ pub struct Answer {
     pub closed: u64,
 }
 
-// What a mob's search answers: the search's answer (0 to 5), or that the flag and permission tables differ in length (8).
-#[derive(Clone, Copy)]
-pub enum Path {
-    Searched(Answer),
-    BadTable,
-}
-
 // What one expansion comes to: nothing waits; the search goes on; the list ends at a node; or by a connector from there, with its label.
 #[derive(Clone, Copy)]
 pub enum Turn {
@@ -42,33 +36,48 @@ pub enum Turn {
     By(Counts, usize, Label),
 }
 
-// What a search in slices answers (02, No. 10): a refusal of 01's; 12 BadProgress; still searching, with the counts; or its end: the outcome, how many points
-// the list has that was written, and the counts.
+// What a call of a search in slices comes to where it was not refused (02, No. 10): still searching, with the counts; or its end: the outcome, how many points
+// the list has that was written, and the counts. Such a call answers Result<Slice, Refusal>.
 #[derive(Clone, Copy)]
-pub enum Tick {
-    Refused(Outcome),
-    BadProgress,
+pub enum Slice {
     Searching(Counts),
     Ended(Outcome, usize, Counts),
 }
 
+// Why such a call was refused: a refusal of 01's; or 12 BadProgress.
+#[derive(Clone, Copy)]
+pub enum Refusal {
+    Judged(Outcome),
+    BadProgress,
+}
+
+impl From<Outcome> for Refusal {
+    ghost from_gives = { λ outcome refusal. refusal ≡ Judged outcome };
+
+    fn from(outcome: Outcome) -> Refusal {
+        Refusal::Judged(outcome)
+    }
+}
+
 // 01's number of an outcome.
-pub fn number_of(outcome: Outcome) -> u64
-    ensures { result ≡ outcome_number outcome }
-{
-    match outcome {
-        Outcome::Found => 0,
-        Outcome::Unreachable => 1,
-        Outcome::BudgetExceeded => 2,
-        Outcome::BadWorld => 3,
-        Outcome::TooLarge => 4,
-        Outcome::NoRoom => 5,
+impl From<Outcome> for u64 {
+    ghost from_gives = { λ outcome number. number ≡ outcome_number outcome };
+
+    fn from(outcome: Outcome) -> u64 {
+        match outcome {
+            Outcome::Found => 0,
+            Outcome::Unreachable => 1,
+            Outcome::BudgetExceeded => 2,
+            Outcome::BadWorld => 3,
+            Outcome::TooLarge => 4,
+            Outcome::NoRoom => 5,
+        }
     }
 }
 
 // The answer where no search began.
 pub fn without_search(outcome: Outcome) -> Answer
-    ensures { answer_given result ≡ answer_given (unsearched outcome) }
+    ensures { result ≡ unsearched outcome }
 {
     Answer {
         outcome,
@@ -80,7 +89,7 @@ pub fn without_search(outcome: Outcome) -> Answer
 
 // The answer of a search that found no list: nothing waits any more.
 pub fn verdict(c: Counts) -> Answer
-    ensures { answer_given result ≡ answer_given (answer_of c (end_quiet c.dropped)) }
+    ensures { result ≡ answer_of c (end_quiet c.dropped) }
 {
     let outcome = if c.dropped == 0 {
         Outcome::Unreachable
