@@ -1,6 +1,6 @@
 -- A closing, the start and a visit have one result: two that meet the same contract are the same, answer and both rooms. The theory fixes the state, a state
 -- fixes the counts and the records, and `Kept` fixes the bytes past the records.
-use Rattle.std.specs.Prelude.{◌≡◌, Bool, true, false, ℕ, zero, suc, ◌*◌, ◌≤◌, length}
+use Rattle.std.specs.Prelude.{◌≡◌, Option, Some, None, Bool, true, false, ℕ, zero, suc, ◌*◌, ◌≤◌, length}
 use Rattle.std.proofs.Math.Path.{refl, sym, ap}
 use Rattle.std.proofs.Common.{◌∙◌, arith, List, []}
 use Rattle.std.proofs.Math.Option.{none}
@@ -19,8 +19,6 @@ use Rattle.rooms.specs.Rooms.{Note, node_of, node_in, nodes_of, state_of, node_r
 use Rattle.rooms.proofs.Laws.Rooms.{node_room_lem, front_room_lem}
 use Rattle.visits.specs.declared.Aim.{Aim}
 use Rattle.visits.specs.declared.Closing.{Closing}
-use Rattle.visits.specs.declared.Visit.{Visit}
-use Rattle.visits.specs.declared.Visit.TheVariants.{Closed as ToClosed, Counted}
 use Rattle.visits.specs.Best.{best}
 use Rattle.visits.specs.Visits.{ready, Kept, Untouched, counts_by, says_closed, found_at, Visited, VisitedIf, ClosedIf, Started}
 use Rattle.visits.proofs.Laws.Visits.{ready_is}
@@ -95,11 +93,11 @@ VisitedOr aim k from c j to label r a f b g =
     (ready (length a) (length f) aim.budget k c ≡ true → Visited aim k from c j to label r a f b g)
     × (ready (length a) (length f) aim.budget k c ≡ false → Untouched c r a f b g)
 
-one_answer : (c : Counts) (v w : Visit) → says_closed v ≡ says_closed w → counts_by c v ≡ counts_by c w → v ≡ w
-one_answer c ToClosed ToClosed p q = refl
-one_answer c ToClosed (Counted s) p q = absurd (true_false refl p)
-one_answer c (Counted r) ToClosed p q = absurd (true_false p refl)
-one_answer c (Counted r) (Counted s) p q = ap Counted q
+one_answer : (c : Counts) (v w : Option Counts) → says_closed v ≡ says_closed w → counts_by c v ≡ counts_by c w → v ≡ w
+one_answer c None None p q = refl
+one_answer c None (Some s) p q = absurd (true_false refl p)
+one_answer c (Some r) None p q = absurd (true_false p refl)
+one_answer c (Some r) (Some s) p q = ap Some q
 
 -- the start has one result, whatever the rooms
 pub one_start : {budget : ℕ} {start : Feet} {r₁ r₂ : Counts} {a f b₁ g₁ b₂ g₂ : List ℕ} →
@@ -136,7 +134,7 @@ module _ {a f b₁ g₁ b₂ g₂ : List ℕ} (l₁ : Lent a f b₁ g₁) (l₂ 
         }
 
     -- and in its answer
-    pub one_visit : {v₁ v₂ : Visit} →
+    pub one_visit : {v₁ v₂ : Option Counts} →
         VisitedIf aim k from c j to label v₁ a f b₁ g₁ → VisitedIf aim k from c j to label v₂ a f b₂ g₂ → (v₁ ≡ v₂) × (b₁ ≡ b₂) × (g₁ ≡ g₂)
     one_visit {v₁} {v₂} x y =
         let z = one_visited (x.done, x.left) (y.done, y.left) in (one_answer c v₁ v₂ (x.closed ∙ sym y.closed) z.0, z.1, z.2)

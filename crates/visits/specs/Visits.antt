@@ -1,6 +1,6 @@
 -- What one step, one closing and the start make of the rooms: the theory's visit, close and begin, of the state that the rooms are. Definitions only.
-use Rattle.std.specs.Prelude.{◌≡◌, Bool, true, false, not, ◌&&◌, cond, List, ◌≢◌, ℕ, ◌+◌, ◌*◌, ◌/◌, ◌^◌, ◌≤◌, ◌<◌, ltb, leb, eqb, length, drop}
-use Rattle.std.proofs.Math.Option.{Option, none, some}
+use Rattle.std.specs.Prelude.{◌≡◌, Option, Some, None, Bool, true, false, not, ◌&&◌, cond, List, ◌≢◌, ℕ, ◌+◌, ◌*◌, ◌/◌, ◌^◌, ◌≤◌, ◌<◌, ltb, leb, eqb, length, drop}
+use Rattle.std.proofs.Math.Option.{Option as Maybe, none, some}
 use Rattle.exploration.specs.Graph.{Graph}
 use Rattle.exploration.specs.Policy.{Node}
 use Rattle.exploration.specs.Explore.{apply, effect_known, effect_at, close, begin}
@@ -15,8 +15,6 @@ use Rattle.rooms.specs.Rooms.{Note, nobody, node_in, state_of}
 use Rattle.rooms.specs.Writes.{PutNode, PutEntry}
 use Rattle.visits.specs.declared.Aim.{Aim}
 use Rattle.visits.specs.declared.Closing.{Closing}
-use Rattle.visits.specs.declared.Visit.{Visit}
-use Rattle.visits.specs.declared.Visit.TheVariants.{Closed as ToClosed, Counted}
 use Rattle.costs.specs.Costs.{pushed_as}
 use Rattle.visits.specs.Best.{relaxed, best}
 
@@ -78,19 +76,19 @@ pub record Seen (aim : Aim) (k : ℕ) (c : Counts) (j cost : ℕ) (to : Feet) (l
   pub near : Near aim.budget 1 c r
 
 -- the counts that a visit answers: at a closed node those from before
-abbrev pub counts_by : Counts → Visit → Counts
-counts_by c ToClosed = c
-counts_by c (Counted r) = r
+abbrev pub counts_by : Counts → Option Counts → Counts
+counts_by c None = c
+counts_by c (Some r) = r
 
-abbrev pub says_closed : Visit → Bool
-says_closed ToClosed = true
-says_closed (Counted r) = false
+abbrev pub says_closed : Option Counts → Bool
+says_closed None = true
+says_closed (Some r) = false
 
 abbrev pub is_shut : NodeRecord → Bool
 is_shut r = not (eqb r.closed 0)
 
 -- what a lookup found among n nodes: node j, or none
-unfoldable pub found_at : List ℕ → List ℕ → ℕ → ℕ → Option (ℕ × Node Feet Label Note)
+unfoldable pub found_at : List ℕ → List ℕ → ℕ → ℕ → Maybe (ℕ × Node Feet Label Note)
 found_at a f n j = cond (ltb j n) (some (j, node_in a f j)) none
 
 -- whether it is a closed node
@@ -108,7 +106,7 @@ pub record Visited (aim : Aim) (k : ℕ) (from : NodeRecord) (c : Counts) (j : �
   pub near : Near aim.budget 1 c r
 
 -- and what it answers, on every input
-pub record VisitedIf (aim : Aim) (k : ℕ) (from : NodeRecord) (c : Counts) (j : ℕ) (to : Feet) (label : Label) (v : Visit) (a f b g : List ℕ) : Type 0 where
+pub record VisitedIf (aim : Aim) (k : ℕ) (from : NodeRecord) (c : Counts) (j : ℕ) (to : Feet) (label : Label) (v : Option Counts) (a f b g : List ℕ) : Type 0 where
   pub done : ready (length a) (length f) aim.budget k c ≡ true → Visited aim k from c j to label (counts_by c v) a f b g
   pub left : ready (length a) (length f) aim.budget k c ≡ false → Untouched c (counts_by c v) a f b g
   pub closed : says_closed v ≡ (ready (length a) (length f) aim.budget k c && shut_at a c.retained j)

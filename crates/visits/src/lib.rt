@@ -1,5 +1,6 @@
 // What one step of the search does to its rooms (01, "Search"): the definitions of a visit, a closing and the start, and the code of the last two. A visit
-// itself is the crate `reach`; `is_shut` tells beforehand that one would change nothing.
+// itself is the crate `reach`, and answers an `Option<Counts>`: None where its point is that of a closed node, and nothing changes; else the counts after.
+// `is_shut` tells beforehand that a visit would change nothing.
 //
 // `close` and `begin` answer for every input. Where the rooms are too small for the budget, or the counts are no counts of such a search, `close` leaves all
 // as it is.
@@ -9,6 +10,7 @@ ghost use Rattle.std.specs.Prelude.{◌≡◌};
 ghost use Rattle.visits.specs.Visits.{ready, shut_at, ClosedIf, Started};
 
 use rooms::{Counts, Entry, Feet, Label, NodeRecord};
+use world::Point;
 
 // What is searched: how many nodes may be retained, and the goal.
 #[derive(Clone, Copy)]
@@ -24,11 +26,12 @@ pub struct Closing {
     pub counts: Counts,
 }
 
-// What a visit comes to: its point is that of a closed node, and nothing changes; or the counts after.
+// The node that is expanded: its number, its record, and the point that its feet are read as.
 #[derive(Clone, Copy)]
-pub enum Visit {
-    Closed,
-    Counted(Counts),
+pub struct Place {
+    pub number: usize,
+    pub node: NodeRecord,
+    pub point: Point,
 }
 
 // Half of what a u64 can count: counts below it can grow.
@@ -60,8 +63,7 @@ pub fn close(nodes: &mut [u8], front: &mut [u8], aim: Aim, k: usize, c: Counts) 
     if !ready {
         return Closing { node, counts: c };
     }
-    let mut shut = node;
-    shut.closed = 1;
+    let shut = NodeRecord { closed: 1, ..node };
     let idle = Entry {
         estimate: 0,
         order: 0,
@@ -69,8 +71,10 @@ pub fn close(nodes: &mut [u8], front: &mut [u8], aim: Aim, k: usize, c: Counts) 
     };
     writes::put_node(nodes, k, shut);
     writes::put_entry(front, k, idle);
-    let mut counts = c;
-    counts.closed += 1;
+    let counts = Counts {
+        closed: c.closed + 1,
+        ..c
+    };
     Closing { node, counts }
 }
 

@@ -1,8 +1,8 @@
 -- The paths of the code through one step, one closing and the start, each in the definitions' words; and how they compose.
-use Rattle.std.specs.Prelude.{◌≡◌, Bool, true, false, ◌&&◌, List, [], ◌∷◌, ◌++◌, ◌≢◌, ℕ, zero, suc, ◌+◌, ◌*◌, ◌/◌, ◌^◌, ◌≤◌, ◌<◌, eqb, length}
+use Rattle.std.specs.Prelude.{◌≡◌, Option, Some, Bool, true, false, ◌&&◌, List, [], ◌∷◌, ◌++◌, ◌≢◌, ℕ, zero, suc, ◌+◌, ◌*◌, ◌/◌, ◌^◌, ◌≤◌, ◌<◌, eqb, length}
 use Rattle.std.proofs.Math.Path.{refl, sym, ap}
 use Rattle.std.proofs.Common.{subst, ◌∙◌, add-one, Fits, arith, eq-eqb, ne_eqb, lt-ltb, le-ltb, le-leb, ltb-true, leb-true, eqb-true}
-use Rattle.std.proofs.Math.Option.{Option, none, some}
+use Rattle.std.proofs.Math.Option.{Option as Maybe, none, some}
 use Rattle.std.proofs.Math.Logic.{⊎_elim}
 use Rattle.std.proofs.Math.Dec.{ltb, leb}
 use Rattle.std.proofs.Math.ListN.{set}
@@ -25,8 +25,6 @@ use Rattle.rooms.specs.Writes.{WroteNode, WroteEntry}
 use Rattle.rooms.proofs.Laws.Rooms.{BySamePoint, nodes_set, nodes_more, seek_none, seek_some}
 use Rattle.rooms.proofs.Laws.Lists.{in_or_out}
 use Rattle.visits.specs.declared.Aim.{Aim}
-use Rattle.visits.specs.declared.Visit.{Visit}
-use Rattle.visits.specs.declared.Visit.TheVariants.{Counted}
 use Rattle.costs.specs.Costs.{cost_by, estimate_by, cheaper, pushed_as, lowered}
 use Rattle.visits.specs.Best.{opened, relaxed, best}
 pub use Rattle.visits.specs.Visits.{child_record}
@@ -186,10 +184,10 @@ module _ (aim : Aim) (k : ℕ) (c : Counts) (a f : List ℕ) (few : c.retained �
         ns = nodes_set p w c.retained hj ∙ ap (set (nodes_of c.retained a f) j) (child_node k (node_at a j).feet label cost _ hk)
 
   module _ (from : NodeRecord) (to : Feet) (label : Label) where
-    abbrev seeing : Graph Feet Label → Node Feet Label Note → Option (ℕ × Node Feet Label Note) → State Feet Label Note ℕ
+    abbrev seeing : Graph Feet Label → Node Feet Label Note → Maybe (ℕ × Node Feet Label Note) → State Feet Label Note ℕ
     seeing 𝓖 n o = apply aim.budget (state_of a f c) (effect_at 𝓖 (best aim.goal) k n c.pushed (to, label) o)
 
-    abbrev found : ℕ → Option (ℕ × Node Feet Label Note)
+    abbrev found : ℕ → Maybe (ℕ × Node Feet Label Note)
     found j = found_at a f c.retained j
 
     sought_none : (j : ℕ) → c.retained ≤ j → found j ≡ none
@@ -270,10 +268,10 @@ module _ (a : List ℕ) (n j : ℕ) where
   shut_none l = let z = le-ltb j n l in rw z
 
 module _ {aim : Aim} {k : ℕ} {from : NodeRecord} {c : Counts} {j : ℕ} {to : Feet} {label : Label} {a f : List ℕ} where
-  pub visited_if : {v : Visit} {b g : List ℕ} → ready (length a) (length f) aim.budget k c ≡ true → says_closed v ≡ shut_at a c.retained j → Visited aim k from c j to label (counts_by c v) a f b g → VisitedIf aim k from c j to label v a f b g
+  pub visited_if : {v : Option Counts} {b g : List ℕ} → ready (length a) (length f) aim.budget k c ≡ true → says_closed v ≡ shut_at a c.retained j → Visited aim k from c j to label (counts_by c v) a f b g → VisitedIf aim k from c j to label v a f b g
   visited_if p e x = record { done = λ h. x; left = λ h. absurd (true_false p h); closed = rw p e }
 
-  pub visited_not : ready (length a) (length f) aim.budget k c ≡ false → VisitedIf aim k from c j to label (Counted c) a f a f
+  pub visited_not : ready (length a) (length f) aim.budget k c ≡ false → VisitedIf aim k from c j to label (Some c) a f a f
   visited_not e = record { done = λ h. absurd (true_false h e); left = λ h. record { counts = refl; nodes = refl; front = refl }; closed = rw e refl }
 
   -- a step to a closed node changes nothing
