@@ -1,11 +1,9 @@
 -- The reader's answers: 01's number for each case of an enum, and its values.
-use Rattle.std.specs.Prelude.{ℕ, ◌&&◌, cond, List, leb, ltb, length}
+use Rattle.std.specs.Prelude.{ℕ, ◌&&◌, cond, List, leb, ltb, length, Result, Ok, Err}
 use Rattle.scene_state.specs.declared.state.Reading.{Reading}
 use Rattle.scene_state.specs.declared.state.Scene.{Scene}
-use Rattle.scene_state.specs.declared.state.Progress.{Progress}
-use Rattle.scene_state.specs.declared.state.Progress.TheVariants.{Going, BadScene, NoRoom}
-use Rattle.scene_state.specs.declared.state.SceneAnswer.{SceneAnswer}
-use Rattle.scene_state.specs.declared.state.SceneAnswer.TheVariants as scenes
+use Rattle.scene_state.specs.declared.state.SceneError.{SceneError}
+use Rattle.scene_state.specs.declared.state.SceneError.TheVariants.{BadScene, NoRoom}
 use Rattle.scene_state.specs.State.{empty, in_use}
 
 -- no refusal and its value, or a refusal's number and record: 0 unless 7
@@ -13,11 +11,15 @@ pub data Answer (A : Type 0) : Type 0 where
   given : A → Answer A
   refused : ℕ → ℕ → Answer A
 
--- what the good records so far say, 7 BadScene, or 5 NoRoom
-abbrev pub progress_answer : Progress → Answer Reading
-progress_answer (Going r) = given r
-progress_answer (BadScene k) = refused 7 k
-progress_answer NoRoom = refused 5 0
+-- a value, 7 BadScene, or 5 NoRoom
+abbrev pub answer_of : {A : Type 0} → Result A SceneError → Answer A
+answer_of (Ok x) = given x
+answer_of (Err (BadScene k)) = refused 7 k
+answer_of (Err NoRoom) = refused 5 0
+
+-- of the records so far: what the good ones say
+abbrev pub progress_answer : Result Reading SceneError → Answer Reading
+progress_answer = answer_of
 
 -- ---- 5 NoRoom: "a scene table's room below its largest size (before 7, nothing written)": 4,096 cells of 8 bytes, 256 permissions, 256 shapes of 8 bytes and
 -- 256 boxes of 48
@@ -40,7 +42,5 @@ scene_of (refused n k) = refused n k
 
 -- ---- of a whole scene: 0 and the scene, 7 BadScene, 5 NoRoom
 
-abbrev pub scene_answer : SceneAnswer → Answer Scene
-scene_answer (scenes.Whole x) = given x
-scene_answer (scenes.BadScene k) = refused 7 k
-scene_answer scenes.NoRoom = refused 5 0
+abbrev pub scene_answer : Result Scene SceneError → Answer Scene
+scene_answer = answer_of

@@ -1,34 +1,27 @@
 -- The numbers and values of the reader's answers tell them apart, because each can be read back: a contract that gives them allows one answer. Assumes nothing.
-use Rattle.std.specs.Prelude.{◌≡◌, refl, cond, eqb}
+use Rattle.std.specs.Prelude.{◌≡◌, refl, cond, eqb, Result, Ok, Err}
 use Rattle.std.proofs.Common.{sym, ap, ◌∙◌}
 use Rattle.scene_state.specs.declared.state.Reading.{Reading}
 use Rattle.scene_state.specs.declared.state.Scene.{Scene}
-use Rattle.scene_state.specs.declared.state.Progress.{Progress}
-use Rattle.scene_state.specs.declared.state.Progress.TheVariants.{Going, BadScene, NoRoom}
-use Rattle.scene_state.specs.declared.state.SceneAnswer.{SceneAnswer}
-use Rattle.scene_state.specs.declared.state.SceneAnswer.TheVariants as scenes
-use Rattle.scene_state.specs.Answers.{Answer, given, refused, progress_answer, scene_answer}
+use Rattle.scene_state.specs.declared.state.SceneError.{SceneError}
+use Rattle.scene_state.specs.declared.state.SceneError.TheVariants.{BadScene, NoRoom}
+use Rattle.scene_state.specs.Answers.{Answer, given, refused, answer_of, progress_answer, scene_answer}
 
-abbrev progress : Answer Reading → Progress
-progress (given r) = Going r
-progress (refused n k) = cond (eqb n 7) (BadScene k) NoRoom
+module _ {A : Type 0} where
+  abbrev read_back : Answer A → Result A SceneError
+  read_back (given x) = Ok x
+  read_back (refused n k) = Err (cond (eqb n 7) (BadScene k) NoRoom)
 
-progress_back : (a : Progress) → progress (progress_answer a) ≡ a
-progress_back (Going r) = refl
-progress_back (BadScene k) = refl
-progress_back NoRoom = refl
+  back : (a : Result A SceneError) → read_back (answer_of a) ≡ a
+  back (Ok x) = refl
+  back (Err (BadScene k)) = refl
+  back (Err NoRoom) = refl
 
-pub one_progress : (a b : Progress) → progress_answer a ≡ progress_answer b → a ≡ b
-one_progress a b e = sym (progress_back a) ∙ ap progress e ∙ progress_back b
+  pub one_answer : (a b : Result A SceneError) → answer_of a ≡ answer_of b → a ≡ b
+  one_answer a b e = sym (back a) ∙ ap read_back e ∙ back b
 
-abbrev scene : Answer Scene → SceneAnswer
-scene (given x) = scenes.Whole x
-scene (refused n k) = cond (eqb n 7) (scenes.BadScene k) scenes.NoRoom
+pub one_progress : (a b : Result Reading SceneError) → progress_answer a ≡ progress_answer b → a ≡ b
+one_progress a b e = one_answer a b e
 
-scene_back : (a : SceneAnswer) → scene (scene_answer a) ≡ a
-scene_back (scenes.Whole x) = refl
-scene_back (scenes.BadScene k) = refl
-scene_back scenes.NoRoom = refl
-
-pub one_scene : (a b : SceneAnswer) → scene_answer a ≡ scene_answer b → a ≡ b
-one_scene a b e = sym (scene_back a) ∙ ap scene e ∙ scene_back b
+pub one_scene : (a b : Result Scene SceneError) → scene_answer a ≡ scene_answer b → a ≡ b
+one_scene a b e = one_answer a b e

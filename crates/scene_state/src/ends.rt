@@ -3,7 +3,7 @@ ghost use Rattle.std.specs.Prelude.{◌≡◌};
 ghost use Rattle.scene_state.specs.State.{in_use, empty};
 ghost use Rattle.scene_state.specs.Answers.{progress_answer, begun, scene_answer, scene_of};
 
-use crate::state::{InUse, Progress, Reading, Scene, SceneAnswer};
+use crate::state::{InUse, Reading, Scene, SceneError};
 use scene_rules::Counts;
 use world::{Body, Point, Request, Window};
 
@@ -51,15 +51,20 @@ fn empty() -> Reading
     }
 }
 
-// Whether the lent tables have room for any scene; nothing is written.
-pub fn begin(cells: &[u8], perms: &[u8], shapes: &[u8], boxes: &[u8]) -> Progress
+// The state before the first record, if the lent tables have room for any scene; nothing is written.
+pub fn begin(
+    cells: &[u8],
+    perms: &[u8],
+    shapes: &[u8],
+    boxes: &[u8],
+) -> Result<Reading, SceneError>
     ensures { progress_answer result ≡ begun cells.now perms.now shapes.now boxes.now }
 {
     let room = (32768 <= cells.len()) & (256 <= perms.len());
     if room & (2048 <= shapes.len()) & (12288 <= boxes.len()) {
-        return Progress::Going(empty());
+        return Ok(empty());
     }
-    Progress::NoRoom
+    Err(SceneError::NoRoom)
 }
 
 // How many bytes of each table are in use.
@@ -76,25 +81,17 @@ fn in_use(c: Counts) -> InUse
 
 // What stands where the input ends: a scene and the part of each lent table that it made, or a refusal. One of the first three records may be missing.
 #[tactic(auto, unfolding(crate::specs::Answers::ended, crate::specs::Answers::scene_of))]
-pub fn end(progress: Progress) -> SceneAnswer
+pub fn end(progress: Result<Reading, SceneError>) -> Result<Scene, SceneError>
     ensures { scene_answer result ≡ scene_of (progress_answer progress) }
 {
-    match progress {
-        Progress::Going(state) => {
-            if state.kind < 3 {
-                return SceneAnswer::BadScene(state.number);
-            }
-            let request = state.request;
-            let body = state.body;
-            let window = state.window;
-            SceneAnswer::Whole(Scene {
-                request,
-                body,
-                window,
-                in_use: in_use(state.counts),
-            })
-        }
-        Progress::BadScene(number) => SceneAnswer::BadScene(number),
-        Progress::NoRoom => SceneAnswer::NoRoom,
+    let state = progress?;
+    if state.kind < 3 {
+        return Err(SceneError::BadScene(state.number));
     }
+    Ok(Scene {
+        request: state.request,
+        body: state.body,
+        window: state.window,
+        in_use: in_use(state.counts),
+    })
 }

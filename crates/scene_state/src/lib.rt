@@ -1,4 +1,4 @@
-// What has been read of a scene (01, "Scenes and walkprint"), a state by value: `state` has the types and the reader's answers, `ends` judges the rooms
+// What has been read of a scene (01, "Scenes and walkprint"), a state by value: `state` has the types and the refusals, `ends` judges the rooms
 // before the first record and says what stands where the input ends.
 #![tactic(auto)]
 
@@ -6,4 +6,4 @@ mod ends;
 pub mod state;
 
 pub use ends::{begin, end};
-pub use state::{InUse, Progress, Reading, Scene, SceneAnswer};
+pub use state::{InUse, Reading, Scene, SceneError};

@@ -1,4 +1,4 @@
-// What has been read of a scene (01, "Scenes and walkprint"), and the reader's answers.
+// What has been read of a scene (01, "Scenes and walkprint"), and why a scene is refused.
 use scene_rules::Counts;
 use world::{Body, Request, Window};
 
@@ -14,10 +14,9 @@ pub struct Reading {
     pub counts: Counts,
 }
 
-// How far a scene has been read: what the good records so far say; 7 BadScene with the number of the first bad record; or 5 NoRoom.
+// Why a scene is refused: 7 BadScene with the number of the first bad record; or 5 NoRoom.
 #[derive(Clone, Copy)]
-pub enum Progress {
-    Going(Reading),
+pub enum SceneError {
     BadScene(u64),
     NoRoom,
 }
@@ -38,12 +37,4 @@ pub struct Scene {
     pub body: Body,
     pub window: Window,
     pub in_use: InUse,
-}
-
-// What reading a whole scene answers: the scene; 7 BadScene with the number of the first bad record; or 5 NoRoom.
-#[derive(Clone, Copy)]
-pub enum SceneAnswer {
-    Whole(Scene),
-    BadScene(u64),
-    NoRoom,
 }
