@@ -1,19 +1,13 @@
 -- What a movement, an edge and an edge check give tells them apart, because each can be read back: a contract that says it allows one answer. Assumes nothing.
-use Rattle.std.specs.Prelude.{◌≡◌, refl, cond, List, [], ◌∷◌, ℕ, eqb, ltb, Float, get_or}
+use Rattle.std.specs.Prelude.{◌≡◌, refl, cond, List, [], ◌∷◌, ℕ, eqb, ltb, Float, get_or, Option, Some, None, Result, Ok, Err}
 use Rattle.std.proofs.Common.{sym, ap, ◌∙◌}
 use Rattle.floats.specs.Floats.{nought}
 use Rattle.world.specs.declared.Point.{Point}
 use Rattle.moves.specs.declared.answer.Movement.{Movement}
 use Rattle.moves.specs.declared.answer.Movement.TheVariants.{Walk, Step, Jump, Drop}
-use Rattle.moves.specs.declared.answer.Moving.{Moving}
-use Rattle.moves.specs.declared.answer.Moving.TheVariants.{By, None}
-use Rattle.moves.specs.declared.answer.EdgeAnswer.{EdgeAnswer}
-use Rattle.moves.specs.declared.answer.EdgeAnswer.TheVariants.{To, Nowhere}
 use Rattle.moves.specs.declared.answer.Waypoint.{Waypoint}
 use Rattle.moves.specs.declared.answer.Reason.{Reason}
 use Rattle.moves.specs.declared.answer.Reason.TheVariants.{TooHigh, TooDeep, TargetOutOfRange, RaisedOutOfRange, TargetNotStandable, LiftBlocked, CrossingBlocked, SettleBlocked, Unsupported}
-use Rattle.moves.specs.declared.answer.EdgeCheck.{EdgeCheck}
-use Rattle.moves.specs.declared.answer.EdgeCheck.TheVariants.{Passes, Fails}
 use Rattle.moves.specs.Moves.{moved_number, none_number, moving_given, Values, no_values, waypoint_given, edge_given, reason_number, check_given}
 
 abbrev movement : ℕ → Movement
@@ -21,18 +15,18 @@ movement n = cond (eqb n (moved_number Walk)) Walk (cond (eqb n (moved_number St
 
 -- ---- a movement, by its number and its lift
 
-abbrev moving : ℕ × List Float → Moving
-moving (n, values) = cond (eqb n none_number) None (By (movement n) (get_or values 0 nought))
+abbrev moving : ℕ × List Float → Option (Movement × Float)
+moving (n, values) = cond (eqb n none_number) None (Some (movement n, get_or values 0 nought))
 
-moving_back : (a : Moving) → moving (moving_given a) ≡ a
+moving_back : (a : Option (Movement × Float)) → moving (moving_given a) ≡ a
 unfolding moving_given
-moving_back (By Walk lift) = refl
-moving_back (By Step lift) = refl
-moving_back (By Jump lift) = refl
-moving_back (By Drop lift) = refl
+moving_back (Some (Walk, lift)) = refl
+moving_back (Some (Step, lift)) = refl
+moving_back (Some (Jump, lift)) = refl
+moving_back (Some (Drop, lift)) = refl
 moving_back None = refl
 
-pub one_moving : (a b : Moving) → moving_given a ≡ moving_given b → a ≡ b
+pub one_moving : (a b : Option (Movement × Float)) → moving_given a ≡ moving_given b → a ≡ b
 one_moving a b e = sym (moving_back a) ∙ ap moving e ∙ moving_back b
 
 -- ---- an edge, by its number, its waypoint's four, and its door
@@ -53,21 +47,21 @@ by_movement feet lift door Step = refl
 by_movement feet lift door Jump = refl
 by_movement feet lift door Drop = refl
 
-abbrev edge : ℕ × Values → EdgeAnswer
-edge (n, values) = cond (eqb n none_number) Nowhere (To (waypoint n values))
+abbrev edge : ℕ × Values → Option Waypoint
+edge (n, values) = cond (eqb n none_number) None (Some (waypoint n values))
 
-edge_back : (a : EdgeAnswer) → edge (edge_given a) ≡ a
+edge_back : (a : Option Waypoint) → edge (edge_given a) ≡ a
 unfolding edge_given
-edge_back (To w) = moved w.movement ∙ ap To (by_movement w.feet w.lift w.door w.movement)
+edge_back (Some w) = moved w.movement ∙ ap Some (by_movement w.feet w.lift w.door w.movement)
   where
-    moved : (m : Movement) → cond (eqb (moved_number m) none_number) Nowhere (To (waypoint (moved_number m) (waypoint_given w))) ≡ To (waypoint (moved_number m) (waypoint_given w))
+    moved : (m : Movement) → cond (eqb (moved_number m) none_number) None (Some (waypoint (moved_number m) (waypoint_given w))) ≡ Some (waypoint (moved_number m) (waypoint_given w))
     moved Walk = refl
     moved Step = refl
     moved Jump = refl
     moved Drop = refl
-edge_back Nowhere = refl
+edge_back None = refl
 
-pub one_edge : (a b : EdgeAnswer) → edge_given a ≡ edge_given b → a ≡ b
+pub one_edge : (a b : Option Waypoint) → edge_given a ≡ edge_given b → a ≡ b
 one_edge a b e = sym (edge_back a) ∙ ap edge e ∙ edge_back b
 
 -- ---- a reason, by its number; and an edge check, by its number, its waypoint's four, and its door
@@ -96,21 +90,21 @@ reason_back SettleBlocked = refl
 reason_back Unsupported = refl
 
 -- the numbers of edges are above those of reasons
-abbrev check : ℕ × Values → EdgeCheck
-check (n, values) = cond (ltb n (moved_number Walk)) (Fails (reason n)) (Passes (waypoint n values))
+abbrev check : ℕ × Values → Result Waypoint Reason
+check (n, values) = cond (ltb n (moved_number Walk)) (Err (reason n)) (Ok (waypoint n values))
 
-check_back : (a : EdgeCheck) → check (check_given a) ≡ a
+check_back : (a : Result Waypoint Reason) → check (check_given a) ≡ a
 unfolding check_given
-check_back (Passes w) = moved w.movement ∙ ap Passes (by_movement w.feet w.lift w.door w.movement)
+check_back (Ok w) = moved w.movement ∙ ap Ok (by_movement w.feet w.lift w.door w.movement)
   where
-    moved : (m : Movement) → check (moved_number m, waypoint_given w) ≡ Passes (waypoint (moved_number m) (waypoint_given w))
+    moved : (m : Movement) → check (moved_number m, waypoint_given w) ≡ Ok (waypoint (moved_number m) (waypoint_given w))
     moved Walk = refl
     moved Step = refl
     moved Jump = refl
     moved Drop = refl
-check_back (Fails why) = failed why ∙ ap Fails (reason_back why)
+check_back (Err why) = failed why ∙ ap Err (reason_back why)
   where
-    failed : (a : Reason) → check (reason_number a, no_values) ≡ Fails (reason (reason_number a))
+    failed : (a : Reason) → check (reason_number a, no_values) ≡ Err (reason (reason_number a))
     failed TooHigh = refl
     failed TooDeep = refl
     failed TargetOutOfRange = refl
@@ -121,5 +115,5 @@ check_back (Fails why) = failed why ∙ ap Fails (reason_back why)
     failed SettleBlocked = refl
     failed Unsupported = refl
 
-pub one_check : (a b : EdgeCheck) → check_given a ≡ check_given b → a ≡ b
+pub one_check : (a b : Result Waypoint Reason) → check_given a ≡ check_given b → a ≡ b
 one_check a b e = sym (check_back a) ∙ ap check e ∙ check_back b

@@ -6,7 +6,5 @@
 pub mod answer;
 mod lift;
 
-pub use answer::{
-    EdgeAnswer, EdgeCheck, Movement, Moving, Reason, Waypoint, movement_number, reason_number,
-};
+pub use answer::{Movement, Reason, Waypoint};
 pub use lift::{moving, step_height};
