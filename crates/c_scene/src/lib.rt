@@ -9,22 +9,22 @@ ghost use Rattle.scene_state.specs.Answers.{scene_answer};
 ghost use Rattle.c_scene.specs.Scenes.{scene_number, scene_written};
 
 use crate::made::put_scene;
-use scene_state::SceneAnswer;
+use scene_state::{Scene, SceneError};
 
 // 0, and the scene's record, where it fits; 7 BadScene, and the bad record's number in the first 8 bytes; or 5 NoRoom, and nothing is written.
-pub fn put_answer(a: SceneAnswer, made: &mut [u8]) -> u64
+pub fn put_answer(a: Result<Scene, SceneError>, made: &mut [u8]) -> u64
     ensures value { result ≡ scene_number (scene_answer a) }
     ensures made_after { made.new ≡ scene_written (scene_answer a) made.old }
 {
     match a {
-        SceneAnswer::Whole(x) => {
+        Ok(x) => {
             put_scene(x, made);
             0
         }
-        SceneAnswer::BadScene(k) => {
+        Err(SceneError::BadScene(k)) => {
             stores::put_u64(made, 0, k);
             7
         }
-        SceneAnswer::NoRoom => 5,
+        Err(SceneError::NoRoom) => 5,
     }
 }

@@ -6,7 +6,7 @@ ghost use Rattle.std.specs.Prelude.{◌≡◌, ◌<◌, length};
 ghost use Rattle.scene_state.specs.Answers.{scene_answer};
 ghost use Rattle.read_scene.specs.Whole.{record_count, record_at, read};
 
-use scene_state::SceneAnswer;
+use scene_state::{Scene, SceneError};
 
 // How many records so many bytes are, a last partial one counted.
 fn record_count(len: usize) -> usize
@@ -36,7 +36,7 @@ pub fn read_scene(
     perms: &mut [u8],
     shapes: &mut [u8],
     boxes: &mut [u8],
-) -> SceneAnswer
+) -> Result<Scene, SceneError>
     ensures result_value { scene_answer result ≡ (read bytes.now cells.old perms.old shapes.old boxes.old).answer }
     ensures cells_after { cells.new ≡ (read bytes.now cells.old perms.old shapes.old boxes.old).tables.cells }
     ensures perms_after { perms.new ≡ (read bytes.now cells.old perms.old shapes.old boxes.old).tables.perms }

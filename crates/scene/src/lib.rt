@@ -5,4 +5,4 @@
 mod reader;
 
 pub use reader::take_record;
-pub use scene_state::{InUse, Progress, Scene, SceneAnswer, begin, end};
+pub use scene_state::{InUse, Reading, Scene, SceneError, begin, end};

@@ -4,7 +4,7 @@ ghost use Rattle.scene_state.specs.Answers.{progress_answer};
 ghost use Rattle.scene.specs.Progress.{tables_of, further, tables_further};
 
 use scene_records::{byte_at, number_of};
-use scene_state::Progress;
+use scene_state::{Reading, SceneError};
 
 // The permission of state n.
 fn put_permission(perms: &mut [u8], n: u32, permission: u8)
@@ -19,26 +19,21 @@ fn put_permission(perms: &mut [u8], n: u32, permission: u8)
 // One record more: kind 3 makes all cells unfilled, kind 4 adds a box and counts it for its shape, kind 5 sets a permission, kind 6 fills. A bad record
 // writes nothing, and after a refusal nothing is read or written.
 pub fn take_record(
-    progress: Progress,
+    progress: Result<Reading, SceneError>,
     bytes: &[u8],
     cells: &mut [u8],
     perms: &mut [u8],
     shapes: &mut [u8],
     boxes: &mut [u8],
-) -> Progress
+) -> Result<Reading, SceneError>
     ensures answer { progress_answer result ≡ further (progress_answer progress) bytes.now }
     ensures cells { cells.new ≡ (tables_further (progress_answer progress) bytes.now (tables_of cells.old perms.old shapes.old boxes.old)).cells }
     ensures permissions { perms.new ≡ (tables_further (progress_answer progress) bytes.now (tables_of cells.old perms.old shapes.old boxes.old)).perms }
     ensures shapes { shapes.new ≡ (tables_further (progress_answer progress) bytes.now (tables_of cells.old perms.old shapes.old boxes.old)).shapes }
     ensures boxes { boxes.new ≡ (tables_further (progress_answer progress) bytes.now (tables_of cells.old perms.old shapes.old boxes.old)).boxes }
 {
-    let Progress::Going(state) = progress else {
-        return progress;
-    };
-    let after = scene_step::next_state(state, bytes);
-    let Progress::Going(next) = after else {
-        return after;
-    };
+    let state = progress?;
+    let next = scene_step::next_state(state, bytes)?;
     let kind = next.kind;
     let n = number_of(bytes);
     match kind {
@@ -52,5 +47,5 @@ pub fn take_record(
         6 => scene_fills::fill_cells(state.window, bytes, cells),
         _ => {}
     }
-    after
+    Ok(next)
 }

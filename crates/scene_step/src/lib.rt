@@ -9,15 +9,15 @@ ghost use Rattle.scene_state.specs.Answers.{progress_answer};
 ghost use Rattle.scene_step.specs.Next.{step};
 
 use scene_records::byte_at;
-use scene_state::{Progress, Reading};
+use scene_state::{Reading, SceneError};
 
 // The state behind the record, or 7 BadScene with the record's number.
-pub fn next_state(state: Reading, bytes: &[u8]) -> Progress
+pub fn next_state(state: Reading, bytes: &[u8]) -> Result<Reading, SceneError>
     ensures { progress_answer result ≡ step state bytes.now }
 {
     if !scene_rules::good_record(state.kind, state.counts, bytes) {
-        return Progress::BadScene(state.number);
+        return Err(SceneError::BadScene(state.number));
     }
     let kind = byte_at(bytes, 0);
-    Progress::Going(after::next(state, bytes, kind))
+    Ok(after::next(state, bytes, kind))
 }
