@@ -1,5 +1,5 @@
--- Laws of regions: a cursor begins with all cells, and each turn of it takes one of them.
-use Rattle.std.specs.Prelude.{ℕ, ◌<◌, ◌≡◌, Bool, ◌&&◌, cond, ℤ, ◌+ℤ◌, length}
+-- Laws of regions: a loop begins with all cells, and each turn of it takes one of them.
+use Rattle.std.specs.Prelude.{◌≡◌, Option, Some, None, Bool, ◌&&◌, cond, ℤ, ◌+ℤ◌}
 use Rattle.std.proofs.Common.{arith, sym, ◌∙◌}
 use Rattle.std.proofs.Math.Path.{refl, ap}
 use Rattle.std.proofs.Math.Bool.{true, false}
@@ -9,49 +9,12 @@ use Rattle.std.specs.Int.Signed.{lt_z, le_z}
 use Rattle.regions.specs.declared.Range.{Range}
 use Rattle.regions.specs.declared.Region.{Region}
 use Rattle.regions.specs.declared.Spot.{Spot}
-use Rattle.regions.specs.declared.Cursor.{Cursor}
 use Rattle.cells.specs.Parts.{sum, lt_yes, lt_no, le_yes, le_is}
-use Rattle.regions.specs.Ranges.{along}
-use Rattle.regions.specs.Regions.{cells_of, first_in, next_in}
+use Rattle.regions.specs.Regions.{cells_of, first_in, next_in, row_from, layer_from, layers_from, from, to_come, Within, Inside, Proper}
 use Rattle.regions.specs.RangeLaws.{along_more, along_none, along_empty}
 
--- ---- what is left from a cell on
-
-module _ (r : Region) where
-  -- the cells of a row from x on, those of a layer from the row z on, and those from the layer y on
-  row_from : ℤ → ℤ → ℤ → List Spot
-  row_from y z x = along (λ k. record { x = k; y = y; z = z } ∷ []) x r.xs.last
-
-  layer_from : ℤ → ℤ → List Spot
-  layer_from y z = along (λ k. row_from y k r.xs.first) z r.zs.last
-
-  layers_from : ℤ → List Spot
-  layers_from y = along (λ k. layer_from k r.zs.first) y r.ys.last
-
-  -- the rest of the cell's row, of its layer, and of the region
-  from : Spot → List Spot
-  from p = row_from p.y p.z p.x ++ (layer_from p.y (p.z +ℤ pos 1) ++ layers_from (p.y +ℤ pos 1))
-
-  -- what a cursor has before it
-  pub to_come : Cursor → List Spot
-  to_come c = cond c.more (from c.at) []
-
--- a number is one of a range, and a cell one of a region
-pub record Within (r : Range) (k : ℤ) : Type 0 where
-  pub low : le_z r.first k ≡ true
-  pub high : le_z k r.last ≡ true
-
-pub record Inside (r : Region) (p : Spot) : Type 0 where
-  pub y : Within r.ys p.y
-  pub z : Within r.zs p.z
-  pub x : Within r.xs p.x
-
--- a cursor's cell, if there is more, is one of the region
-abbrev pub Proper : Region → Cursor → Type 0
-Proper r c = c.more ≡ true → Inside r c.at
-
--- a cursor follows a cell: the cells from that one on are it and those that the cursor has before it
-abbrev Follows : Region → Spot → Cursor → Type 0
+-- a loop's next cell follows one: the cells from that one on are it and those that the loop then has before it
+abbrev Follows : Region → Spot → Option Spot → Type 0
 Follows r p c = (from r p ≡ p ∷ to_come r c) × Proper r c
 
 -- ---- the number after one of a range, and the first of a range
@@ -127,25 +90,22 @@ module _ (r : Region) where
 
   -- ---- the first cell
 
-  none_left : (p : Spot) → Proper r (record { at = p; more = false })
-  none_left p t = absurd (let z : ◌≡◌ {A = ℕ} 0 1 = cc in omega arith)
-
-  begins : (to_come r (first_in r) ≡ cells_of r) × Proper r (first_in r)
-  unfolding to_come cells_of first_in layers_from layer_from row_from
+  pub begins : (to_come r (first_in r) ≡ cells_of r) × Proper r (first_in r)
+  unfolding cells_of first_in layers_from layer_from row_from
   begins = go (le_z r.ys.first r.ys.last) refl (le_z r.zs.first r.zs.last) refl (le_z r.xs.first r.xs.last) refl
     where
       first : Spot
       first = corner r.ys.first r.zs.first
 
       go : (a : Bool) → le_z r.ys.first r.ys.last ≡ a → (b : Bool) → le_z r.zs.first r.zs.last ≡ b → (c : Bool) → le_z r.xs.first r.xs.last ≡ c →
-          (cond (a && b && c) (from r first) [] ≡ layers_from r r.ys.first) × Proper r (record { at = first; more = a && b && c })
+          (to_come r (cond (a && b && c) (Some first) None) ≡ layers_from r r.ys.first) × Proper r (cond (a && b && c) (Some first) None)
       go true p true q true s = (
         sym (layers_from_lem r.ys.first p q),
-        λ t. record { y = first_within r.ys p; z = first_within r.zs q; x = first_within r.xs s },
+        record { y = first_within r.ys p; z = first_within r.zs q; x = first_within r.xs s },
       )
-      go true p true q false s = (sym (no_layers (λ y. no_rows s y r.zs.first) r.ys.first), none_left first)
-      go true p false q c s = (sym (no_layers (λ y. layer_none y r.zs.first q) r.ys.first), none_left first)
-      go false p b q c s = (sym (layers_none r.ys.first p), none_left first)
+      go true p true q false s = (sym (no_layers (λ y. no_rows s y r.zs.first) r.ys.first), tt)
+      go true p false q c s = (sym (no_layers (λ y. layer_none y r.zs.first q) r.ys.first), tt)
+      go false p b q c s = (sym (layers_none r.ys.first p), tt)
 
   -- ---- the next cell: of its row, else of its layer, else of the layer above, else none
 
@@ -153,9 +113,9 @@ module _ (r : Region) where
     row_next : row_from r p.y p.z p.x ≡ p ∷ row_from r p.y p.z (p.x +ℤ pos 1)
     row_next = row_more p.y p.z p.x h.x.high
 
-    next_x : lt_z p.x r.xs.last ≡ true → Follows r p (record { at = record { x = p.x +ℤ pos 1; y = p.y; z = p.z }; more = true })
-    unfolding from to_come
-    next_x e = (rw row_next, λ t. record { y = h.y; z = h.z; x = next_within r.xs p.x h.x e })
+    next_x : lt_z p.x r.xs.last ≡ true → Follows r p (Some (record { x = p.x +ℤ pos 1; y = p.y; z = p.z }))
+    unfolding from
+    next_x e = (rw row_next, record { y = h.y; z = h.z; x = next_within r.xs p.x h.x e })
 
     module _ (e : lt_z p.x r.xs.last ≡ false) where
       -- the row ends with this cell
@@ -166,11 +126,10 @@ module _ (r : Region) where
       first_x : Within r.xs r.xs.first
       first_x = first_within r.xs (some_first r.xs p.x h.x)
 
-      next_z : lt_z p.z r.zs.last ≡ true → Follows r p (record { at = corner p.y (p.z +ℤ pos 1); more = true })
-      unfolding to_come
+      next_z : lt_z p.z r.zs.last ≡ true → Follows r p (Some (corner p.y (p.z +ℤ pos 1)))
       next_z f = (
         row_ends ∙ ap (λ (l : List Spot). p ∷ l) (layer_from_lem p.y (p.z +ℤ pos 1) (below_next r.zs p.z f)),
-        λ t. record { y = h.y; z = next_within r.zs p.z h.z f; x = first_x },
+        record { y = h.y; z = next_within r.zs p.z h.z f; x = first_x },
       )
 
       module _ (f : lt_z p.z r.zs.last ≡ false) where
@@ -178,16 +137,14 @@ module _ (r : Region) where
         layer_ends : from r p ≡ p ∷ layers_from r (p.y +ℤ pos 1)
         layer_ends = row_ends ∙ rw (layer_none p.y (p.z +ℤ pos 1) (past_last r.zs p.z f))
 
-        next_y : lt_z p.y r.ys.last ≡ true → Follows r p (record { at = corner (p.y +ℤ pos 1) r.zs.first; more = true })
-        unfolding to_come
+        next_y : lt_z p.y r.ys.last ≡ true → Follows r p (Some (corner (p.y +ℤ pos 1) r.zs.first))
         next_y g = (
           layer_ends ∙ ap (λ (l : List Spot). p ∷ l) (layers_from_lem (p.y +ℤ pos 1) (below_next r.ys p.y g) (some_first r.zs p.z h.z)),
-          λ t. record { y = next_within r.ys p.y h.y g; z = first_within r.zs (some_first r.zs p.z h.z); x = first_x },
+          record { y = next_within r.ys p.y h.y g; z = first_within r.zs (some_first r.zs p.z h.z); x = first_x },
         )
 
-        next_none : lt_z p.y r.ys.last ≡ false → Follows r p (record { at = corner p.y r.zs.first; more = false })
-        unfolding to_come
-        next_none g = (layer_ends ∙ rw (layers_none (p.y +ℤ pos 1) (past_last r.ys p.y g)), none_left (corner p.y r.zs.first))
+        next_none : lt_z p.y r.ys.last ≡ false → Follows r p None
+        next_none g = (layer_ends ∙ rw (layers_none (p.y +ℤ pos 1) (past_last r.ys p.y g)), tt)
 
     follows : Follows r p (next_in r p)
     unfolding next_in
@@ -199,25 +156,7 @@ module _ (r : Region) where
         go false e false f true g = rw (e, f, g) (next_y e f g)
         go false e false f false g = rw (e, f, g) (next_none e f g)
 
--- ---- a loop with a cursor: its beginning, its end, and a turn of it
+-- ---- a turn of a loop takes the next cell of those that are left, and leaves the others
 
-pub begun : (r : Region) (c : Cursor) → c ≡ first_in r → (to_come r c ≡ cells_of r) × Proper r c
-begun r c e = rw e (begins r)
-
-pub ended : (r : Region) (c : Cursor) → c.more ≡ false → to_come r c ≡ []
-unfolding to_come
-ended r c e = rw e
-
-module _ (r : Region) (c d : Cursor) (proper : Proper r c) (next : d ≡ next_in r c.at) (more : c.more ≡ true) where
-  turn : Follows r c.at d
-  turn = rw next (follows r c.at (proper more))
-
-  pub taken : to_come r c ≡ c.at ∷ to_come r d
-  unfolding to_come
-  taken = rw more turn.0
-
-  pub still_proper : Proper r d
-  still_proper = turn.1
-
-  pub fewer : length (to_come r d) < length (to_come r c)
-  fewer = rw taken (omega arith)
+pub turn : (r : Region) (c d : Option Spot) (p : Spot) → c ≡ Some p → Proper r c → d ≡ next_in r p → (to_come r c ≡ p ∷ to_come r d) × Proper r d
+turn r c d p e h n = let i : Inside r p = rw e at h in rw (e, n) (follows r p i)

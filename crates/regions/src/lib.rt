@@ -1,13 +1,17 @@
 // The cells that a body's spans reach (01, The graph): along an axis from the first one to the last one, and on three axes one after the other.
 //
 // 01 names such cells from floor(min) to ceil(max) - 1, or to the floor of the span's high end, and in y some layers below the span's low end. One loop goes
-// through the cells of a region: it begins with `first_in`, and goes on with `next_in` as long as the cursor says that there is a cell.
+// through the cells of a region: `for at in region.cells()`.
 #![tactic(auto)]
 
-ghost use Rattle.std.specs.Prelude.{◌≡◌, pos, ◌-ℤ◌};
+ghost use Rattle.std.specs.Prelude.{◌≡◌, pos, ◌-ℤ◌, List};
+ghost use Rattle.std.specs.Iterator.{YieldsFirst, item_count};
 ghost use Rattle.cells.specs.Cells.{floor_cell, ceil_cell};
 ghost use Rattle.regions.specs.Ranges.{range};
-ghost use Rattle.regions.specs.Regions.{first_in, next_in};
+ghost use Rattle.regions.specs.declared.Spot.{Spot};
+ghost use Rattle.regions.specs.Regions.{cells_of, first_in, next_in, to_come, Proper};
+
+use std::marker::Model;
 
 // The cells along an axis: none where the last one is below the first.
 #[derive(Clone, Copy)]
@@ -50,46 +54,82 @@ pub struct Spot {
     pub z: i64,
 }
 
-// The cell that is next, if there is more.
-#[derive(Clone, Copy)]
-pub struct Cursor {
-    pub at: Spot,
-    pub more: bool,
-}
-
 // The first cell of a region, if there is one.
-pub fn first_in(r: Region) -> Cursor
+pub fn first_in(r: Region) -> Option<Spot>
     ensures { result ≡ first_in r }
 {
     let more = (r.ys.first <= r.ys.last) & (r.zs.first <= r.zs.last) & (r.xs.first <= r.xs.last);
-    let at = Spot {
-        x: r.xs.first,
-        y: r.ys.first,
-        z: r.zs.first,
-    };
-    Cursor { at, more }
+    if more {
+        Some(Spot {
+            x: r.xs.first,
+            y: r.ys.first,
+            z: r.zs.first,
+        })
+    } else {
+        None
+    }
 }
 
 // The cell after one, if there is one: a row goes along x, the rows of a layer along z, the layers along y.
-pub fn next_in(r: Region, at: Spot) -> Cursor
+pub fn next_in(r: Region, at: Spot) -> Option<Spot>
     ensures { result ≡ next_in r at }
 {
-    let mut x = at.x;
-    let mut y = at.y;
-    let mut z = at.z;
-    let mut more = true;
-    if x < r.xs.last {
-        x += 1;
+    let Spot { x, y, z } = at;
+    let Region { ys, zs, xs } = r;
+    if x < xs.last {
+        Some(Spot { x: x + 1, y, z })
+    } else if z < zs.last {
+        Some(Spot {
+            x: xs.first,
+            y,
+            z: z + 1,
+        })
+    } else if y < ys.last {
+        Some(Spot {
+            x: xs.first,
+            y: y + 1,
+            z: zs.first,
+        })
     } else {
-        x = r.xs.first;
-        if z < r.zs.last {
-            z += 1;
-        } else {
-            z = r.zs.first;
-            more = y < r.ys.last;
-            y += more as i64;
-        }
+        None
     }
-    let at = Spot { x, y, z };
-    Cursor { at, more }
+}
+
+impl Region {
+    // The cells of the region, for a loop: `for at in region.cells()`.
+    pub fn cells(self) -> Cells
+        ensures { result ≡ cells_of self }
+    {
+        let next = first_in(self);
+        Cells { region: self, next }
+    }
+}
+
+// An iterator of the cells of a region: contracts see it as the list of the cells that are left.
+#[derive(Drop)]
+pub struct Cells {
+    region: Region,
+    next: Option<Spot>,
+}
+
+impl Model for Cells {
+    ghost Value = { List Spot };
+
+    ghost view = { λ c. to_come c.region c.next };
+
+    ghost invariant = { λ c. Proper c.region c.next };
+}
+
+impl Iterator for Cells {
+    type Item = Spot;
+
+    ghost next_gives = { YieldsFirst (λ rest. rest) };
+
+    ghost remaining = { item_count (λ rest. rest) };
+
+    fn next(&mut self) -> Option<Spot> {
+        let at = self.next?;
+        self.next = next_in(self.region, at);
+        Some(at)
+    }
 }
