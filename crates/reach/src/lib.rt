@@ -11,8 +11,8 @@ ghost use Rattle.costs.specs.Costs.{cost_by};
 ghost use Rattle.visits.specs.Visits.{Ready, Seen, counts_by, says_closed, is_shut, VisitedIf, child_record};
 
 use costs::{cheaper, cost_by, estimate, lowered, pushed_as};
-use rooms::{Counts, Entry, Feet, Label, NodeRecord};
-use visits::{Aim, Visit};
+use rooms::{Counts, Entry, NodeRecord, WaypointRecord};
+use visits::{Aim, Place};
 
 // Node j written as an open node that is reached from node k, with its entry.
 fn put_open(
@@ -20,14 +20,14 @@ fn put_open(
     front: &mut [u8],
     j: usize,
     k: usize,
-    feet: Feet,
-    label: Label,
+    to: WaypointRecord,
     cost: u64,
     entry: Entry,
 )
     requires { (64 * j + 64 ≤ length nodes.old) × (24 * j + 24 ≤ length front.old) × (k < nobody) }
-    ensures { WroteNode nodes.old j (child_record k feet label cost) nodes.new × WroteEntry front.old j entry front.new }
+    ensures { WroteNode nodes.old j (child_record k to.feet to.label cost) nodes.new × WroteEntry front.old j entry front.new }
 {
+    let WaypointRecord { feet, label } = to;
     let node = NodeRecord {
         feet,
         label,
@@ -39,72 +39,78 @@ fn put_open(
     writes::put_entry(front, j, entry);
 }
 
-// A step from node k, which is `from`, to a point that is retained already, as node j. What it costs is worked out only for an open node: it takes a root.
+// A step from a node to a point that is retained already, as node j. What it costs is worked out only for an open node: it takes a root. The node keeps its
+// feet, which may have -0.0 where the step's have 0.0.
 fn again(
     nodes: &mut [u8],
     front: &mut [u8],
     aim: Aim,
-    k: usize,
-    from: NodeRecord,
-    mut c: Counts,
+    at: Place,
+    c: Counts,
     j: usize,
-    to: Feet,
-    label: Label,
-) -> Visit
+    to: WaypointRecord,
+) -> Option<Counts>
     requires ready { Ready nodes.old front.old aim.budget 1 c }
-    requires j_lt_retained { (j < c.retained) × (k < c.retained) }
-    ensures { Seen aim k c j (cost_by from.cost from.feet to) to label (counts_by c result) nodes.old front.old nodes.new front.new × (says_closed result ≡ is_shut (node_at nodes.old j)) }
+    requires j_lt_retained { (j < c.retained) × (at.number < c.retained) }
+    ensures { Seen aim at.number c j (cost_by at.node.cost at.node.feet to.feet) to.feet to.label (counts_by c result) nodes.old front.old nodes.new front.new × (says_closed result ≡ is_shut (node_at nodes.old j)) }
 {
     let old = rooms::get_node(nodes, j);
     if old.closed != 0 {
-        return Visit::Closed;
+        return None;
     }
-    let cost = cost_by(from.cost, from.feet, to);
+    let cost = cost_by(at.node.cost, at.node.feet, to.feet);
     let better = cheaper(cost, old.cost);
     if !better {
-        return Visit::Counted(c);
+        return Some(c);
     }
     let waiting = rooms::get_entry(front, j);
-    let e = estimate(aim.goal, cost, to);
+    let e = estimate(aim.goal, cost, to.feet);
     let entry = lowered(e, waiting, c.pushed);
-    let feet = old.feet;
-    put_open(nodes, front, j, k, feet, label, cost, entry);
-    c.pushed += 1;
-    Visit::Counted(c)
+    let taken = WaypointRecord {
+        feet: old.feet,
+        label: to.label,
+    };
+    put_open(nodes, front, j, at.number, taken, cost, entry);
+    Some(Counts {
+        pushed: c.pushed + 1,
+        ..c
+    })
 }
 
-// A step that an expansion of node k, which is `from`, found, to a point where a lookup found node j: such a node may be re-parented. A j that is not below the
-// retained nodes says that none is there: the point is retained while there is room, and else counted as dropped.
+// A step that an expansion of a node found, to a point where a lookup found node j: such a node may be re-parented. A j that is not below the retained nodes
+// says that none is there: the point is retained while there is room, and else counted as dropped. None where node j is closed: nothing changes.
 pub fn visit(
     nodes: &mut [u8],
     front: &mut [u8],
     aim: Aim,
-    k: usize,
-    from: NodeRecord,
-    mut c: Counts,
+    at: Place,
+    c: Counts,
     j: usize,
-    to: Feet,
-    label: Label,
-) -> Visit
-    ensures { VisitedIf aim k from c j to label result nodes.old front.old nodes.new front.new }
+    to: WaypointRecord,
+) -> Option<Counts>
+    ensures { VisitedIf aim at.number at.node c j to.feet to.label result nodes.old front.old nodes.new front.new }
 {
-    let ready = visits::is_ready(nodes.len(), front.len(), aim.budget, k, c);
+    let ready = visits::is_ready(nodes.len(), front.len(), aim.budget, at.number, c);
     if !ready {
-        return Visit::Counted(c);
+        return Some(c);
     }
     let n = c.retained;
     if j < n {
-        return again(nodes, front, aim, k, from, c, j, to, label);
+        return again(nodes, front, aim, at, c, j, to);
     }
     if aim.budget <= n {
-        c.dropped += 1;
-        return Visit::Counted(c);
+        return Some(Counts {
+            dropped: c.dropped + 1,
+            ..c
+        });
     }
-    let cost = cost_by(from.cost, from.feet, to);
-    let e = estimate(aim.goal, cost, to);
+    let cost = cost_by(at.node.cost, at.node.feet, to.feet);
+    let e = estimate(aim.goal, cost, to.feet);
     let entry = pushed_as(e, c.pushed);
-    put_open(nodes, front, n, k, to, label, cost, entry);
-    c.retained = n + 1;
-    c.pushed += 1;
-    Visit::Counted(c)
+    put_open(nodes, front, n, at.number, to, cost, entry);
+    Some(Counts {
+        retained: n + 1,
+        pushed: c.pushed + 1,
+        ..c
+    })
 }
