@@ -1,13 +1,11 @@
 -- Points and edges as words of records (01, Tables, "Waypoint record"): a point is three 64-bit patterns, a label a movement's number, a lift's pattern
 -- and a door (02, No. 5). Definitions only.
-use Rattle.std.specs.Prelude.{ℕ, Float}
-use Rattle.std.proofs.Math.Option.{Option, none, some}
+use Rattle.std.specs.Prelude.{ℕ, Float, Option, Some, None}
+use Rattle.std.proofs.Math.Option.{Option as Maybe, none, some}
 use Rattle.std.specs.Float.{binary64}
 use Rattle.std.specs.Float.Ieee.{of_bits, to_bits}
 use Rattle.world.specs.declared.Point.{Point}
 use Rattle.moves.specs.declared.answer.Waypoint.{Waypoint}
-use Rattle.moves.specs.declared.answer.EdgeAnswer.{EdgeAnswer}
-use Rattle.moves.specs.declared.answer.EdgeAnswer.TheVariants.{To, Nowhere}
 use Rattle.moves.specs.Moves.{movement_number}
 use Rattle.rooms.specs.declared.Feet.{Feet}
 use Rattle.rooms.specs.declared.Label.{Label}
@@ -29,6 +27,6 @@ label_of w = record { movement = movement_number w.movement; lift = to_bits bina
 unfoldable pub step_of : Waypoint → Feet × Label
 step_of w = (feet_of w.feet, label_of w)
 
-abbrev pub label_if : EdgeAnswer → Option Label
-label_if Nowhere = none
-label_if (To w) = some (label_of w)
+abbrev pub label_if : Option Waypoint → Maybe Label
+label_if None = none
+label_if (Some w) = some (label_of w)

@@ -9,6 +9,7 @@ use rooms::{Feet, Label};
 use world::Point;
 
 // The number of a pattern, with -0.0 as 0.
+#[tactic(auto, unfolding(crate::specs::Words::coordinate, rooms::specs::Waypoints::canonical_word))]
 fn coordinate(n: u64) -> f64
     ensures { result ≡ coordinate n }
 {
@@ -19,6 +20,7 @@ fn coordinate(n: u64) -> f64
 }
 
 // The point that feet stand for.
+#[tactic(auto, unfolding(crate::specs::Words::point_of))]
 pub fn point_of(p: Feet) -> Point
     ensures { result ≡ point_of p }
 {
@@ -30,6 +32,7 @@ pub fn point_of(p: Feet) -> Point
 }
 
 // The feet at a point, with its own bits.
+#[tactic(auto, unfolding(crate::specs::Words::feet_of))]
 pub fn feet_of(p: Point) -> Feet
     ensures { result ≡ feet_of p }
 {
@@ -41,13 +44,13 @@ pub fn feet_of(p: Point) -> Feet
 }
 
 // What an edge says of the point that it leads to.
+#[tactic(auto, unfolding(crate::specs::Words::label_of))]
 pub fn label_of(w: Waypoint) -> Label
     ensures { result ≡ label_of w }
 {
-    let m = w.movement;
     Label {
         lift: floats::bits_of(w.lift),
-        movement: moves::movement_number(m),
+        movement: u64::from(w.movement),
         door: w.door,
     }
 }
