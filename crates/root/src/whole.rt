@@ -38,8 +38,7 @@ pub(crate) fn whole_root(m: u64) -> u64
     let mut number = m << 10;
     let mut rest: u64 = 0;
     let mut root: u64 = 0;
-    let mut turn: u64 = 0;
-    while turn < 54 {
+    for _ in 0..54u64 {
         rest = (rest << 2) + (number >> 62);
         number = number << 2;
         let trial = (root << 2) + 1;
@@ -48,7 +47,6 @@ pub(crate) fn whole_root(m: u64) -> u64
             rest -= trial;
             root += 1;
         }
-        turn += 1;
     }
     root
 }
