@@ -1,12 +1,14 @@
 // The world (01, "Boxes" and "Tables"): points, boxes, and what stands in a cell.
 //
-// The types stand here, and `records` reads the tables; the cell at a place is the crate `space`, what is done with boxes is `boxes`. Every public function
-// answers for every input: a run of boxes ends where its table does.
+// The types stand here, `records` reads the tables, and `run` goes over a shape's boxes; the cell at a place is the crate `space`, what is done with boxes is
+// `boxes`. Every public function answers for every input: a run of boxes ends where its table does.
 #![tactic(auto)]
 
 mod records;
+mod run;
 
-pub use records::{box_at, boxes_from, entry_at, point_at, size_above};
+pub use records::{box_at, entry_at, point_at, size_above};
+pub use run::{Run, boxes_in};
 
 // A place in the world, or a difference of two.
 #[derive(Clone, Copy)]
@@ -55,34 +57,35 @@ pub struct Window {
     pub sz: u32,
 }
 
-// The two numbers of a record of 8 bytes, where there is one: a cell's state and shape, or a shape's first box and count.
+// A world as it is lent: where its cell table lies, the cells, a permission byte a state, the shapes, and the boxes.
 #[derive(Clone, Copy)]
-pub enum Entry {
-    Of(u32, u32),
-    Missing,
+pub struct World<'a> {
+    pub window: Window,
+    pub cells: &'a [u8],
+    pub perms: &'a [u8],
+    pub shapes: &'a [u8],
+    pub boxes: &'a [u8],
 }
 
-// What the tables say of a cell: whether a body may be in it, whether a body may stand on it, its run of box records, which has none where the cell does
-// not collide, whether it is such a cell, and the number of its state, which is its door then (02, No. 5).
+// What is asked of a world: a request, for a body.
 #[derive(Clone, Copy)]
-pub enum Cell {
-    Unknown,
-    Known {
-        occupied: bool,
-        support: bool,
-        first: u32,
-        count: u32,
-        through: bool,
-        state: u32,
-    },
+pub struct Query<'a> {
+    pub world: World<'a>,
+    pub request: Request,
+    pub body: Body,
+}
+
+// What the tables say of a cell that they know: whether a body may be in it, whether a body may stand on it, its run of box records, which has none where the
+// cell does not collide, whether it is such a cell, and the number of its state, which is its door then (02, No. 5).
+#[derive(Clone, Copy)]
+pub struct Cell {
+    pub occupied: bool,
+    pub support: bool,
+    pub first: u32,
+    pub count: u32,
+    pub through: bool,
+    pub state: u32,
 }
 
 // No door (02, No. 5).
 pub const NO_DOOR: u32 = 4294967295;
-
-// A box record, where there is one.
-#[derive(Clone, Copy)]
-pub enum Found {
-    Here(Aabb),
-    End,
-}

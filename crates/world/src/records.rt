@@ -1,9 +1,9 @@
-// The records of the tables (01, "Tables, little-endian records"): a window's sizes, an entry of 8 bytes, a point, and a shape's run of boxes. Each is read once.
-ghost use Rattle.std.specs.Prelude.{◌≡◌, ◌*◌, drop};
+// The records of the tables (01, "Tables, little-endian records"): a window's sizes, an entry of 8 bytes, a point. Each is read once.
+ghost use Rattle.std.specs.Prelude.{◌≡◌};
 ghost use Rattle.world.specs.Space.{entry_at, point_at, box_here};
 ghost use Rattle.world.specs.Sizes.{size_above};
 
-use crate::{Aabb, Entry, Found, Point, Window};
+use crate::{Aabb, Point, Window};
 
 // Whether a size of the window is above 256.
 pub fn size_above(w: Window) -> bool
@@ -13,27 +13,17 @@ pub fn size_above(w: Window) -> bool
 }
 
 // The two numbers of record i of a table of 8-byte records, by one read of 8 bytes: of the record's own part, which the compiler sees to be long enough.
-pub fn entry_at(s: &[u8], i: usize) -> Entry
+pub fn entry_at(s: &[u8], i: usize) -> Option<(u32, u32)>
     ensures { result ≡ entry_at s.now i }
 {
     if s.len() / 8 <= i {
-        return Entry::Missing;
+        return None;
     }
     let at = 8 * i;
     let both = fields::u64_at(&s[at..at + 8], 0);
     let low = (both % 4294967296) as u32;
     let high = (both / 4294967296) as u32;
-    Entry::Of(low, high)
-}
-
-// The part of the box table that starts at a shape's first record; where the table ends before it, the part is empty.
-pub fn boxes_from(boxes: &[u8], first: u32) -> &[u8]
-    ensures { result.now ≡ drop (48 * first) boxes.now }
-{
-    let from = 48 * (first as usize);
-    let end = boxes.len();
-    let start = if from < end { from } else { end };
-    &boxes[start..]
+    Some((low, high))
 }
 
 // The point whose three numbers stand from an offset on; an offset past the table is as good as its end.
@@ -50,13 +40,13 @@ pub fn point_at(s: &[u8], at: usize) -> Point
 }
 
 // The box record at an offset of the box table, or of a part of it.
-pub fn box_at(s: &[u8], at: usize) -> Found
+pub fn box_at(s: &[u8], at: usize) -> Option<Aabb>
     ensures { result ≡ box_here s.now at }
 {
     if !fields::fits(s.len(), at, 48) {
-        return Found::End;
+        return None;
     }
-    Found::Here(Aabb {
+    Some(Aabb {
         min: point_at(s, at),
         max: point_at(s, at + 24),
     })

@@ -1,7 +1,7 @@
 -- `world::records::box_at` meets its contract. Assumes nothing.
 use Rattle.std.proofs.Common.{arith, ◌+◌, ◌≤◌, sym, ap, ◌∙◌, length, leb-true}
 use Rattle.world.specs.Space.{box_here}
-use Rattle.world.specs.declared.Found.TheVariants.{Here}
+use Rattle.std.specs.Prelude.{Some}
 use Rattle.world.specs.Laws.{a_box, two_corners}
 use Rattle.world.proofs.records.box_at.Goals as goal
 use Rattle.world.proofs.records.box_at.Goals.{Else-not-fits}
@@ -19,4 +19,4 @@ overflow_add-at c = record { fits = omega (arith, room (goal.at.overflow_add-at 
 pub returns : goal.returns
 returns c =
     rw (c.point_at.ensures, c.point_at-2.ensures)
-    (ap Here (two_corners c.args.s.now c.args.at) ∙ sym (a_box c.args.s.now c.args.at (room (goal.at.returns c).Else-not-fits)))
+    (ap Some (two_corners c.args.s.now c.args.at) ∙ sym (a_box c.args.s.now c.args.at (room (goal.at.returns c).Else-not-fits)))
