@@ -1,6 +1,6 @@
 -- Laws of the cell table, as the code goes: a number against an origin and so many cells, the record of three such places, and a cell by the tests on the
 -- tables.
-use Rattle.std.specs.Prelude.{ℕ, zero, suc, ◌+◌, ◌*◌, ◌≤◌, ◌<◌, Bool, not, ◌&&◌, cond, List, T, leb, eqb, ℤ, pos, negsuc, ◌+ℤ◌, ◌-ℤ◌, nat_abs, length, get_or}
+use Rattle.std.specs.Prelude.{ℕ, zero, suc, ◌+◌, ◌*◌, ◌≤◌, ◌<◌, Bool, not, ◌&&◌, cond, List, T, leb, eqb, ℤ, pos, negsuc, ◌+ℤ◌, ◌-ℤ◌, nat_abs, length, get_or, Some, None}
 use Rattle.std.proofs.Common.{arith, mul-le-mul, sym, ◌∙◌, SFits, Fits}
 use Rattle.std.proofs.Math.Path.{◌≡◌, refl, ap}
 use Rattle.std.proofs.Math.Bool.{true, false}
@@ -10,7 +10,6 @@ use Rattle.std.specs.Int.Signed.{lt_z, le_z, non_neg}
 use Rattle.std.specs.Int.{w32, w64}
 use Rattle.cells.specs.Parts.{over, under, sum, difference, size, lt_yes, lt_no, le_yes, le_no, within, upper, lower, natural}
 use Rattle.world.specs.declared.Window.{Window}
-use Rattle.world.specs.declared.Cell.TheVariants.{Unknown}
 use Rattle.world.specs.Space.{Place, At, Out, place, onward, record_of, entry_at, entry_in, of_parts, known, known_by, cell_in}
 use Rattle.world.specs.Laws.{both}
 
@@ -193,11 +192,11 @@ by_entry cells perms shapes (At i) = refl
 by_entry cells perms shapes Out = refl
 
 module _ (perms shapes : List ℕ) (state shape : ℕ) where
-  pub no_state : length perms ≤ state → known perms shapes state shape ≡ Unknown
+  pub no_state : length perms ≤ state → known perms shapes state shape ≡ None
   unfolding known
   no_state h = rw (le-ltb state (length perms) h)
 
   pub by_shape : state < length perms →
-      known perms shapes state shape ≡ known_by (entry_at shapes shape) (λ first count. of_parts (get_or perms state 0) first count state)
+      known perms shapes state shape ≡ known_by (entry_at shapes shape) (λ first count. Some (of_parts (get_or perms state 0) first count state))
   unfolding known
   by_shape h = rw (lt-ltb state (length perms) h)

@@ -1,9 +1,7 @@
 -- `next` of a run meets its contract: it gives the boxes of `run`, in order. Assumes nothing.
-use Rattle.std.proofs.Common.{◌≡◌, ◌≤◌, ◌<◌, arith, sym, ◌∙◌, List, [], ◌∷◌, ◌-◌, length, drop}
+use Rattle.std.proofs.Common.{◌≡◌, arith, sym, ◌∙◌, [], ◌∷◌, ◌-◌}
 use Rattle.std.proofs.lemmas.Grind.{common_steps}
-use Rattle.std.specs.Prelude.{Some}
-use Rattle.world.specs.declared.Aabb.{Aabb}
-use Rattle.world.specs.Space.{run, box_here}
+use Rattle.world.specs.Space.{run}
 use Rattle.world.specs.Laws.{run_none, run_end, run_first}
 use Rattle.world.proofs.run.RunIterator.next.Goals as goal
 use Rattle.world.proofs.run.RunIterator.next.Goals.{After-part_from-self}
