@@ -11,28 +11,21 @@ const LIVING_VERTICAL_DRAG: f64 = 0.98;
 // A jump that these many ticks don't bring to rest is refused.
 const TICKS: u32 = 65536;
 
-// What a jump answers: how many blocks it gains, or that it does not come to rest (6).
-#[derive(Clone, Copy)]
-pub enum Apex {
-    Height(f64),
-    Endless,
-}
-
-// The height that a jump from the ground gains, which starts with the velocity `power`. A power or a
-// gravity that is NaN or not above 0 gains nothing.
-pub fn jump_apex(power: f32, gravity: f64) -> Apex
+// The height that a jump from the ground gains, which starts with the velocity `power`; none where it
+// does not come to rest (6). A power or a gravity that is NaN or not above 0 gains nothing.
+pub fn jump_apex(power: f32, gravity: f64) -> Option<f64>
     ensures { apex_answer result ≡ jump_apex power gravity }
 {
     let mut height: f64 = 0.0;
     let mut velocity = std::num::f32_to_f64_with_nan(power);
-    let mut ticks: u32 = 0;
-    while (velocity > 0.0) & (gravity > 0.0) {
-        if ticks == TICKS {
-            return Apex::Endless;
+    // It is looked at before each tick, and once more after the last.
+    for _ in 0..=TICKS {
+        let rises = (velocity > 0.0) & (gravity > 0.0);
+        if !rises {
+            return Some(height);
         }
-        height = height + velocity;
+        height += velocity;
         velocity = (velocity - gravity) * LIVING_VERTICAL_DRAG;
-        ticks += 1;
     }
-    Apex::Height(height)
+    None
 }

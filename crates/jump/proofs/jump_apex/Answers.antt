@@ -1,22 +1,26 @@
--- `jump::jump_apex` meets its contract. The invariant: the answer for the whole jump is the answer for what is left of its ticks, from where it is now. Assumes nothing.
-use Rattle.std.proofs.Common.{◌-◌, sym, ap, ◌∙◌, arith}
+-- `jump::jump_apex` meets its contract. Assumes nothing.
+use Rattle.std.proofs.Common.{sym, ap, ◌∙◌, arith}
 use lib.Ieee.{of_bits}
 use Rattle.jump.specs.Laws.{endless, at_rest, ticked, drag_bits}
 use Rattle.jump.specs.Jump.{apex_of}
 use Rattle.jump.proofs.jump_apex.Goals as goal
 
-pub loop-velocity-init : goal.loop-velocity-init
+pub loop-init : goal.loop-init
 unfolding of_bits
-loop-velocity-init c = (omega arith, rw c.f32_to_f64_with_nan-velocity.ensures)
+loop-init c = record { on_its_way = λ l. rw c.f32_to_f64_with_nan-velocity.ensures; never_rests = λ l. absurd (omega arith) }
 
-pub returns-then-ticks-eq-TICKS : goal.returns-then-ticks-eq-TICKS
+pub returns-then-not-rises : goal.returns-then-not-rises
 unfolding of_bits
-returns-then-ticks-eq-TICKS c = sym (c.loop-velocity.invariant.1 ∙ endless _ _ _ (omega arith) c.loop-velocity-test.true)
+returns-then-not-rises c = sym (c.loop.invariant.on_its_way c.loop-test.true ∙ at_rest _ _ _ c.if-not-rises.true)
 
-pub loop-velocity-preserved : goal.loop-velocity-preserved
+pub loop-preserved : goal.loop-preserved
 unfolding of_bits
-loop-velocity-preserved c = (omega arith, c.loop-velocity.invariant.1 ∙ ap (apex_of _) (ticked _ _ 65536 c.loop-velocity.ticks (omega arith) c.loop-velocity-test.true) ∙ rw drag_bits)
+loop-preserved c =
+    let now = c.loop.invariant.on_its_way c.loop-test.true in
+    record {
+      on_its_way = λ l. now ∙ ap (apex_of _) (ticked _ _ 65536 c.loop.counter (omega arith) c.if-not-rises.false) ∙ rw drag_bits;
+      never_rests = λ l. now ∙ endless _ _ _ (omega arith) c.if-not-rises.false;
+    }
 
 pub returns : goal.returns
-unfolding of_bits
-returns c = sym (c.loop-velocity.invariant.1 ∙ at_rest _ _ _ c.loop-velocity-test.false)
+returns c = sym (c.loop.invariant.never_rests c.loop-test.false)
