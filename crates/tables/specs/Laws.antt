@@ -1,9 +1,10 @@
 -- Laws of bad worlds: what the loops go by, that the order of the tests does not matter, and what a world that is not bad is.
 use Prim.Native.Nat.{ℕ, zero, suc, ◌+◌, ◌*◌, ◌%◌, ◌<◌}
-use Rattle.std.proofs.Common.{arith, add-one, sym, ap, ◌∙◌, eq-eqb, ne_eqb, eqb-true}
-use Rattle.std.specs.Prelude.{◌≡◌, Bool, ◌&&◌, ◌||◌, List, eqb, length, Float}
+use Rattle.std.proofs.Common.{arith, add-zero, zero-add, sym, ap, ◌∙◌, eq-eqb, ne_eqb, eqb-true}
+use Rattle.std.specs.List.{list_any, range_with_len}
+use Rattle.std.specs.Prelude.{◌≡◌, Some, Bool, ◌&&◌, ◌||◌, List, eqb, length, Float}
 use Rattle.std.proofs.Math.Path.{refl}
-use Rattle.std.proofs.Math.Bool.{true, false, not, and-false, or-true}
+use Rattle.std.proofs.Math.Bool.{true, false, not, and-false, or-false, or-true}
 use Rattle.std.proofs.lemmas.Bool.{eqb-false}
 use Rattle.std.specs.Float.{nan, inf, fin}
 use Rattle.std.specs.Float.Ieee.{of_bits, neg, le, lt, eq}
@@ -11,8 +12,6 @@ use Rattle.std.specs.Float.Ieee.Scale.{finite}
 use Rattle.world.specs.declared.Point.{Point}
 use Rattle.world.specs.declared.Aabb.{Aabb}
 use Rattle.world.specs.declared.Window.{Window}
-use Rattle.world.specs.declared.Entry.TheVariants.{Of}
-use Rattle.world.specs.declared.Found.TheVariants.{Here}
 use Rattle.world.specs.Space.{entry_at, box_here}
 use Rattle.world.specs.Laws.{entry_is, box_is}
 use Rattle.world.specs.Sizes.{size_above}
@@ -59,14 +58,6 @@ rule_is b = sym (go (each finite b) (ordered b) (each from_to b) (of_box b))
 -- ---- one of the numbers below n
 
 module _ (f : ℕ → Bool) where
-  pub none_below : some f 0 ≡ false
-  unfolding some
-  none_below = refl
-
-  pub none_more : (n : ℕ) → some f n ≡ false → f n ≡ false → some f (n + 1) ≡ false
-  unfolding some
-  none_more n e h = rw (add-one, e, h)
-
   -- the last one is it, or one before
   last : (n i : ℕ) → i < suc n → f i ≡ true → (i < n → some f n ≡ true) → some f n || f n ≡ true
   last n i h e below = go (eqb i n) refl
@@ -105,12 +96,27 @@ some_or f g (suc n) = rw (some_or f g n) (go (some f n) (some g n) (f n) (g n))
     go false true false d = refl
     go false false c d = refl
 
+-- one of the list of the numbers below n is it exactly where one of the numbers is
+module _ (f : ℕ → Bool) where
+  any_more : (k n : ℕ) → list_any f (range_with_len k (suc n)) ≡ list_any f (range_with_len k n) || f (k + n)
+  any_more k zero = rw (add-zero, or-false) refl
+  any_more k (suc n) = let e : k + 1 + n ≡ k + suc n = omega arith in rw (any_more (k + 1) n, e) (assoc (f k) (list_any f (range_with_len (k + 1) n)) (f (k + suc n)))
+    where
+      assoc : (a b c : Bool) → a || (b || c) ≡ (a || b) || c
+      assoc true b c = refl
+      assoc false b c = refl
+
+  pub any_is : (n : ℕ) → list_any f (range_with_len 0 n) ≡ some f n
+  unfolding some
+  any_is zero = refl
+  any_is (suc n) = any_more 0 n ∙ rw (any_is n, zero-add)
+
 -- ---- a record, as the code read it
 
-pub run_is : (shapes : List ℕ) (boxes i a b : ℕ) → entry_at shapes i ≡ Of a b → bad_run boxes a b ≡ bad_shape shapes boxes i
+pub run_is : (shapes : List ℕ) (boxes i a b : ℕ) → entry_at shapes i ≡ Some (a, b) → bad_run boxes a b ≡ bad_shape shapes boxes i
 run_is shapes boxes i a b e = let h = entry_is shapes i a b e in rw (h.1, h.2)
 
-pub rule_at : (boxes : List ℕ) (i : ℕ) (b : Aabb) → box_here boxes (48 * i) ≡ Here b → not (box_rule b) ≡ off_rule boxes i
+pub rule_at : (boxes : List ℕ) (i : ℕ) (b : Aabb) → box_here boxes (48 * i) ≡ Some b → not (box_rule b) ≡ off_rule boxes i
 rule_at boxes i b e = rw (box_is boxes (48 * i) b e).1
 
 -- ---- the tables

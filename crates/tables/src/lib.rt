@@ -2,11 +2,11 @@
 // pass over its table; the cell table and the permissions are never bad by their numbers.
 #![tactic(auto)]
 
-ghost use Rattle.std.specs.Prelude.{◌≡◌, ◌*◌, ◌/◌, length};
+ghost use Rattle.std.specs.Prelude.{◌≡◌, ◌*◌, ◌/◌, ◌<◌, length};
 ghost use Rattle.world.specs.Sizes.{Sizes};
 ghost use Rattle.tables.specs.BadWorld.{from_to, each_of, box_rule, cell_bytes, bad_run, some, bad_shape, off_rule, bad_world};
 
-use world::{Aabb, Entry, Found, Point, Window};
+use world::{Aabb, Point, Window, World};
 
 // Whether a number is from -16 to 16: neither an infinity nor a NaN is.
 fn from_to(x: f64) -> bool
@@ -48,56 +48,55 @@ fn bad_run(first: u32, count: u32, boxes: usize) -> bool
     (16 < count) | (boxes < end)
 }
 
-// Whether a shape record is bad, for so many boxes.
+// Whether shape record i is bad, for so many boxes.
+fn bad_shape(shapes: &[u8], boxes: usize, i: usize) -> bool
+    requires { i < length shapes.now / 8 }
+    ensures { result ≡ bad_shape shapes.now boxes i }
+{
+    let (first, count) = world::entry_at(shapes, i).unwrap();
+    bad_run(first, count, boxes)
+}
+
+// Whether one of the shape records is.
 fn bad_shapes(shapes: &[u8], boxes: usize) -> bool
     ensures { result ≡ some (bad_shape shapes.now boxes) (length shapes.now / 8) }
 {
-    let mut i: usize = 0;
-    loop {
-        let Entry::Of(first, count) = world::entry_at(shapes, i) else {
-            return false;
-        };
-        if bad_run(first, count, boxes) {
-            return true;
-        }
-        i += 1;
-    }
+    (0..shapes.len() / 8).any(|i| bad_shape(shapes, boxes, i))
 }
 
-// Whether a box record is off its rule.
+// Whether box record i is off its rule.
+fn off_rule(boxes: &[u8], i: usize) -> bool
+    requires { i < length boxes.now / 48 }
+    ensures { result ≡ off_rule boxes.now i }
+{
+    !box_good(world::box_at(boxes, 48 * i).unwrap())
+}
+
+// Whether one of the box records is.
 fn bad_boxes(boxes: &[u8]) -> bool
     ensures { result ≡ some (off_rule boxes.now) (length boxes.now / 48) }
 {
-    let mut i: usize = 0;
-    loop {
-        let Found::Here(b) = world::box_at(boxes, 48 * i) else {
-            return false;
-        };
-        if !box_good(b) {
-            return true;
-        }
-        i += 1;
-    }
+    (0..boxes.len() / 48).any(|i| off_rule(boxes, i))
 }
 
 // Whether the tables are a bad world.
-pub fn bad_world(w: Window, cells: &[u8], shapes: &[u8], boxes: &[u8]) -> bool
-    ensures { result ≡ bad_world w cells.now shapes.now boxes.now }
+pub fn bad_world(world: World) -> bool
+    ensures { result ≡ bad_world world.entry.window world.entry.cells.now world.entry.shapes.now world.entry.boxes.now }
 {
-    if world::size_above(w) {
+    if world::size_above(world.window) {
         return true;
     }
-    if cells.len() != cell_bytes(w) {
+    if world.cells.len() != cell_bytes(world.window) {
         return true;
     }
-    if shapes.len() % 8 != 0 {
+    if world.shapes.len() % 8 != 0 {
         return true;
     }
-    if boxes.len() % 48 != 0 {
+    if world.boxes.len() % 48 != 0 {
         return true;
     }
-    if bad_shapes(shapes, boxes.len() / 48) {
+    if bad_shapes(world.shapes, world.boxes.len() / 48) {
         return true;
     }
-    bad_boxes(boxes)
+    bad_boxes(world.boxes)
 }
