@@ -1,15 +1,19 @@
 -- Laws of regions: a loop begins with all cells, and each turn of it takes one of them.
-use Rattle.std.specs.Prelude.{◌≡◌, Option, Some, None, Bool, ◌&&◌, cond, ℤ, ◌+ℤ◌}
+use Prim.Native.Nat.{ℕ, zero, suc, ◌+◌, ◌<◌}
+use Rattle.std.specs.List.{All}
+use Rattle.std.specs.Prelude.{◌≡◌, Option, Some, None, Bool, ◌&&◌, cond, ℤ, ◌+ℤ◌, ◌-ℤ◌}
 use Rattle.std.proofs.Common.{arith, sym, ◌∙◌}
 use Rattle.std.proofs.Math.Path.{refl, ap}
 use Rattle.std.proofs.Math.Bool.{true, false}
 use mathlib.Core.List.{List, [], ◌∷◌, ◌++◌, append_assoc}
-use Rattle.std.proofs.Math.IntN.{pos}
+use Rattle.std.proofs.Math.IntN.{pos, negsuc}
 use Rattle.std.specs.Int.Signed.{lt_z, le_z}
 use Rattle.regions.specs.declared.Range.{Range}
 use Rattle.regions.specs.declared.Region.{Region}
 use Rattle.regions.specs.declared.Spot.{Spot}
-use Rattle.cells.specs.Parts.{sum, lt_yes, lt_no, le_yes, le_is}
+use Rattle.std.proofs.lemmas.List.Elements.{All-nil, All-cons, All-append}
+use Rattle.cells.specs.Parts.{over, under, sum, difference, lt_yes, lt_no, le_yes, le_is}
+use Rattle.regions.specs.Ranges.{range, count, gather, along}
 use Rattle.regions.specs.Regions.{cells_of, first_in, next_in, row_from, layer_from, layers_from, from, to_come, Within, Inside, Proper}
 use Rattle.regions.specs.RangeLaws.{along_more, along_none, along_empty}
 
@@ -160,3 +164,35 @@ module _ (r : Region) where
 
 pub turn : (r : Region) (c d : Option Spot) (p : Spot) → c ≡ Some p → Proper r c → d ≡ next_in r p → (to_come r c ≡ p ∷ to_come r d) × Proper r d
 turn r c d p e h n = let i : Inside r p = rw e at h in rw (e, n) (follows r p i)
+
+-- ---- every cell of a region lies in it
+
+only_over : (z : ℤ) → 0 < over z → under z ≡ 0
+only_over (pos n) h = refl
+only_over (negsuc n) h = absurd (omega arith)
+
+along_high : (low high : ℤ) (j : ℕ) → j < count low high → le_z (low +ℤ pos j) high ≡ true
+unfolding count
+along_high low high j l =
+    let h : j < over (high -ℤ low +ℤ pos 1) = l in
+    le_is (low +ℤ pos j) high
+    (omega (arith, h, only_over (high -ℤ low +ℤ pos 1) (omega arith), sum low (pos j), difference high low, sum (high -ℤ low) (pos 1)))
+
+module _ {A : Type 0} (P : A → Type 0) where
+  gather_all : (f : ℕ → List A) (k n : ℕ) → ((j : ℕ) → j < k + n → All P (f j)) → All P (gather f k n)
+  unfolding gather
+  gather_all f k zero h = All-nil P
+  gather_all f k (suc n) h = All-append P (f k) (gather f (suc k) n) (h k (omega arith)) (gather_all f (suc k) n (λ j l. h j (omega arith)))
+
+  along_all : (f : ℤ → List A) (low high : ℤ) → ((k : ℤ) → Within (range low high) k → All P (f k)) → All P (along f low high)
+  unfolding along
+  along_all f low high h =
+      gather_all (λ k. f (low +ℤ pos k)) 0 (count low high)
+      (λ j l. h (low +ℤ pos j) (record { low = le_is low (low +ℤ pos j) (omega (arith, sum low (pos j))); high = along_high low high j (omega arith) }))
+
+pub cells_inside : (r : Region) → All (Inside r) (cells_of r)
+unfolding cells_of
+cells_inside r =
+    along_all (Inside r) _ r.ys.first r.ys.last (λ y b.
+    along_all (Inside r) _ r.zs.first r.zs.last (λ z c.
+    along_all (Inside r) _ r.xs.first r.xs.last (λ x a. All-cons (Inside r) _ [] (record { y = b; z = c; x = a }) (All-nil (Inside r)))))
