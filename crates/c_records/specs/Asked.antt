@@ -7,7 +7,7 @@ use Rattle.world.specs.declared.Point.{Point}
 use Rattle.world.specs.declared.Request.{Request}
 use Rattle.world.specs.Space.{point_at}
 use Rattle.c_records.specs.declared.question.Question.{Question}
-use Rattle.c_records.specs.declared.mob.Mob.{Mob}
+use Rattle.mob_request.specs.declared.Mob.{Mob}
 use Rattle.c_records.specs.Records.{window_in, request_in, body_in, policy_in, in_water}
 
 -- no record is shorter than its struct: the window's and the body's 24 bytes, and so many of the one between, a request's 88 or two ends' 48

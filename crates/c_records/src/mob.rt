@@ -5,19 +5,8 @@ ghost use Rattle.c_records.specs.Asked.{mob_in};
 
 use crate::whole::{all_whole, end_in};
 use crate::wishes::{has_bit, policy_in};
-use policy::WalkPolicy;
+use mob_request::Mob;
 use scene_records::{body_at, window_at};
-use world::{Body, Point, Window};
-
-#[derive(Clone, Copy)]
-pub struct Mob {
-    pub policy: WalkPolicy,
-    pub in_water: bool,
-    pub window: Window,
-    pub start: Point,
-    pub goal: Point,
-    pub body: Body,
-}
 
 pub fn mob_in(policy: u64, jump_height: f64, window: &[u8], ends: &[u8], body: &[u8]) -> Mob
     ensures { result ≡ mob_in policy jump_height window.now ends.now body.now }

@@ -6,7 +6,18 @@ ghost use Rattle.std.specs.Prelude.{◌≡◌};
 ghost use Rattle.mob_request.specs.Asked.{request_of};
 
 use policy::WalkPolicy;
-use world::{Body, Point, Request};
+use world::{Body, Point, Request, Window};
+
+// What a mob's search is asked, beside the tables.
+#[derive(Clone, Copy)]
+pub struct Mob {
+    pub policy: WalkPolicy,
+    pub in_water: bool,
+    pub window: Window,
+    pub start: Point,
+    pub goal: Point,
+    pub body: Body,
+}
 
 // A search's range around the body, the nodes that it retains, and the highest drop on its way.
 const PATH_MAX_RANGE: f64 = 16.0;
