@@ -19,19 +19,19 @@ fn next_near(nodes: &[u8], from: usize, n: usize, q: Feet) -> usize
     ensures { (from ≤ result) × (result ≤ n) × (first_of (is_at nodes.now q) from (n - from) ≡ first_of (is_at nodes.now q) result (n - result)) }
 {
     let border = n % NODES;
-    let mut i = from;
-    if 64 * border <= nodes.len() {
-        while i < border && !same_word(fields::u64_at(nodes, 64 * i), q.x) {
-            i += 1;
-        }
+    if (border < from) | (nodes.len() < 64 * border) {
+        return from;
     }
-    i
+    (from..border)
+        .find(|i| same_word(fields::u64_at(nodes, 64 * *i), q.x))
+        .unwrap_or(border)
 }
 
 // The first node at a point among the nodes `from` to n - 1; if none is, n; if `from` is past n, `from`.
 pub fn seek(nodes: &[u8], from: usize, n: usize, q: Feet) -> usize
     ensures { result ≡ first_of (is_at nodes.now q) from (n - from) }
 {
+    // `i` goes on to where the quick pass stops, so it is no range's
     let mut i = from;
     while i < n {
         if same_point(get_feet(nodes, i), q) {
@@ -57,13 +57,12 @@ fn next_waiting(front: &[u8], from: usize, n: usize) -> usize
     ensures { Idle (entry_at front.now) from result × (result ≤ n) }
 {
     let border = n % NODES;
-    let mut i = from;
-    if 24 * border <= front.len() {
-        while i < border && fields::u64_at(front, 24 * i + 16) != 1 {
-            i += 1;
-        }
+    if (border < from) | (front.len() < 24 * border) {
+        return from;
     }
-    i
+    (from..border)
+        .find(|i| fields::u64_at(front, 24 * *i + 16) == 1)
+        .unwrap_or(border)
 }
 
 // The first node that waits among the nodes `from` to n - 1; if none does, n; if `from` is past n, `from`.
@@ -73,11 +72,10 @@ pub fn first_waiting(front: &[u8], from: usize, n: usize) -> usize
     if n <= from {
         return from;
     }
-    let mut i = next_waiting(front, from, n);
-    while i < n && get_entry(front, i).waiting != 1 {
-        i += 1;
-    }
-    i
+    let i = next_waiting(front, from, n);
+    (i..n)
+        .find(|k| get_entry(front, *k).waiting == 1)
+        .unwrap_or(n)
 }
 
 // The next of n nodes to be closed, among those from `low` on; if none of them waits, n.
@@ -91,7 +89,8 @@ pub fn pick(front: &[u8], low: usize, n: usize) -> usize
         waiting: 0,
     };
     let mut at = n;
-    let from = if low < n { low } else { n };
+    let from = low.min(n);
+    // `i` goes on to where the quick pass stops, so it is no range's
     let mut i = next_waiting(front, from, n);
     while i < n {
         let e = get_entry(front, i);
@@ -116,9 +115,7 @@ fn is_busy(nodes: &[u8], front: &[u8], j: usize) -> bool
 pub fn first_busy(nodes: &[u8], front: &[u8], from: usize, n: usize) -> usize
     ensures { result ≡ first_of (busy nodes.now front.now) from (n - from) }
 {
-    let mut i = from;
-    while i < n && !is_busy(nodes, front, i) {
-        i += 1;
-    }
-    i
+    (from..n)
+        .find(|j| is_busy(nodes, front, *j))
+        .unwrap_or(from.max(n))
 }

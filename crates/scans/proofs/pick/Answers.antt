@@ -1,17 +1,13 @@
 -- `scans::pick` meets its contract. Assumes nothing.
-use Rattle.std.proofs.Common.{arith, eq-eqb, ne_eqb, ℕ, ◌+◌, ◌≤◌, ◌-◌, ◌≡◌, sym, ap, ◌∙◌, subst, Bool, ◌||◌, eqb}
+use Rattle.std.proofs.Common.{arith, eq-eqb, ne_eqb, ℕ, ◌+◌, ◌-◌, ◌≡◌, sym, ap, ◌∙◌, subst, Bool, ◌||◌, eqb}
 use Rattle.rooms.specs.declared.Entry.{Entry}
 use Rattle.scans.specs.Laws.{Idle, from_here, from_idle, idle_from, Holds, begins, passes, passes_on, takes, stays, answers, next_later}
 use Rattle.rooms.specs.Scans.{entry_from, next_from}
 use Rattle.scans.proofs.pick.Goals as goal
-use Rattle.scans.proofs.pick.Goals.{After-next_waiting-i, Joined-low-n, then-low-n, else-low-n, then-e-eq1+then-at-n, else-e-eq1, else-e-eq1-via-then-e-eq1+else-at-n, else-e-eq1-via-else-e-eq1}
-
--- where the scan begins is at most n
-small : (s : Joined-low-n) → s.if-low-n.from ≤ s.args.n
-small s = elim s.if-low-n.branch [ then-low-n t ↦ omega arith | else-low-n t ↦ omega arith ]
+use Rattle.scans.proofs.pick.Goals.{After-next_waiting-i, then-e-eq1+then-at-n, else-e-eq1, else-e-eq1-via-then-e-eq1+else-at-n, else-e-eq1-via-else-e-eq1}
 
 pub next_waiting-i-requires : goal.next_waiting-i-requires
-next_waiting-i-requires c = small c
+next_waiting-i-requires c = omega (arith, c.min-from.ensures)
 
 -- to the node that `next_waiting` stops at
 passed : (n : ℕ) (g : ℕ → Entry) (i r : ℕ) {at : ℕ} {e : Entry} → Idle g i r → Holds n g i at e → Holds n g r at e
@@ -52,10 +48,8 @@ begun : (s : After-next_waiting-i) → let a = s.args in next_from s.next_waitin
 begun s =
     let a = s.args in
     let w = s.next_waiting-i.ensures.0 in
-    elim s.if-low-n.branch [
-      | then-low-n t ↦ next_later a.low s.next_waiting-i.result a.n a.front.now (λ k h l. omega arith) (λ j h l. w.idle j (omega arith) l)
-      | else-low-n t ↦ next_later a.low s.next_waiting-i.result a.n a.front.now (λ k h l. omega arith) (λ j h l. absurd (omega arith))
-    ]
+    let e = s.min-from.ensures in
+    next_later a.low s.next_waiting-i.result a.n a.front.now (λ k h l. omega (arith, e, w.order)) (λ j h l. w.idle j (omega (arith, e)) l)
 
 pub returns : goal.returns
 unfolding next_from
