@@ -8,16 +8,13 @@ use crate::{Entry, Feet, Label, NodeRecord, WaypointRecord};
 
 // Where record k of a room is read, at so many bytes a record. One past the end is read at the end, where every field is 0 too, so no reader branches.
 fn offset_of(room: &[u8], size: usize, k: usize) -> usize
-    requires { 0 < size }
     ensures { Offset room.now (size * k) result }
 {
-    if room.len() / size < k {
-        return room.len();
-    }
-    size * k
+    size.saturating_mul(k).min(room.len())
 }
 
 // The feet of the waypoint record at an offset.
+#[tactic(auto, using(crate::proofs::Laws::Fields::feet_read))]
 fn feet_at(room: &[u8], at: usize) -> Feet
     requires { at ≤ length room.now }
     ensures { result ≡ feet_from (record_at waypoint_layout room.now at) }
@@ -29,6 +26,7 @@ fn feet_at(room: &[u8], at: usize) -> Feet
 }
 
 // The whole record there.
+#[tactic(auto, using(crate::proofs::Laws::Fields::waypoint_read))]
 fn waypoint_at(room: &[u8], at: usize) -> WaypointRecord
     requires { at ≤ length room.now }
     ensures { result ≡ waypoint_from (record_at waypoint_layout room.now at) }
@@ -45,7 +43,7 @@ fn waypoint_at(room: &[u8], at: usize) -> WaypointRecord
     WaypointRecord { feet, label }
 }
 
-// Waypoint k of a list.
+// Waypoint k of a list. Each record has its own fields, so there is a reader for each; what they share is `offset_of`, `feet_at` and `waypoint_at`.
 pub fn get_waypoint(list: &[u8], k: usize) -> WaypointRecord
     ensures { result ≡ waypoint_at list.now k }
 {
@@ -57,9 +55,7 @@ pub fn get_node(nodes: &[u8], k: usize) -> NodeRecord
     ensures { result ≡ node_at nodes.now k }
 {
     let at = offset_of(nodes, 64, k);
-    let waypoint = waypoint_at(nodes, at);
-    let feet = waypoint.feet;
-    let label = waypoint.label;
+    let WaypointRecord { feet, label } = waypoint_at(nodes, at);
     let cost = fields::u64_at(nodes, at + 48);
     let parent = fields::u32_at(nodes, at + 56);
     let closed = fields::u32_at(nodes, at + 60);

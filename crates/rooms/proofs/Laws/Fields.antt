@@ -1,6 +1,7 @@
 -- A record that the code reads field by field is the record of the definition, and one past the room's end reads as one at its end: all zero.
-use Rattle.std.specs.Prelude.{◌≡◌, refl, Bool, true, false, cond, List, [], ◌∷◌, ℕ, zero, suc, ◌+◌, ◌*◌, ◌/◌, ◌≤◌, ◌<◌, length}
-use Rattle.std.proofs.Common.{sym, ap, ◌∙◌, arith, add-zero, le-div_iff_mul-le, div-lt_iff_lt-mul, mul_comm}
+use Rattle.std.specs.Prelude.{◌≡◌, refl, Bool, true, false, cond, List, [], ◌∷◌, ℕ, zero, suc, ◌+◌, ◌≤◌, length}
+use Rattle.std.proofs.Common.{sym, ap, ◌∙◌, ⊎_elim, arith, add-zero}
+use Rattle.std.proofs.lemmas.Bool.{cases_lt}
 use Rattle.fields.specs.Little.{fits_at, field}
 use Rattle.fields.specs.Records.{fields_at, record_at}
 use Rattle.fields.proofs.Laws.{field_out}
@@ -30,15 +31,13 @@ fields_end (n ∷ ns) a at to by h i =
     let more = fields_end ns a at to (by + n) h i in
     cc
 
--- record k, at so many bytes a record, starts past the end or not
-module _ (a : List ℕ) (size k : ℕ) (some : 0 < size) where
-  pub offset_end : length a / size < k → Offset a (size * k) (length a)
-  offset_end h =
-      let l : length a < size * k = rw mul_comm ((div-lt_iff_lt-mul some).0 h) in
-      record { within = omega arith; reads = λ ws. fields_end ws a (length a) (size * k) 0 (omega arith) (omega arith) }
-
-  pub offset_in : k ≤ length a / size → Offset a (size * k) (size * k)
-  offset_in h = record { within = rw mul_comm ((le-div_iff_mul-le some).0 h); reads = λ ws. refl }
+-- a record that starts past the end or not
+pub offset_least : (a : List ℕ) (at : ℕ) {r : ℕ} → r ≤ length a → (at ≤ length a → r ≡ at) → (length a ≤ at → r ≡ length a) → Offset a at r
+offset_least a at {r} l inside end =
+    record {
+      within = l;
+      reads = λ ws. ⊎_elim (λ h. fields_end ws a r at 0 (omega (arith, end (omega arith))) (omega arith)) (λ h. ap (record_at ws a) (inside h)) (cases_lt (length a) at);
+    }
 
 -- ---- field by field
 

@@ -1,13 +1,8 @@
 -- What the first that passes a test is.
-use Rattle.std.specs.Prelude.{◌≡◌, refl, Bool, true, false, ◌⊎◌, ℕ, zero, suc, ◌+◌, ◌≤◌, ◌<◌}
-use Rattle.std.proofs.Common.{ap, inl, inr, ⊎_elim, arith}
+use Rattle.std.specs.Prelude.{◌≡◌, refl, Bool, true, false, ℕ, zero, suc, ◌+◌, ◌≤◌, ◌<◌}
+use Rattle.std.proofs.Common.{⊎_elim, arith}
+use Rattle.std.proofs.Math.Nat.{eq-or-lt_of_le}
 use Rattle.rooms.specs.Scans.{first_of}
-
-from : (k j : ℕ) → k ≤ j → (k ≡ j) ⊎ (suc k ≤ j)
-from zero zero h = inl refl
-from zero (suc j) h = inr (omega arith)
-from (suc k) zero h = absurd (omega arith)
-from (suc k) (suc j) h = ⊎_elim (λ e. inl (ap suc e)) (λ l. inr (omega arith)) (from k j (omega arith))
 
 module _ (p : ℕ → Bool) where
   pub record First (k n r : ℕ) : Type 0 where
@@ -21,4 +16,4 @@ module _ (p : ℕ → Bool) where
     where
       go : (b : Bool) → p k ≡ b → First (suc k) n (first_of p (suc k) n) → First k (suc n) (first_of p k (suc n))
       go true e f = rw e (record { within = omega arith; missed = λ j l h. absurd (omega arith); passes = λ h. e })
-      go false e f = rw e (record { within = omega (arith, f.within); missed = λ j l h. ⊎_elim (λ i. rw (← i) e) (λ i. f.missed j i h) (from k j l); passes = λ h. f.passes (omega arith) })
+      go false e f = rw e (record { within = omega (arith, f.within); missed = λ j l h. ⊎_elim (λ i. rw (← i) e) (λ i. f.missed j i h) (eq-or-lt_of_le l); passes = λ h. f.passes (omega arith) })
