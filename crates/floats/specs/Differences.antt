@@ -1,5 +1,5 @@
 -- The difference to a lower number keeps the order: what is further than E above a height stays so further up.
-use Rattle.std.specs.Prelude.{ℕ, zero, suc, ◌+◌, ◌-◌, ◌*◌, ◌≤◌, ◌<◌, ◌≡◌, refl, Bool, true, false, cond, T, ltb, ℤ, Float}
+use Rattle.std.specs.Prelude.{ℕ, zero, suc, ◌+◌, ◌-◌, ◌*◌, ◌≤◌, ◌<◌, ◌≡◌, refl, Bool, true, false, T, ℤ, Float}
 use Rattle.std.proofs.Common.{add-mul, zero-mul, mul_assoc, mul_left_comm, mul-le-mul_right, mul-pos, arith, sym, ap, ◌∙◌, leb-true, ltb-true, le-ltb}
 use Rattle.std.specs.Float.{nan, inf, fin}
 use Rattle.std.specs.Float.Ieee.{binary64, is_nan, lt, le, eq, up, down, neg, add, sub, sum, round}

@@ -2,7 +2,7 @@
 -- that x is an f64, which is known of every f64 of the code.
 use Rattle.std.specs.Prelude.{◌^◌, ◌<◌, ◌≡◌, refl, true, false, ◌&&◌, T, Float}
 use Rattle.std.proofs.Common.{sym, ap, ◌∙◌}
-use Rattle.std.specs.Float.{nan, inf, fin, binary64}
+use Rattle.std.specs.Float.{nan, inf, fin, binary64, float_is_finite}
 use Rattle.std.specs.Float.Ieee.{fits, of_bits, to_bits, lt}
 use Rattle.std.specs.Float.Ieee.Bits.{of_bits-to_bits, to_bits-lt}
 use Rattle.std.specs.Float.Ieee.Scale.{finite}
@@ -29,3 +29,10 @@ finite_between nan = refl
 finite_between (inf true) = refl
 finite_between (inf false) = refl
 finite_between (fin s m e) = refl
+
+-- what std's `is_finite` asks, too
+pub is_finite : (x : Float) → float_is_finite x ≡ finite x
+unfolding float_is_finite
+is_finite nan = refl
+is_finite (inf s) = refl
+is_finite (fin s m e) = refl

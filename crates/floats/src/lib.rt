@@ -14,39 +14,34 @@ pub const E: f64 = 1.0e-7;
 pub fn float_of(n: u64) -> f64
     ensures { result ≡ of_bits binary64 n }
 {
-    if 0x7ff0_0000_0000_0000 < n % 0x8000_0000_0000_0000 {
-        0.0 / 0.0
-    } else {
-        f64::from_bits(n)
-    }
+    std::num::f64_from_bits_with_nan(n)
 }
 
 // The bit pattern of a float: of a NaN the one that IEEE calls the default.
 pub fn bits_of(x: f64) -> u64
     ensures { result ≡ to_bits binary64 x }
 {
-    if x != x {
-        0x7ff8_0000_0000_0000
-    } else {
-        f64::to_bits(x)
-    }
+    std::num::f64_to_bits_with_nan(x)
 }
 
-// The smaller of two: the second one where they are equal, and where one is a NaN.
+// The smaller of two: the second one where they are equal, and where one is a NaN. (`f64::min` gives the other one for a NaN, and says nothing of equal ones.)
+#[tactic(auto, unfolding(crate::specs::Floats::smaller))]
 pub fn min(a: f64, b: f64) -> f64
     ensures { result ≡ smaller a b }
 {
     if a < b { a } else { b }
 }
 
-// The larger of two: the second one where they are equal, and where one is a NaN.
+// The larger of two: the second one where they are equal, and where one is a NaN. (`f64::max` gives the other one for a NaN, and says nothing of equal ones.)
+#[tactic(auto, unfolding(crate::specs::Floats::larger))]
 pub fn max(a: f64, b: f64) -> f64
     ensures { result ≡ larger a b }
 {
     if b < a { a } else { b }
 }
 
-// The size of a number. A zero and a NaN stay as they are.
+// The size of a number. A zero and a NaN stay as they are. (`f64::abs` makes 0.0 of -0.0.)
+#[tactic(auto, unfolding(crate::specs::Floats::absolute))]
 pub fn abs(x: f64) -> f64
     ensures { result ≡ absolute x }
 {
@@ -57,6 +52,5 @@ pub fn abs(x: f64) -> f64
 pub fn finite(x: f64) -> bool
     ensures { result ≡ finite x }
 {
-    let top = 1.0 / 0.0;
-    (x < top) & (-top < x)
+    x.is_finite()
 }

@@ -1,8 +1,7 @@
 -- `floats::finite` meets its contract. Assumes nothing.
-use lib.Ieee.{div, neg, of_bits}
-use Rattle.floats.specs.Laws.{finite_between}
+use Rattle.std.proofs.Common.{◌∙◌}
+use Rattle.floats.specs.Laws.{is_finite}
 use Rattle.floats.proofs.finite.Goals as goal
 
 pub returns : goal.returns
-unfolding div neg of_bits
-returns c = finite_between _
+returns c = c.is_finite.ensures.value ∙ is_finite _
