@@ -1,6 +1,6 @@
 -- A batch of a column's lowest tops gone through: each time the next of the heights, until there is none.
 use Rattle.std.proofs.Common.{ℕ, zero, suc, ◌+◌, ◌-◌, ◌≤◌, ◌<◌, arith, ◌∙◌, drop_of_length-le, drop-cons, get_or-take, List, [], ◌∷◌, ◌++◌, ltb-true, ltb-false, lt-ltb, le-ltb}
-use Rattle.std.specs.Prelude.{◌≡◌, Bool, not, ◌||◌, cond, get_or, take, drop}
+use Rattle.std.specs.Prelude.{Option, Some, None, ◌≡◌, Bool, not, ◌||◌, cond, get_or, take, drop}
 use Rattle.std.proofs.Math.Path.{refl, sym, ap, subst}
 use Rattle.std.proofs.Math.Bool.{true, false}
 use Rattle.std.proofs.Math.Dec.{ltb}
@@ -11,8 +11,6 @@ use Rattle.std.specs.Float.{nan, inf, fin, binary64}
 use Rattle.floats.specs.Floats.{E}
 use Rattle.floats.specs.Order.{false_true, le_refl, le_trans, not_le}
 use Rattle.floats.specs.Differences.{difference_grows}
-use Rattle.heights.specs.declared.Height.{Height}
-use Rattle.heights.specs.declared.Height.TheVariants.{At, None}
 use Rattle.heights.specs.declared.batches.Batch.{Batch}
 use Rattle.heights.specs.Heights.{sorted, within, thinned, thinned_after, kept_after, first_of}
 use Rattle.heights.specs.Lowest.{beyond, beyonds, lowest, laid_over, first_from, batch_count, moved_on, height_at}
@@ -40,33 +38,33 @@ grown k t u false false n p q l e = go (le u k) refl (le (sub binary64 u k) E) r
 grown k t u true b n p q l e = false_true e
 grown k t u false true n p q l e = false_true e
 
-beyond_grows : (after : Height) (t u : Float) → is_nan t ≡ false → le t u ≡ true → beyond after t ≡ true → beyond after u ≡ true
+beyond_grows : (after : Option Float) (t u : Float) → is_nan t ≡ false → le t u ≡ true → beyond after t ≡ true → beyond after u ≡ true
 unfolding beyond within
 beyond_grows None t u n l e = refl
-beyond_grows (At k) t u n l e = grown k t u (le t k) (le (sub binary64 t k) E) n refl refl l e
+beyond_grows (Some k) t u n l e = grown k t u (le t k) (le (sub binary64 t k) E) n refl refl l e
 
-beyonds_all : (after : Height) (t : Float) (us : List Float) → is_nan t ≡ false → Least t us → beyond after t ≡ true → beyonds after us ≡ us
+beyonds_all : (after : Option Float) (t : Float) (us : List Float) → is_nan t ≡ false → Least t us → beyond after t ≡ true → beyonds after us ≡ us
 beyonds_all after t [] n l e = refl
 beyonds_all after t (u ∷ us) n l e = rw (beyond_grows after t u n l.0 e, beyonds_all after t us n l.1 e)
 
 -- so those that are kept are kept of them alone
-kept_beyonds : (after : Height) (us : List Float) → Upward us → kept_after after us ≡ kept_after after (beyonds after us)
+kept_beyonds : (after : Option Float) (us : List Float) → Upward us → kept_after after us ≡ kept_after after (beyonds after us)
 unfolding kept_after beyond thinned_after
 kept_beyonds None us h = ap thinned (sym (all us))
   where
     all : (us : List Float) → beyonds None us ≡ us
     all [] = refl
     all (u ∷ us) = ap (λ (l : List Float). u ∷ l) (all us)
-kept_beyonds (At k) us h = go us h
+kept_beyonds (Some k) us h = go us h
   where
-    go : (us : List Float) → Upward us → thinned_after k us ≡ thinned_after k (beyonds (At k) us)
+    go : (us : List Float) → Upward us → thinned_after k us ≡ thinned_after k (beyonds (Some k) us)
     go [] h = refl
     go (u ∷ us) h = pick (within k u) refl (go us h.2)
       where
-        pick : (b : Bool) → within k u ≡ b → thinned_after k us ≡ thinned_after k (beyonds (At k) us) →
-            cond b (thinned_after k us) (u ∷ thinned_after u us) ≡ thinned_after k (cond (not b) (u ∷ beyonds (At k) us) (beyonds (At k) us))
+        pick : (b : Bool) → within k u ≡ b → thinned_after k us ≡ thinned_after k (beyonds (Some k) us) →
+            cond b (thinned_after k us) (u ∷ thinned_after u us) ≡ thinned_after k (cond (not b) (u ∷ beyonds (Some k) us) (beyonds (Some k) us))
         pick true e r = r
-        pick false e r = rw (e, beyonds_all (At k) u us h.0 h.1 (ap not e))
+        pick false e r = rw (e, beyonds_all (Some k) u us h.0 h.1 (ap not e))
 
 pub batch_count_le : (room : List Float) (b : Batch) → batch_count room b ≤ length room
 batch_count_le room b = go (ltb b.count (length room)) refl
@@ -77,7 +75,7 @@ batch_count_le room b = go (ltb b.count (length room)) refl
 
 -- ---- a place sought from one on, turn by turn
 
-module _ (after : Height) (room : List Float) (at left : ℕ) where
+module _ (after : Option Float) (room : List Float) (at left : ℕ) where
   pub place_here : 0 < left → beyond after (get_or room at nan) ≡ true → first_from after room at left ≡ at
   unfolding first_from
   place_here h e = let z : left ≡ suc (left - 1) = omega arith in ap (first_from after room at) z ∙ rw e
@@ -92,39 +90,39 @@ module _ (after : Height) (room : List Float) (at left : ℕ) where
 
 -- ---- the first that is kept
 
-kept_first : (after : Height) (t : Float) (ts : List Float) → beyond after t ≡ true → kept_after after (t ∷ ts) ≡ t ∷ thinned_after t ts
+kept_first : (after : Option Float) (t : Float) (ts : List Float) → beyond after t ≡ true → kept_after after (t ∷ ts) ≡ t ∷ thinned_after t ts
 unfolding kept_after thinned thinned_after beyond
 kept_first None t ts e = refl
-kept_first (At k) t ts e = go (within k t) e
+kept_first (Some k) t ts e = go (within k t) e
   where
     go : (b : Bool) → not b ≡ true → cond b (thinned_after k ts) (t ∷ thinned_after t ts) ≡ t ∷ thinned_after t ts
     go false e = refl
     go true e = false_true e
 
-kept_skips : (after : Height) (t : Float) (ts : List Float) → beyond after t ≡ false → kept_after after (t ∷ ts) ≡ kept_after after ts
+kept_skips : (after : Option Float) (t : Float) (ts : List Float) → beyond after t ≡ false → kept_after after (t ∷ ts) ≡ kept_after after ts
 unfolding kept_after thinned_after beyond
 kept_skips None t ts e = false_true (sym e)
-kept_skips (At k) t ts e = go (within k t) e
+kept_skips (Some k) t ts e = go (within k t) e
   where
     go : (b : Bool) → not b ≡ false → cond b (thinned_after k ts) (t ∷ thinned_after t ts) ≡ thinned_after k ts
     go false e = false_true (sym e)
     go true e = refl
 
-kept_none : (after : Height) → kept_after after [] ≡ []
+kept_none : (after : Option Float) → kept_after after [] ≡ []
 unfolding kept_after thinned thinned_after
 kept_none None = refl
-kept_none (At k) = refl
+kept_none (Some k) = refl
 
-first_beyonds : (after : Height) (us : List Float) → first_beyond after us ≡ first_of (beyonds after us)
+first_beyonds : (after : Option Float) (us : List Float) → first_beyond after us ≡ first_of (beyonds after us)
 first_beyonds after [] = refl
 first_beyonds after (u ∷ us) = go (beyond after u) (first_beyonds after us)
   where
-    go : (b : Bool) → first_beyond after us ≡ first_of (beyonds after us) → cond b (At u) (first_beyond after us) ≡ first_of (cond b (u ∷ beyonds after us) (beyonds after us))
+    go : (b : Bool) → first_beyond after us ≡ first_of (beyonds after us) → cond b (Some u) (first_beyond after us) ≡ first_of (cond b (u ∷ beyonds after us) (beyonds after us))
     go true r = refl
     go false r = r
 
 -- the next of the heights is the lowest of the tops beyond
-pub next_lowest : (after : Height) (ts : List Float) (n : ℕ) → 0 < n → first_of (lowest n after ts) ≡ first_of (kept_after after (sorted ts))
+pub next_lowest : (after : Option Float) (ts : List Float) (n : ℕ) → 0 < n → first_of (lowest n after ts) ≡ first_of (kept_after after (sorted ts))
 unfolding lowest
 next_lowest after ts zero h = absurd (omega arith)
 next_lowest after ts (suc n) h = go (beyonds after (sorted ts)) ∙ sym (first_kept after (sorted ts) ∙ first_beyonds after (sorted ts))
@@ -134,7 +132,7 @@ next_lowest after ts (suc n) h = go (beyonds after (sorted ts)) ∙ sym (first_k
     go (u ∷ us) = refl
 
 -- and of a room for one, it is what a batch begins at
-pub one_next : (after : Height) (ts : List Float) (t : Float) → height_at (laid_over (lowest 1 after ts) (t ∷ [])) (record { count = length (lowest 1 after ts); at = 0 }) ≡ first_of (kept_after after (sorted ts))
+pub one_next : (after : Option Float) (ts : List Float) (t : Float) → height_at (laid_over (lowest 1 after ts) (t ∷ [])) (record { count = length (lowest 1 after ts); at = 0 }) ≡ first_of (kept_after after (sorted ts))
 unfolding height_at
 one_next after ts t = go (lowest 1 after ts) ∙ next_lowest after ts 1 (omega arith)
   where
@@ -145,13 +143,13 @@ one_next after ts t = go (lowest 1 after ts) ∙ next_lowest after ts 1 (omega a
 -- ---- a batch, while its column is gone through
 
 -- Either it is used up and was full, so that it is filled again; or it is of a list, and the heights left of the column are those left of the list.
-pub data Batched (after : Height) (us room : List Float) (b : Batch) : Type 0 where
+pub data Batched (after : Option Float) (us room : List Float) (b : Batch) : Type 0 where
   used_up : length room ≤ b.count → length room ≤ b.at → Batched after us room b
   of_list : (ms : List Float) → b.count ≡ length (take (length room) ms) → take b.count room ≡ take (length room) ms → b.at ≤ b.count →
       kept_after after us ≡ kept_after after (drop b.at ms) → Batched after us room b
 
 -- where a batch stands once those within E of the last kept are passed over
-module _ (after : Height) (us room ms : List Float) (count : ℕ) (h : count ≡ length (take (length room) ms)) (g : take count room ≡ take (length room) ms) where
+module _ (after : Option Float) (us room ms : List Float) (count : ℕ) (h : count ≡ length (take (length room) ms)) (g : take count room ≡ take (length room) ms) where
   record Stands (i : ℕ) : Type 0 where
     within_count : i ≤ count
     left : kept_after after us ≡ kept_after after (drop i ms)
@@ -173,19 +171,19 @@ module _ (after : Height) (us room ms : List Float) (count : ℕ) (h : count ≡
       go false x r = r (j ∙ ap (kept_after after) (there at (omega arith)) ∙ kept_skips after (get_or room at nan) (drop (suc at) ms) x ∙ (let z : suc at ≡ at + 1 = omega arith in ap (λ (i : ℕ). kept_after after (drop i ms)) z))
 
 -- the next of the heights, and what is left behind it
-module _ (ts : List Float) (n : Numbers ts) (after : Height) where
-  behind : (y : Float) (rest : List Float) → kept_after after (sorted ts) ≡ kept_after after (y ∷ rest) → beyond after y ≡ true → (first_of (kept_after after (sorted ts)) ≡ At y) × (kept_after (At y) (sorted ts) ≡ kept_after (At y) (y ∷ rest))
+module _ (ts : List Float) (n : Numbers ts) (after : Option Float) where
+  behind : (y : Float) (rest : List Float) → kept_after after (sorted ts) ≡ kept_after after (y ∷ rest) → beyond after y ≡ true → (first_of (kept_after after (sorted ts)) ≡ Some y) × (kept_after (Some y) (sorted ts) ≡ kept_after (Some y) (y ∷ rest))
   unfolding kept_after thinned_after
   behind y rest e b =
       let k = e ∙ kept_first after y rest b in
-      let f : first_of (kept_after after (sorted ts)) ≡ At y = ap first_of k in
+      let f : first_of (kept_after after (sorted ts)) ≡ Some y = ap first_of k in
       let number : is_nan y ≡ false = subst Number (sym (first_kept after (sorted ts)) ∙ f) (number_first after (sorted ts) (upward_sorted ts n)) in
-      let tails : y ∷ kept_after (At y) (sorted ts) ≡ y ∷ thinned_after y rest = sym (kept_next ts n after y f) ∙ k in
-      (f, (let z : kept_after (At y) (sorted ts) ≡ thinned_after y rest = cc in z ∙ rw (within_self y y (le_refl y number))))
+      let tails : y ∷ kept_after (Some y) (sorted ts) ≡ y ∷ thinned_after y rest = sym (kept_next ts n after y f) ∙ k in
+      (f, (let z : kept_after (Some y) (sorted ts) ≡ thinned_after y rest = cc in z ∙ rw (within_self y y (le_refl y number))))
 
   data Goes (s : List Float × Batch) : Type 0 where
     ends : height_at s.0 s.1 ≡ None → first_of (kept_after after (sorted ts)) ≡ None → Goes s
-    on : (y : Float) → height_at s.0 s.1 ≡ At y → first_of (kept_after after (sorted ts)) ≡ At y → Batched (At y) (sorted ts) s.0 s.1 → Goes s
+    on : (y : Float) → height_at s.0 s.1 ≡ Some y → first_of (kept_after after (sorted ts)) ≡ Some y → Batched (Some y) (sorted ts) s.0 s.1 → Goes s
 
   beyond_head : (us : List Float) (y : Float) (rest : List Float) → beyonds after us ≡ y ∷ rest → beyond after y ≡ true
   beyond_head [] y rest e = absurd (let z : ◌≡◌ {A = ℕ} 0 1 = cc in omega arith)
@@ -214,7 +212,7 @@ module _ (ts : List Float) (n : Numbers ts) (after : Height) where
             on y
             (ap (λ (l : List Float). height_at (state l).0 (state l).1) first ∙ rw (lt-ltb 0 (suc (length (take (length room - 1) rest))) (omega arith), lt-ltb 0 (suc (length (take (length room - 1) rest ++ drop (suc (length (take (length room - 1) rest))) room))) (omega arith)))
             b.0
-            (of_list (beyonds after (sorted ts)) (ap (λ (i : ℕ). length (take i (beyonds after (sorted ts)))) (sym same)) (take-append_seam low (drop (length low) room) ∙ ap (λ (i : ℕ). take i (beyonds after (sorted ts))) (sym same)) (omega arith) (b.1 ∙ ap (kept_after (At y)) (sym e)))
+            (of_list (beyonds after (sorted ts)) (ap (λ (i : ℕ). length (take i (beyonds after (sorted ts)))) (sym same)) (take-append_seam low (drop (length low) room) ∙ ap (λ (i : ℕ). take i (beyonds after (sorted ts))) (sym same)) (omega arith) (b.1 ∙ ap (kept_after (Some y)) (sym e)))
 
     module _ (b : Batch) where
       -- at the next of those that are there, or at the end of all
@@ -227,7 +225,7 @@ module _ (ts : List Float) (n : Numbers ts) (after : Height) where
         stays i s l =
             let t = there after (sorted ts) room ms b.count h g i l in
             let c = behind (get_or room i nan) (drop (suc i) ms) (s.left ∙ ap (kept_after after) t) (s.here l) in
-            on (get_or room i nan) (rw (lt-ltb i b.count l, lt-ltb i (length room) (omega (arith, count_le)))) c.0 (of_list ms h g s.within_count (c.1 ∙ ap (kept_after (At (get_or room i nan))) (sym t)))
+            on (get_or room i nan) (rw (lt-ltb i b.count l, lt-ltb i (length room) (omega (arith, count_le)))) c.0 (of_list ms h g s.within_count (c.1 ∙ ap (kept_after (Some (get_or room i nan))) (sym t)))
 
         ended : (i : ℕ) → Stands after (sorted ts) room ms b.count h g i → b.count ≤ i → b.count < length room → Goes (room, record { count = b.count; at = i })
         unfolding height_at
@@ -272,9 +270,9 @@ module _ (ts : List Float) (n : Numbers ts) (after : Height) where
             go (on y x z w) = x ∙ sym z
 
         -- and holds for the one behind it
-        pub held_on : (y : Float) → height_at (moved_on ts after room b).0 (moved_on ts after room b).1 ≡ At y → Batched (At y) (sorted ts) (moved_on ts after room b).0 (moved_on ts after room b).1
+        pub held_on : (y : Float) → height_at (moved_on ts after room b).0 (moved_on ts after room b).1 ≡ Some y → Batched (Some y) (sorted ts) (moved_on ts after room b).0 (moved_on ts after room b).1
         held_on y e = go (goes_on held)
           where
-            go : Goes (moved_on ts after room b) → Batched (At y) (sorted ts) (moved_on ts after room b).0 (moved_on ts after room b).1
+            go : Goes (moved_on ts after room b) → Batched (Some y) (sorted ts) (moved_on ts after room b).0 (moved_on ts after room b).1
             go (ends x z) = absurd (let q : ◌≡◌ {A = ℕ} 0 1 = cc in omega arith)
-            go (on v x z w) = let q : v ≡ y = cc in subst (λ (u : Float). Batched (At u) (sorted ts) (moved_on ts after room b).0 (moved_on ts after room b).1) q w
+            go (on v x z w) = let q : v ≡ y = cc in subst (λ (u : Float). Batched (Some u) (sorted ts) (moved_on ts after room b).0 (moved_on ts after room b).1) q w

@@ -1,5 +1,5 @@
 -- Laws that the code's loops and branches go by.
-use Rattle.std.specs.Prelude.{ℕ, ◌+◌, ◌-◌, ◌*◌, ◌≤◌, ◌<◌, ◌≡◌, Bool, ◌&&◌, cond, ltb, drop, Float}
+use Rattle.std.specs.Prelude.{Option, Some, None, ℕ, ◌*◌, ◌≡◌, Bool, ◌&&◌, cond, ltb, drop, Float, map}
 use Rattle.std.proofs.Common.{arith, sym, true≢false, List, [], ◌∷◌, ltb-false}
 use Rattle.std.proofs.Math.Path.{refl}
 use Rattle.std.proofs.Math.Bool.{true, false}
@@ -10,20 +10,19 @@ use Rattle.floats.specs.Order.{le_left}
 use Rattle.regions.specs.Ranges.{along}
 use Rattle.world.specs.declared.Point.{Point}
 use Rattle.world.specs.declared.Aabb.{Aabb}
-use Rattle.world.specs.declared.Found.TheVariants.{Here, End}
-use Rattle.world.specs.declared.Cell.TheVariants.{Unknown, Known}
+use Rattle.world.specs.declared.Cell.{Cell}
 use Rattle.world.specs.Boxes.{moved}
-use Rattle.world.specs.Laws.{run_none as boxes_none, run_end as boxes_end, run_more as boxes_more}
-use Rattle.world.specs.Space.{Space, Block, box_here, block_of}
+use Rattle.world.specs.Laws.{run_none as boxes_none}
+use Rattle.world.specs.Space.{Space, Block, run, block_of}
 use Rattle.heights.specs.declared.Band.{Band}
 use Rattle.heights.specs.Heights.{reaches, tops_of, tops_in, tops}
 use Rattle.heights.proofs.Next.{Numbers, numbers_gather}
-use Rattle.heights.specs.Laws.{run_fold, with_box}
+use Rattle.heights.specs.Laws.{with_box}
 
 module _ {S : Type 0} (band : Band) (x z : Float) (g : S → Float → S) where
   -- ---- a run of boxes, moved by a point, over any fold of tops
 
-  fold_cons : (t : S) (b : Aabb) (bs : List Aabb) → foldl g t (tops_of band x z (b ∷ bs)) ≡ foldl g (with_box band x z g t b) (tops_of band x z bs)
+  pub fold_cons : (t : S) (b : Aabb) (bs : List Aabb) → foldl g t (tops_of band x z (b ∷ bs)) ≡ foldl g (with_box band x z g t b) (tops_of band x z bs)
   unfolding tops_of
   fold_cons t b bs = pick (reaches band x z b)
     where
@@ -31,38 +30,36 @@ module _ {S : Type 0} (band : Band) (x z : Float) (g : S → Float → S) where
       pick true = refl
       pick false = refl
 
-  module _ (by : Point) (t : S) (s : List ℕ) (at left : ℕ) where
-    -- the table ends here
-    pub run_end : box_here s at ≡ End → run_fold band x z g by t s left at ≡ t
-    unfolding tops_of
-    run_end e = rw (boxes_end s at left e)
-
-    -- one box more
-    pub run_on : (b : Aabb) → 0 < left → box_here s at ≡ Here b → run_fold band x z g by t s left at ≡ run_fold band x z g by (with_box band x z g t (moved b by)) s (left - 1) (at + 48)
-    run_on b h e = rw (boxes_more s at left b h e) (fold_cons t (moved b by) _)
-
-    -- no box is left
-    pub run_none : left ≤ 0 → run_fold band x z g by t s left at ≡ t
-    unfolding tops_of
-    run_none h = let y : left ≡ 0 = omega arith in rw (y, boxes_none s at)
-
   -- ---- a cell, by the tests on it
 
   module _ (boxes : List ℕ) (p : Point) (t : S) where
-    pub unknown_none : foldl g t (tops_in band x z (block_of boxes Unknown p)) ≡ t
+    abbrev of_cell : Option Cell → S
+    of_cell o = foldl g t (tops_in band x z (block_of boxes o p))
+
+    pub unknown_none : of_cell None ≡ t
     unfolding tops_in block_of
     unknown_none = refl
 
-    -- no support, or no box
-    pub no_support : (o s : Bool) (first many : ℕ) (through : Bool) (state : ℕ) → (s && ltb 0 many) ≡ false → foldl g t (tops_in band x z (block_of boxes (Known o s first many through state) p)) ≡ t
-    unfolding tops_in block_of tops_of
-    no_support o false first many through state e = refl
-    no_support o true first many through state e = let y : many ≡ 0 = omega (arith, ltb-false 0 many e) in rw (y, boxes_none (drop (48 * first) boxes) 0)
+    module _ (c : Cell) where
+      abbrev own : List Aabb
+      own = map (λ (b : Aabb). moved b p) (run c.count (drop (48 * c.first) boxes) 0)
 
-    pub supports : (o s : Bool) (first many : ℕ) (through : Bool) (state : ℕ) → (s && ltb 0 many) ≡ true → foldl g t (tops_in band x z (block_of boxes (Known o s first many through state) p)) ≡ run_fold band x z g p t (drop (48 * first) boxes) many 0
-    unfolding tops_in block_of
-    supports o true first many through state e = refl
-    supports o false first many through state e = absurd (true≢false (sym e))
+      -- no support, or no box
+      pub no_support : (c.support && ltb 0 c.count) ≡ false → of_cell (Some c) ≡ t
+      unfolding tops_in block_of tops_of
+      no_support e = go c.support e
+        where
+          go : (s : Bool) → (s && ltb 0 c.count) ≡ false → foldl g t (cond s (tops_of band x z own) []) ≡ t
+          go false e = refl
+          go true e = let y : c.count ≡ 0 = omega (arith, ltb-false 0 c.count e) in rw (y, boxes_none (drop (48 * c.first) boxes) 0)
+
+      pub supports : (c.support && ltb 0 c.count) ≡ true → of_cell (Some c) ≡ foldl g t (tops_of band x z own)
+      unfolding tops_in block_of
+      supports e = go c.support e
+        where
+          go : (s : Bool) → (s && ltb 0 c.count) ≡ true → foldl g t (cond s (tops_of band x z own) []) ≡ foldl g t (tops_of band x z own)
+          go true e = refl
+          go false e = absurd (true≢false (sym e))
 
 -- ---- a top that is in the band is no NaN
 

@@ -1,12 +1,10 @@
 -- The heights one after the other: the next one is the first of the sorted tops that is not within E of the last kept.
-use Rattle.std.specs.Prelude.{ℕ, zero, suc, refl, Bool, true, false, not, cond, Float}
+use Rattle.std.specs.Prelude.{Option, Some, None, ℕ, zero, suc, refl, Bool, true, false, not, cond, Float}
 use Rattle.std.proofs.Math.Path.{◌≡◌}
 use Rattle.std.proofs.Common.{sym, ◌∙◌, subst, arith, List, [], ◌∷◌, ◌++◌}
 use Rattle.std.specs.Float.Ieee.{le, is_nan}
 use Rattle.floats.specs.Order.{le_refl, le_trans, lt_le, not_le}
 use Rattle.regions.specs.Ranges.{gather}
-use Rattle.heights.specs.declared.Height.{Height}
-use Rattle.heights.specs.declared.Height.TheVariants.{At, None}
 use Rattle.heights.specs.Heights.{insert, sorted, within, thinned, thinned_after, kept_after, first_of}
 use Rattle.heights.specs.Lowest.{beyond}
 
@@ -67,36 +65,36 @@ upward_numbers (t ∷ ts) h = (h.0, upward_numbers ts h.2)
 
 -- ---- the first of a sorted list that is not within E of the last kept
 
-abbrev pub first_beyond : Height → List Float → Height
+abbrev pub first_beyond : Option Float → List Float → Option Float
 first_beyond after [] = None
-first_beyond after (t ∷ ts) = cond (beyond after t) (At t) (first_beyond after ts)
+first_beyond after (t ∷ ts) = cond (beyond after t) (Some t) (first_beyond after ts)
 
-first_thinned : (kept : Float) (ts : List Float) → first_of (thinned_after kept ts) ≡ first_beyond (At kept) ts
+first_thinned : (kept : Float) (ts : List Float) → first_of (thinned_after kept ts) ≡ first_beyond (Some kept) ts
 unfolding thinned_after beyond
 first_thinned kept [] = refl
 first_thinned kept (t ∷ ts) = pick (within kept t) (first_thinned kept ts)
   where
-    pick : (b : Bool) → first_of (thinned_after kept ts) ≡ first_beyond (At kept) ts →
-        first_of (cond b (thinned_after kept ts) (t ∷ thinned_after t ts)) ≡ cond (not b) (At t) (first_beyond (At kept) ts)
+    pick : (b : Bool) → first_of (thinned_after kept ts) ≡ first_beyond (Some kept) ts →
+        first_of (cond b (thinned_after kept ts) (t ∷ thinned_after t ts)) ≡ cond (not b) (Some t) (first_beyond (Some kept) ts)
     pick true r = r
     pick false r = refl
 
-pub first_kept : (after : Height) (ts : List Float) → first_of (kept_after after ts) ≡ first_beyond after ts
+pub first_kept : (after : Option Float) (ts : List Float) → first_of (kept_after after ts) ≡ first_beyond after ts
 unfolding kept_after thinned beyond
 first_kept None [] = refl
 first_kept None (t ∷ ts) = refl
-first_kept (At kept) ts = first_thinned kept ts
+first_kept (Some kept) ts = first_thinned kept ts
 
 -- a height that is no NaN
-abbrev pub Number : Height → Type 0
+abbrev pub Number : Option Float → Type 0
 Number None = Unit {0}
-Number (At t) = is_nan t ≡ false
+Number (Some t) = is_nan t ≡ false
 
-pub number_first : (after : Height) (ts : List Float) → Upward ts → Number (first_beyond after ts)
+pub number_first : (after : Option Float) (ts : List Float) → Upward ts → Number (first_beyond after ts)
 number_first after [] p = tt
 number_first after (t ∷ ts) p = pick (beyond after t) (number_first after ts p.2)
   where
-    pick : (b : Bool) → Number (first_beyond after ts) → Number (cond b (At t) (first_beyond after ts))
+    pick : (b : Bool) → Number (first_beyond after ts) → Number (cond b (Some t) (first_beyond after ts))
     pick true r = p.0
     pick false r = r
 
@@ -106,39 +104,39 @@ pub within_self : (h t : Float) → le t h ≡ true → within h t ≡ true
 unfolding within
 within_self h t e = rw e
 
-at_most_first : (t : Float) (after : Height) (us : List Float) (h : Float) → Least t us → first_beyond after us ≡ At h → le t h ≡ true
+at_most_first : (t : Float) (after : Option Float) (us : List Float) (h : Float) → Least t us → first_beyond after us ≡ Some h → le t h ≡ true
 at_most_first t after [] h l e = absurd (let z : ◌≡◌ {A = ℕ} 0 1 = cc in omega arith)
 at_most_first t after (u ∷ us) h l e = pick (beyond after u) e (at_most_first t after us h l.1)
   where
-    pick : (b : Bool) → cond b (At u) (first_beyond after us) ≡ At h → (first_beyond after us ≡ At h → le t h ≡ true) → le t h ≡ true
+    pick : (b : Bool) → cond b (Some u) (first_beyond after us) ≡ Some h → (first_beyond after us ≡ Some h → le t h ≡ true) → le t h ≡ true
     pick true q r = let s : u ≡ h = cc in subst (λ (x : Float). le t x ≡ true) s l.0
     pick false q r = r q
 
-thinned_again : (kept : Float) (ts : List Float) (h : Float) → Upward ts → first_beyond (At kept) ts ≡ At h → thinned_after kept ts ≡ h ∷ thinned_after h ts
+thinned_again : (kept : Float) (ts : List Float) (h : Float) → Upward ts → first_beyond (Some kept) ts ≡ Some h → thinned_after kept ts ≡ h ∷ thinned_after h ts
 unfolding thinned_after beyond
 thinned_again kept [] h p e = absurd (let z : ◌≡◌ {A = ℕ} 0 1 = cc in omega arith)
-thinned_again kept (t ∷ ts) h p e = pick (within kept t) e (thinned_again kept ts h p.2) (at_most_first t (At kept) ts h p.1)
+thinned_again kept (t ∷ ts) h p e = pick (within kept t) e (thinned_again kept ts h p.2) (at_most_first t (Some kept) ts h p.1)
   where
-    pick : (b : Bool) → cond (not b) (At t) (first_beyond (At kept) ts) ≡ At h →
-        (first_beyond (At kept) ts ≡ At h → thinned_after kept ts ≡ h ∷ thinned_after h ts) → (first_beyond (At kept) ts ≡ At h → le t h ≡ true) →
+    pick : (b : Bool) → cond (not b) (Some t) (first_beyond (Some kept) ts) ≡ Some h →
+        (first_beyond (Some kept) ts ≡ Some h → thinned_after kept ts ≡ h ∷ thinned_after h ts) → (first_beyond (Some kept) ts ≡ Some h → le t h ≡ true) →
         cond b (thinned_after kept ts) (t ∷ thinned_after t ts) ≡ h ∷ cond (within h t) (thinned_after h ts) (t ∷ thinned_after t ts)
     pick true q r l = rw (within_self h t (l q)) (r q)
     pick false q r l = let s : t ≡ h = cc in rw (← s, within_self t t (le_refl t p.0))
 
 module _ (ts : List Float) (n : Numbers ts) where
-  pub kept_end : (after : Height) → first_of (kept_after after (sorted ts)) ≡ None → kept_after after (sorted ts) ≡ []
+  pub kept_end : (after : Option Float) → first_of (kept_after after (sorted ts)) ≡ None → kept_after after (sorted ts) ≡ []
   kept_end after e = go (kept_after after (sorted ts)) e
     where
       go : (us : List Float) → first_of us ≡ None → us ≡ []
       go [] e = refl
       go (u ∷ us) e = absurd (let z : ◌≡◌ {A = ℕ} 0 1 = cc in omega arith)
 
-  pub kept_next : (after : Height) (h : Float) → first_of (kept_after after (sorted ts)) ≡ At h →
-      kept_after after (sorted ts) ≡ h ∷ kept_after (At h) (sorted ts)
+  pub kept_next : (after : Option Float) (h : Float) → first_of (kept_after after (sorted ts)) ≡ Some h →
+      kept_after after (sorted ts) ≡ h ∷ kept_after (Some h) (sorted ts)
   unfolding kept_after thinned thinned_after
-  kept_next (At kept) h e = thinned_again kept (sorted ts) h (upward_sorted ts n) (sym (first_kept (At kept) (sorted ts)) ∙ e)
+  kept_next (Some kept) h e = thinned_again kept (sorted ts) h (upward_sorted ts n) (sym (first_kept (Some kept) (sorted ts)) ∙ e)
   kept_next None h e = go (sorted ts) (upward_sorted ts n) e
     where
-      go : (us : List Float) → Upward us → first_of (thinned us) ≡ At h → thinned us ≡ h ∷ thinned_after h us
+      go : (us : List Float) → Upward us → first_of (thinned us) ≡ Some h → thinned us ≡ h ∷ thinned_after h us
       go [] p e = absurd (let z : ◌≡◌ {A = ℕ} 0 1 = cc in omega arith)
       go (u ∷ us) p e = let s : u ≡ h = cc in rw (← s, within_self u u (le_refl u p.0))

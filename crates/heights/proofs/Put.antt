@@ -1,5 +1,5 @@
 -- A top put in its place among the lowest of a room, turn by turn; and that so, of a column's tops in any order, the room has the lowest.
-use Rattle.std.specs.Prelude.{ℕ, zero, suc, ◌+◌, ◌-◌, ◌≤◌, ◌<◌, refl, Bool, true, false, cond, ltb, get_or, drop, set}
+use Rattle.std.specs.Prelude.{Option, ℕ, zero, suc, ◌+◌, ◌-◌, ◌≤◌, ◌<◌, refl, Bool, true, false, cond, ltb, get_or, drop, set}
 use Rattle.std.proofs.Common.{arith, add-one, sym, ◌∙◌, ltb-true, ltb-false, lt-ltb, take-append-drop, length-append, length-drop, drop-cons, take-suc, get_or-append-add, get_or-drop, length-take-le, take_at, take_all, drop-drop, List, [], ◌∷◌, ◌++◌, append-nil, append_assoc}
 use Rattle.std.proofs.Math.Path.{◌≡◌, ap}
 use mathlib.Core.List.{foldl}
@@ -9,7 +9,6 @@ use Rattle.std.proofs.Math.Seq.{append_snoc, drop-append_seam, drop-append-add, 
 use Rattle.std.specs.Float.Ieee.{Float, lt, le, is_nan}
 use Rattle.std.specs.Float.{nan}
 use Rattle.floats.specs.Order.{false_true, le_trans, lt_le, lt_turned, not_lt, not_le, le_not_lt, lt_le_trans}
-use Rattle.heights.specs.declared.Height.{Height}
 use Rattle.heights.specs.Heights.{insert, sorted}
 use Rattle.heights.specs.Lowest.{beyond, beyonds, lowest, laid_over}
 use Rattle.heights.proofs.Next.{Numbers, Least, Upward, upward_sorted, upward_numbers, numbers_append}
@@ -124,7 +123,7 @@ above_least : (t u : Float) (us : List Float) → lt t u ≡ true → Least u us
 above_least t u [] h l = tt
 above_least t u (v ∷ us) h l = (lt_le_trans t u v h l.0, above_least t u us h l.1)
 
-module _ (after : Height) where
+module _ (after : Option Float) where
   in_front : (t : Float) (us : List Float) → Above t us → insert_after t (beyonds after us) ≡ t ∷ beyonds after us
   in_front t [] h = refl
   in_front t (u ∷ us) h = go (beyond after u) (in_front t us h.1)
@@ -179,7 +178,7 @@ upward_take (suc n) (u ∷ us) h = (h.0, least_take n u us h.1, upward_take n us
     least_take (suc n) t [] h = tt
     least_take (suc n) t (u ∷ us) h = (h.0, least_take n t us h.1)
 
-upward_beyonds : (after : Height) (us : List Float) → Upward us → Upward (beyonds after us)
+upward_beyonds : (after : Option Float) (us : List Float) → Upward us → Upward (beyonds after us)
 upward_beyonds after [] h = tt
 upward_beyonds after (u ∷ us) h = go (beyond after u) (upward_beyonds after us h.2)
   where
@@ -195,7 +194,7 @@ upward_beyonds after (u ∷ us) h = go (beyond after u) (upward_beyonds after us
     go true r = (h.0, least_beyonds u us h.1, r)
     go false r = r
 
-lowest_snoc : (n : ℕ) (after : Height) (ts : List Float) (t : Float) → Numbers ts → is_nan t ≡ false →
+lowest_snoc : (n : ℕ) (after : Option Float) (ts : List Float) (t : Float) → Numbers ts → is_nan t ≡ false →
     lowest n after (ts ++ (t ∷ [])) ≡ cond (beyond after t) (take n (insert_after t (lowest n after ts))) (lowest n after ts)
 unfolding lowest
 lowest_snoc n after ts t p q = ap (λ (l : List Float). take n (beyonds after l)) (sorted_snoc ts t p q) ∙ ap (take n) (beyonds_insert after t (sorted ts) (upward_sorted ts p)) ∙ go (beyond after t)
@@ -296,7 +295,7 @@ module _ (room : List Float) where
           let back : drop (length us) (us ++ rest) ≡ drop (length (take (length us) ins)) room = drop-append_seam us rest ∙ ap (λ (i : ℕ). drop i room) (sym short) in
           rw same (λ i. (front i ++ back i, sym short i))
 
-  module _ (after : Height) where
+  module _ (after : Option Float) where
     few : (ts : List Float) → length (lowest (length room) after ts) ≤ length room
     unfolding lowest
     few ts = omega (arith, length-take (length room) (beyonds after (sorted ts)))

@@ -1,5 +1,5 @@
 -- 01, Graph step: the heights of a column that a step may go to. Definitions only.
-use Rattle.std.specs.Prelude.{Bool, ◌&&◌, ◌||◌, cond, List, [], ◌∷◌, pos, ◌-ℤ◌, Float}
+use Rattle.std.specs.Prelude.{Option, Some, None, Bool, ◌&&◌, ◌||◌, cond, List, [], ◌∷◌, pos, ◌-ℤ◌, Float}
 use Rattle.std.specs.Float.{binary64}
 use Rattle.std.specs.Float.Ieee.{le, add, sub}
 use Rattle.floats.specs.Floats.{E}
@@ -8,8 +8,6 @@ use Rattle.regions.specs.Ranges.{along}
 use Rattle.world.specs.declared.Aabb.{Aabb}
 use Rattle.world.specs.Space.{Space, Block}
 use Rattle.heights.specs.declared.Band.{Band}
-use Rattle.heights.specs.declared.Height.{Height}
-use Rattle.heights.specs.declared.Height.TheVariants.{At, None}
 
 -- "box tops from low to high, E allowed, .. whose box spans the centre, borders included"
 unfoldable pub reaches : Band → Float → Float → Aabb → Bool
@@ -58,14 +56,14 @@ heights sp band x z = thinned (sorted (tops sp band x z))
 
 -- ---- one after the other: those left once the last kept is given, and the first of them
 
-unfoldable pub kept_after : Height → List Float → List Float
+unfoldable pub kept_after : Option Float → List Float → List Float
 kept_after None ts = thinned ts
-kept_after (At kept) ts = thinned_after kept ts
+kept_after (Some kept) ts = thinned_after kept ts
 
-abbrev pub first_of : List Float → Height
+abbrev pub first_of : List Float → Option Float
 first_of [] = None
-first_of (t ∷ ts) = At t
+first_of (t ∷ ts) = Some t
 
 -- the next of the heights after the last kept one, the first of all where none is kept yet
-unfoldable pub next_after : Space → Band → Float → Float → Height → Height
+unfoldable pub next_after : Space → Band → Float → Float → Option Float → Option Float
 next_after sp band x z after = first_of (kept_after after (sorted (tops sp band x z)))

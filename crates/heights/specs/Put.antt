@@ -1,10 +1,9 @@
 -- A top put in its place among the lowest of a room, turn by turn; and that so, of a column's tops in any order, the room has the lowest.
-use Rattle.std.specs.Prelude.{ℕ, zero, suc, ◌+◌, cond, ltb, get_or, drop}
+use Rattle.std.specs.Prelude.{Option, ℕ, zero, suc, ◌+◌, cond, ltb, get_or, drop}
 use mathlib.Core.List.{List, ◌∷◌, ◌++◌}
 use Rattle.std.proofs.Math.ListN.{length, take}
 use Rattle.std.specs.Float.Ieee.{Float, lt}
 use Rattle.std.specs.Float.{nan}
-use Rattle.heights.specs.declared.Height.{Height}
 use Rattle.heights.specs.Lowest.{beyond}
 
 -- ---- one top more
@@ -31,5 +30,5 @@ abbrev pub put : List Float × ℕ → Float → List Float × ℕ
 put s t = (with_front (one_more (length s.0) s.1) (put_before (place_of t s.0 s.1) t s.0) s.0, one_more (length s.0) s.1)
 
 -- where it is not within E of the last kept
-abbrev pub taken : Height → List Float × ℕ → Float → List Float × ℕ
+abbrev pub taken : Option Float → List Float × ℕ → Float → List Float × ℕ
 taken after s t = cond (beyond after t) (put s t) s

@@ -1,12 +1,12 @@
 // A column gone through by batches of its lowest tops (01, The graph, "Graph step"): as many heights as a room has places for in one pass over the column.
 ghost use Rattle.std.specs.Prelude.{◌≡◌, ◌≤◌, ◌-◌, length};
-ghost use Rattle.world.specs.Space.{space};
+ghost use Rattle.world.specs.Space.{space_of};
 ghost use Rattle.heights.specs.Heights.{tops};
 ghost use Rattle.heights.specs.Lowest.{first_from, moved_on, height_at};
 
 use crate::lowest::lowest_tops;
-use crate::{Band, Height, is_beyond};
-use world::Window;
+use crate::{Shaft, is_beyond};
+use world::World;
 
 // So many tops at the front of a room, and the place of the one that is next. A batch that is as long as its room may have left tops out.
 #[derive(Clone, Copy)]
@@ -16,32 +16,21 @@ pub struct Batch {
 }
 
 // The first place from one on, of so many, whose top is not within E of the last kept.
-fn first_beyond(room: &[f64], from: usize, count: usize, after: Height) -> usize
+fn first_beyond(room: &[f64], from: usize, count: usize, after: Option<f64>) -> usize
     requires { count ≤ length room.now }
     ensures { result ≡ first_from after room.now from (count - from) }
 {
-    let mut at = from;
-    while at < count && !is_beyond(after, room[at]) {
-        at += 1;
+    for at in from..count {
+        if is_beyond(after, room[at]) {
+            return at;
+        }
     }
-    at
+    from.max(count)
 }
 
 // The batch moved on to the next height after the last kept one; where it is used up and was full, the room is filled again from the column.
-pub fn advance(
-    w: Window,
-    cells: &[u8],
-    perms: &[u8],
-    shapes: &[u8],
-    boxes: &[u8],
-    band: Band,
-    x: f64,
-    z: f64,
-    after: Height,
-    room: &mut [f64],
-    b: Batch,
-) -> Batch
-    ensures { (room.new, result) ≡ moved_on (tops (space w cells.now perms.now shapes.now boxes.now) band x z) after room.old b }
+pub fn advance(world: World, shaft: Shaft, after: Option<f64>, room: &mut [f64], b: Batch) -> Batch
+    ensures { (room.new, result) ≡ moved_on (tops (space_of world.entry) shaft.band shaft.x shaft.z) after room.old b }
 {
     let short = b.count < room.len();
     let count = if short { b.count } else { room.len() };
@@ -49,17 +38,17 @@ pub fn advance(
     if (at < count) | short {
         return Batch { count, at };
     }
-    let count = lowest_tops(w, cells, perms, shapes, boxes, band, x, z, after, room);
+    let count = lowest_tops(world, shaft, after, room);
     Batch { count, at: 0 }
 }
 
 // The height that a batch is at.
-pub fn height_at(room: &[f64], b: Batch) -> Height
+pub fn height_at(room: &[f64], b: Batch) -> Option<f64>
     ensures { result ≡ height_at room.now b }
 {
     let at = b.at;
     if (at < b.count) & (at < room.len()) {
-        return Height::At(room[at]);
+        return Some(room[at]);
     }
-    Height::None
+    None
 }

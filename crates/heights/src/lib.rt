@@ -7,13 +7,13 @@ mod batches;
 mod lowest;
 
 ghost use Rattle.std.specs.Prelude.{◌≡◌};
-ghost use Rattle.world.specs.Space.{space};
+ghost use Rattle.world.specs.Space.{space_of};
 ghost use Rattle.heights.specs.Heights.{reaches, next_after};
 ghost use Rattle.heights.specs.Lowest.{beyond};
 
 pub use batches::{Batch, advance, height_at};
 pub use lowest::lowest_tops;
-use world::{Aabb, Window};
+use world::{Aabb, World};
 
 // The tops that a step may go to lie from low to high.
 #[derive(Clone, Copy)]
@@ -22,17 +22,19 @@ pub struct Band {
     pub high: f64,
 }
 
-// A height of a column, or none.
+// Where a column is looked at: at its centre (x, z), in a band.
 #[derive(Clone, Copy)]
-pub enum Height {
-    At(f64),
-    None,
+pub struct Shaft {
+    pub band: Band,
+    pub x: f64,
+    pub z: f64,
 }
 
 // Whether a box has a top in the band, and spans the centre.
-fn reaches_to(band: Band, x: f64, z: f64, b: Aabb) -> bool
-    ensures { result ≡ reaches band x z b }
+fn reaches_to(shaft: Shaft, b: Aabb) -> bool
+    ensures { result ≡ reaches shaft.band shaft.x shaft.z b }
 {
+    let Shaft { band, x, z } = shaft;
     // A column's boxes may be many, and those off the band are known by their top alone.
     let level = (band.low - floats::E <= b.max.y) & (b.max.y <= band.high + floats::E);
     if !level {
@@ -41,32 +43,22 @@ fn reaches_to(band: Band, x: f64, z: f64, b: Aabb) -> bool
     (b.min.x <= x) & (x <= b.max.x) & (b.min.z <= z) & (z <= b.max.z)
 }
 
-// Whether a top is not within E of the last kept.
-fn is_beyond(after: Height, top: f64) -> bool
+// Whether a top is not within E of the last kept; where none is kept yet, every top is.
+fn is_beyond(after: Option<f64>, top: f64) -> bool
     ensures { result ≡ beyond after top }
 {
-    let Height::At(kept) = after else {
+    let Some(kept) = after else {
         return true;
     };
     !((top <= kept) | (top - kept <= floats::E))
 }
 
-// The next of the heights of the column with the centre (x, z), after the last kept one.
-pub fn next_height(
-    w: Window,
-    cells: &[u8],
-    perms: &[u8],
-    shapes: &[u8],
-    boxes: &[u8],
-    band: Band,
-    x: f64,
-    z: f64,
-    after: Height,
-) -> Height
-    ensures { result ≡ next_after (space w cells.now perms.now shapes.now boxes.now) band x z after }
+// The next of the heights of a column, after the last kept one; None where there is none.
+pub fn next_height(world: World, shaft: Shaft, after: Option<f64>) -> Option<f64>
+    ensures { result ≡ next_after (space_of world.entry) shaft.band shaft.x shaft.z after }
 {
     let mut one = [0.0; 1];
-    let count = lowest_tops(w, cells, perms, shapes, boxes, band, x, z, after, &mut one);
+    let count = lowest_tops(world, shaft, after, &mut one);
     let only = Batch { count, at: 0 };
     height_at(&one, only)
 }

@@ -9,4 +9,4 @@ returns-in_default c = rw c.in_default.is
 
 pub returns : goal.returns
 unfolding beyond within
-returns c = rw c.in-At.is
+returns c = rw c.in-Some.is

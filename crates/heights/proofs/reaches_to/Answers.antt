@@ -34,7 +34,7 @@ module _ (band : Band) (x z : Float) (b : Aabb) where
   inside e = kept spans (le (sub binary64 band.low E) b.max.y) (le b.max.y (add binary64 band.high E)) e
 
 pub returns-then-not-level : goal.returns-then-not-level
-returns-then-not-level c = let a = c.args in sym (outside a.band a.x a.z a.b (c.if-not-level.true))
+returns-then-not-level c = let a = c.args in sym (outside a.shaft.band a.shaft.x a.shaft.z a.b (c.if-not-level.true))
 
 pub returns : goal.returns
-returns c = let a = c.args in sym (inside a.band a.x a.z a.b (c.if-not-level.false))
+returns c = let a = c.args in sym (inside a.shaft.band a.shaft.x a.shaft.z a.b (c.if-not-level.false))

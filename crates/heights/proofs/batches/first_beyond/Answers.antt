@@ -1,5 +1,5 @@
 -- `heights::batches::first_beyond` meets its contract. Assumes nothing.
-use Rattle.std.proofs.Common.{arith, ◌≡◌, sym, ap, ◌∙◌, ◌-◌, ◌+◌}
+use Rattle.std.proofs.Common.{arith, ◌≡◌, sym, ap, ◌∙◌, ◌-◌, ◌+◌, max}
 use Rattle.heights.specs.Lowest.{first_from}
 use Rattle.heights.proofs.BatchLaws.{place_here, place_later, place_end}
 use Rattle.heights.proofs.batches.first_beyond.Goals as goal
@@ -9,16 +9,17 @@ loop-at-preserved c =
     let a = c.args in
     let l = c.loop-at in
     let z : a.count - l.at - 1 ≡ a.count - (l.at + 1) = omega arith in
-    l.invariant ∙ place_later a.after a.room.now l.at (a.count - l.at) (omega arith) (sym c.is_beyond.ensures ∙ c.if-not-is_beyond.true) ∙ ap (first_from a.after a.room.now (l.at + 1)) z
+    (omega arith, l.invariant.1 ∙ place_later a.after a.room.now l.at (a.count - l.at) (omega arith) (sym c.is_beyond.ensures ∙ c.if-is_beyond.false) ∙ ap (first_from a.after a.room.now (l.at + 1)) z)
 
-pub returns-else-not-is_beyond : goal.returns-else-not-is_beyond
-returns-else-not-is_beyond c =
+pub returns-then-is_beyond : goal.returns-then-is_beyond
+returns-then-is_beyond c =
     let a = c.args in
     let l = c.loop-at in
-    sym (l.invariant ∙ place_here a.after a.room.now l.at (a.count - l.at) (omega arith) (sym c.is_beyond.ensures ∙ c.if-not-is_beyond.false))
+    sym (l.invariant.1 ∙ place_here a.after a.room.now l.at (a.count - l.at) (omega arith) (sym c.is_beyond.ensures ∙ c.if-is_beyond.true))
 
-pub returns-after-loop-at : goal.returns-after-loop-at
-returns-after-loop-at c =
+pub returns : goal.returns
+returns c =
     let a = c.args in
     let l = c.loop-at in
-    sym (l.invariant ∙ place_end a.after a.room.now l.at (a.count - l.at) (omega arith))
+    let e : l.at ≡ max a.from a.count = omega arith in
+    c.max.ensures ∙ sym (l.invariant.1 ∙ place_end a.after a.room.now l.at (a.count - l.at) (omega arith) ∙ e)

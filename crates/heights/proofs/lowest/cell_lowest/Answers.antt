@@ -8,7 +8,7 @@ use Rattle.heights.proofs.lowest.cell_lowest.Goals as goal
 use Rattle.heights.proofs.lowest.cell_lowest.Goals.{After-cell_at, After-corner_of-by}
 
 -- signed numbers are what the machine reads back from their bits
-cell : (c : After-cell_at) → let a = c.args in cell_at a.w a.cells.now a.perms.now a.shapes.now a.cx a.y a.cz ≡ c.cell_at.result
+cell : (c : After-cell_at) → let a = c.args in cell_at a.world.window a.world.cells.now a.world.perms.now a.world.shapes.now a.cx a.y a.cz ≡ c.cell_at.result
 cell c =
     let f : SFits w64 c.args.cx = c.ranges.cx in
     let g : SFits w64 c.args.y = c.ranges.y in
@@ -22,23 +22,21 @@ point c =
     let h : SFits w64 c.args.cz = c.ranges.cz in
     simp (to_z-of_z, f, g, h) at c.corner_of-by.ensures
 
-pub run_lowest-requires : goal.run_lowest-requires
-run_lowest-requires c = c.requires
-
-pub returns-in-Unknown : goal.returns-in-Unknown
+pub returns-in_default-clause-result_after : goal.returns-in_default-clause-result_after
 unfolding space
-returns-in-Unknown c =
+returns-in_default-clause-result_after c =
     let a = c.args in
-    record { result_after = rw (cell (goal.at.returns-in-Unknown c).After-cell_at ∙ c.in-Unknown.is) (sym (unknown_none a.band a.x a.z (taken a.after) _ _ _)); upper_bound = c.requires }
+    rw (cell (goal.at.returns-in_default-clause-result_after c).After-cell_at ∙ c.in_default.is) (sym (unknown_none a.shaft.band a.shaft.x a.shaft.z (taken a.after) _ _ _))
 
-pub returns-then-support-count : goal.returns-then-support-count
+pub returns-then-cell-clause-result_after : goal.returns-then-cell-clause-result_after
 unfolding space
-returns-then-support-count c =
+returns-then-cell-clause-result_after c =
     let a = c.args in
-    record { result_after = rw (cell (goal.at.returns-then-support-count c).After-cell_at ∙ c.in-Known.is) (rw (c.boxes_from-part.ensures, point (goal.at.returns-then-support-count c).After-corner_of-by) at c.run_lowest.ensures.result_after ∙ sym (supports a.band a.x a.z (taken a.after) _ _ _ _ _ _ _ _ _ c.if-support-count.true)); upper_bound = c.run_lowest.ensures.upper_bound }
+    let at = goal.at.returns-then-cell-clause-result_after c in
+    rw (cell at.After-cell_at ∙ c.in-Some.is) (rw (c.boxes_in-run.ensures, point at.After-corner_of-by) at c.run_lowest.ensures.result_after ∙ sym (supports a.shaft.band a.shaft.x a.shaft.z (taken a.after) _ _ _ c.in-Some.cell c.if-cell.true))
 
-pub returns-else-support-count : goal.returns-else-support-count
+pub returns-clause-result_after : goal.returns-clause-result_after
 unfolding space
-returns-else-support-count c =
+returns-clause-result_after c =
     let a = c.args in
-    record { result_after = rw (cell (goal.at.returns-else-support-count c).After-cell_at ∙ c.in-Known.is) (sym (no_support a.band a.x a.z (taken a.after) _ _ _ _ _ _ _ _ _ c.if-support-count.false)); upper_bound = c.requires }
+    rw (cell (goal.at.returns-clause-result_after c).After-cell_at ∙ c.in-Some.is) (sym (no_support a.shaft.band a.shaft.x a.shaft.z (taken a.after) _ _ _ c.in-Some.cell c.if-cell.false))

@@ -1,11 +1,12 @@
 -- `heights::lowest::column_lowest` meets its contract. Assumes nothing.
-use Rattle.std.proofs.Common.{ℕ, ◌<◌, ◌^◌, ◌≡◌, sym, ap, ◌∙◌, List, rules, ℤ, pos, ◌+ℤ◌, Float, w64, SFits, to_z, of_z, to_z-of_z, true}
+use Rattle.std.proofs.Common.{arith, rules, ℕ, ◌≡◌, sym, ap, ◌∙◌, Bool, refl, List, ℤ, pos, ◌+ℤ◌, Float, w64, SFits, to_z, of_z, to_z-of_z, true, false}
 use mathlib.Core.List.{foldl}
 use mir.Facts.{sfits_to_z}
-use lib.Signed.{le_z, mag}
+use lib.Signed.{le_z, lt_z}
+use Rattle.cells.specs.Parts.{sum, lt_yes, lt_no, le_yes, within, upper, lower}
 use Rattle.regions.specs.Ranges.{along}
-use Rattle.regions.specs.RangeLaws.{count_falls, fold_on, fold_ends, next_fits}
-use Rattle.world.specs.Space.{space}
+use Rattle.regions.specs.RangeLaws.{fold_on, fold_ends}
+use Rattle.world.specs.Space.{space_of}
 use Rattle.heights.specs.Heights.{tops_in}
 use Rattle.heights.specs.Put.{taken}
 use Rattle.heights.proofs.lowest.column_lowest.Goals as goal
@@ -13,48 +14,62 @@ use Rattle.heights.proofs.lowest.column_lowest.Goals.{Start}
 
 -- the tops of a layer. The loop has its signed numbers as bits
 abbrev at : (s : Start) → ℤ → List Float
-at s = λ y. tops_in s.args.band s.args.x s.args.z (space s.args.w s.args.cells.now s.args.perms.now s.args.shapes.now s.args.boxes.now (to_z w64 (of_z w64 s.args.cx)) y (to_z w64 (of_z w64 s.args.cz)))
+at s = λ y. tops_in s.args.shaft.band s.args.shaft.x s.args.shaft.z (space_of s.args.world (to_z w64 (of_z w64 s.args.cx)) y (to_z w64 (of_z w64 s.args.cz)))
 
--- the ends of the layers, as the machine reads them back from their bits
-first_is : (s : Start) → to_z w64 (of_z w64 s.args.layers.first) ≡ s.args.layers.first
-first_is s = to_z-of_z {w = w64} (search rules)
+-- what some layers make of the lowest so far
+abbrev made : (s : Start) → List Float × ℕ → ℤ → List Float × ℕ
+made s t y = foldl (taken s.args.after) t (along (at s) y s.args.layers.last)
+
+whole : (s : Start) → let a = s.args in foldl (taken a.after) (a.room.now, 0) (along (λ y. tops_in a.shaft.band a.shaft.x a.shaft.z (space_of a.world a.cx y a.cz)) a.layers.first a.layers.last)
+    ≡ made s (a.room.now, 0) a.layers.first
+unfolding along
+whole s = rw (to_z-of_z {w = w64} s.ranges.cx, to_z-of_z {w = w64} s.ranges.cz)
+
+last_fits : (s : Start) → SFits w64 s.args.layers.last
+last_fits s = search rules
 
 last_is : (s : Start) → to_z w64 (of_z w64 s.args.layers.last) ≡ s.args.layers.last
-last_is s = to_z-of_z {w = w64} (search rules)
+last_is s = to_z-of_z {w = w64} (last_fits s)
 
-whole : (s : Start) → let a = s.args in foldl (taken a.after) (a.room.now, 0) (along (λ y. tops_in a.band a.x a.z (space a.w a.cells.now a.perms.now a.shapes.now a.boxes.now a.cx y a.cz)) a.layers.first a.layers.last)
-    ≡ foldl (taken a.after) (a.room.now, 0) (along (at s) (to_z w64 (of_z w64 a.layers.first)) (to_z w64 (of_z w64 a.layers.last)))
-unfolding along
-whole s = rw (first_is s, last_is s, to_z-of_z {w = w64} s.ranges.cx, to_z-of_z {w = w64} s.ranges.cz)
+-- the layer after one that is not the last, and none after the last
+module _ (y last : ℤ) where
+  next_is : SFits w64 y → SFits w64 last → lt_z y last ≡ true → to_z w64 (of_z w64 (y +ℤ pos 1)) ≡ y +ℤ pos 1
+  next_is f g e = to_z-of_z {w = w64} (within w64 (y +ℤ pos 1) (omega (arith, sum y (pos 1), lt_yes y last e, upper w64 last g)) (omega (arith, sum y (pos 1), lower w64 y f)))
 
--- the layer after that of a turn
-next_layer : (y last : ℤ) → SFits w64 y → le_z y (to_z w64 (of_z w64 last)) ≡ true → to_z w64 (of_z w64 last) ≡ last → mag last < 2 ^ 31 → SFits w64 (y +ℤ pos 1)
-next_layer y last f e z h = next_fits y last f (rw z at e) h
-
-next_is : (y last : ℤ) → SFits w64 y → le_z y (to_z w64 (of_z w64 last)) ≡ true → to_z w64 (of_z w64 last) ≡ last → mag last < 2 ^ 31 → to_z w64 (of_z w64 (y +ℤ pos 1)) ≡ y +ℤ pos 1
-next_is y last f e z h = to_z-of_z {w = w64} (next_layer y last f e z h)
-
-pub overflow_add-y : goal.overflow_add-y
-overflow_add-y c = next_layer (to_z w64 c.loop-y.y-bits) c.args.layers.last (sfits_to_z {w = w64} {n = c.loop-y.y-bits} c.loop-y.auto.y-fits) c.loop-y-test.true (last_is (goal.at.overflow_add-y c).Start) c.requires
-
-pub loop-y-smaller : goal.loop-y-smaller
-loop-y-smaller c =
-    rw (next_is (to_z w64 c.loop-y.y-bits) c.args.layers.last (sfits_to_z {w = w64} {n = c.loop-y.y-bits} c.loop-y.auto.y-fits) c.loop-y-test.true (last_is (goal.at.loop-y-smaller c).Start) c.requires)
-    (count_falls (to_z w64 c.loop-y.y-bits) (to_z w64 (of_z w64 c.args.layers.last)) c.loop-y-test.true)
+  past : lt_z y last ≡ false → le_z (y +ℤ pos 1) last ≡ false
+  past h = go (le_z (y +ℤ pos 1) last) refl
+    where
+      go : (b : Bool) → le_z (y +ℤ pos 1) last ≡ b → le_z (y +ℤ pos 1) last ≡ false
+      go true e = absurd (omega (arith, sum y (pos 1), le_yes (y +ℤ pos 1) last e, lt_no y last h))
+      go false e = e
 
 pub loop-y-preserved : goal.loop-y-preserved
 loop-y-preserved c =
     let s = (goal.at.loop-y-preserved c).Start in
-    let rest : List Float = along (at s) (to_z w64 c.loop-y.y-bits +ℤ pos 1) (to_z w64 (of_z w64 c.args.layers.last)) in
-    rw (next_is (to_z w64 c.loop-y.y-bits) c.args.layers.last (sfits_to_z {w = w64} {n = c.loop-y.y-bits} c.loop-y.auto.y-fits) c.loop-y-test.true (last_is s) c.requires) (
-      c.cell_lowest-count.auto.room ∙ c.loop-y.invariant.0,
+    let l = c.loop-y in
+    let y : ℤ = to_z w64 l.y-bits in
+    let n : to_z w64 (of_z w64 (y +ℤ pos 1)) ≡ y +ℤ pos 1 = next_is y s.args.layers.last (sfits_to_z {w = w64} {n = l.y-bits} l.auto.y-fits) (last_fits s) (rw (last_is s) at c.if-y-y-end.true) in
+    rw n (
+      c.cell_lowest-count.auto.room ∙ l.invariant.0,
       c.cell_lowest-count.ensures.upper_bound,
-      c.loop-y.invariant.2
-          ∙ fold_on (taken c.args.after) (at s) (c.loop-y.room, c.loop-y.count) _ _ c.loop-y-test.true
-          ∙ ap (λ (s : List Float × ℕ). foldl (taken c.args.after) s rest) (sym c.cell_lowest-count.ensures.result_after),
+      l.invariant.2
+          ∙ fold_on (taken c.args.after) (at s) (l.room, l.count) y s.args.layers.last (rw (last_is s) at c.loop-y-test.true)
+          ∙ ap (λ (t : List Float × ℕ). made s t (y +ℤ pos 1)) (sym c.cell_lowest-count.ensures.result_after),
     )
 
 pub returns : goal.returns
 returns c =
     let s = (goal.at.returns c).Start in
-    sym (whole s ∙ c.loop-y.invariant.2 ∙ fold_ends (taken c.args.after) (at s) (c.loop-y.room, c.loop-y.count) _ _ c.loop-y-test.false)
+    let l = c.loop-y in
+    sym (whole s ∙ l.invariant.2 ∙ fold_ends (taken c.args.after) (at s) (l.room, l.count) (to_z w64 l.y-bits) s.args.layers.last (rw (last_is s) at c.loop-y-test.false))
+
+-- the last layer
+pub returns-2 : goal.returns-2
+returns-2 c =
+    let s = (goal.at.returns-2 c).Start in
+    let l = c.loop-y in
+    let y : ℤ = to_z w64 l.y-bits in
+    sym (whole s ∙ l.invariant.2
+    ∙ fold_on (taken c.args.after) (at s) (l.room, l.count) y s.args.layers.last (rw (last_is s) at c.loop-y-test.true)
+    ∙ fold_ends (taken c.args.after) (at s) (foldl (taken c.args.after) (l.room, l.count) (at s y)) (y +ℤ pos 1) s.args.layers.last (past y s.args.layers.last (rw (last_is s) at c.if-y-y-end.false))
+    ∙ sym c.cell_lowest-count.ensures.result_after)

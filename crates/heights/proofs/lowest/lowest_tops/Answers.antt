@@ -2,25 +2,21 @@
 use Rattle.std.proofs.Common.{ℕ, ◌≡◌, ap, ◌∙◌, List, rules, Float, w64, to_z, of_z, to_z-of_z}
 use mathlib.Core.List.{foldl}
 use Rattle.cells.specs.Cells.{floor_cell}
-use Rattle.cells.specs.CellLaws.{floor_range}
-use Rattle.world.specs.Space.{space}
+use Rattle.world.specs.Space.{space_of}
 use Rattle.heights.specs.Heights.{tops}
 use Rattle.heights.specs.Put.{taken}
 use Rattle.heights.proofs.Put.{all_taken}
 use Rattle.heights.proofs.Laws.{numbers}
 use Rattle.heights.proofs.lowest.lowest_tops.Goals as goal
 
-pub column_lowest-requires : goal.column_lowest-requires
-column_lowest-requires c = rw c.floors-layers.ensures (floor_range c.args.band.high)
-
 pub returns : goal.returns
 unfolding tops
 returns c =
     let a = c.args in
-    let f : to_z w64 (of_z w64 c.floor_cell-cx.result) ≡ floor_cell a.x = to_z-of_z {w = w64} (search rules) ∙ c.floor_cell-cx.ensures in
-    let g : to_z w64 (of_z w64 c.floor_cell-cz.result) ≡ floor_cell a.z = to_z-of_z {w = w64} (search rules) ∙ c.floor_cell-cz.ensures in
-    let s = space a.w a.cells.now a.perms.now a.shapes.now a.boxes.now in
-    let gathered : ◌≡◌ {A = List Float × ℕ} (c.column_lowest.new.room, c.column_lowest.result) (foldl (taken a.after) (a.room.now, 0) (tops s a.band a.x a.z)) =
+    let f : to_z w64 (of_z w64 c.floor_cell-cx.result) ≡ floor_cell a.shaft.x = to_z-of_z {w = w64} (search rules) ∙ c.floor_cell-cx.ensures in
+    let g : to_z w64 (of_z w64 c.floor_cell-cz.result) ≡ floor_cell a.shaft.z = to_z-of_z {w = w64} (search rules) ∙ c.floor_cell-cz.ensures in
+    let s = space_of a.world in
+    let gathered : ◌≡◌ {A = List Float × ℕ} (c.column_lowest.new.room, c.column_lowest.result) (foldl (taken a.after) (a.room.now, 0) (tops s a.shaft.band a.shaft.x a.shaft.z)) =
     rw (f, g, c.floors-layers.ensures) at c.column_lowest.ensures in
-    let e = gathered ∙ all_taken a.room.now a.after (tops s a.band a.x a.z) (numbers a.band a.x a.z s) in
+    let e = gathered ∙ all_taken a.room.now a.after (tops s a.shaft.band a.shaft.x a.shaft.z) (numbers a.shaft.band a.shaft.x a.shaft.z s) in
     record { value = ap (λ (s : List Float × ℕ). s.1) e; room_after = ap (λ (s : List Float × ℕ). s.0) e }
