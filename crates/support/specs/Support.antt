@@ -1,6 +1,5 @@
 -- 01, The graph, "Supported segment". Definitions only.
-use Rattle.std.specs.Prelude.{Bool, true, ◌&&◌, ◌||◌, cond, List, [], ◌∷◌, ◌++◌, map, pos, ◌-ℤ◌, Float}
-use Rattle.std.proofs.Math.Option.{Option, none, some}
+use Rattle.std.specs.Prelude.{Bool, true, ◌&&◌, ◌||◌, cond, List, [], ◌∷◌, ◌++◌, map, pos, ◌-ℤ◌, Float, Option, Some, None}
 use Rattle.std.specs.Float.{binary64}
 use Rattle.std.specs.Float.Ieee.{lt, le, eq, add, sub, mul, div, of_bits}
 use Rattle.floats.specs.Floats.{E, nought, smaller, larger}
@@ -14,8 +13,6 @@ use Rattle.world.specs.declared.Aabb.{Aabb}
 use Rattle.world.specs.Boxes.{one, span}
 use Rattle.world.specs.Space.{Space, Block}
 use Rattle.support.specs.declared.Interval.{Interval}
-use Rattle.support.specs.declared.Span.{Span}
-use Rattle.support.specs.declared.Span.TheVariants.{Over, Nowhere}
 use Rattle.support.specs.Cover.{covers}
 
 -- 0.5
@@ -67,26 +64,21 @@ counts f b =
 unfoldable pub narrowed : Float → Float → Float → Float → Interval → Option Interval
 narrowed start delta least greatest i =
     cond (eq delta nought)
-    (cond (lt start least || lt greatest start) none (some i))
+    (cond (lt start least || lt greatest start) None (Some i))
     (let a = div binary64 (sub binary64 least start) delta in
     let b = div binary64 (sub binary64 greatest start) delta in
-    some (record { begin = larger i.begin (smaller a b); end = smaller i.end (larger a b) }))
+    Some (record { begin = larger i.begin (smaller a b); end = smaller i.end (larger a b) }))
 
 abbrev pub and_then : {A B : Type 0} → Option A → (A → Option B) → Option B
-and_then none f = none
-and_then (some a) f = f a
+and_then None f = None
+and_then (Some a) f = f a
 
 -- in x, then in z; an interval that begins behind its end is none
 unfoldable pub interval : Aabb → Point → Point → Option Interval
 interval b from to =
     and_then (narrowed from.x (sub binary64 to.x from.x) b.min.x b.max.x (record { begin = nought; end = one })) (λ i.
     and_then (narrowed from.z (sub binary64 to.z from.z) b.min.z b.max.z i) (λ j.
-    cond (le j.begin j.end) (some j) none))
-
--- what the code's answer says: an interval, or none
-abbrev pub told : Span → Option Interval
-told (Over i) = some i
-told Nowhere = none
+    cond (le j.begin j.end) (Some j) None))
 
 -- the shapes that count, their intervals, and whether each of them has bit 2
 unfoldable pub counting : Aabb → List Shape → List Shape
@@ -94,8 +86,8 @@ counting f [] = []
 counting f (s ∷ ss) = cond (counts f s.box) (s ∷ counting f ss) (counting f ss)
 
 abbrev pub ahead : Option Interval → List Interval → List Interval
-ahead none is = is
-ahead (some i) is = i ∷ is
+ahead None is = is
+ahead (Some i) is = i ∷ is
 
 unfoldable pub intervals : Point → Point → List Shape → List Interval
 intervals from to [] = []

@@ -16,24 +16,10 @@ pub struct Interval {
     pub end: f64,
 }
 
-// The part of the centre line above a box, where there is one.
-#[derive(Clone, Copy)]
-pub enum Span {
-    Over(Interval),
-    Nowhere,
-}
-
 // A way from one foot to the other, and its footprint.
 #[derive(Clone, Copy)]
 pub struct Way {
     pub from: Point,
     pub to: Point,
     pub under: Aabb,
-}
-
-// How far a pass covers the centre line from 0 on, and whether a shape refused it there.
-#[derive(Clone, Copy)]
-pub struct Reach {
-    pub to: f64,
-    pub refused: bool,
 }
