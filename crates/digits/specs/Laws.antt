@@ -1,5 +1,5 @@
 -- Laws of digits and of decimal places.
-use Rattle.std.specs.Prelude.{ℕ, zero, suc, ◌+◌, ◌-◌, ◌/◌, ◌%◌, ◌^◌, ◌<◌, ◌≤◌, ◌≡◌, refl, Bool, true, false, cond, List, [], ◌∷◌, ◌++◌, ltb, leb, length, set}
+use Rattle.std.specs.Prelude.{ℕ, zero, suc, max, ◌+◌, ◌-◌, ◌*◌, ◌/◌, ◌%◌, ◌^◌, ◌<◌, ◌≤◌, ◌≡◌, refl, Bool, true, false, cond, List, [], ◌∷◌, ◌++◌, ltb, leb, length, set}
 use Rattle.std.proofs.Common.{arith, pow-suc, div-lt_iff_lt-mul, sym, ap, ◌∙◌, lt-ltb, le-ltb, ltb-true, ltb-false, le-leb, leb-true, leb-false, length-append}
 use Rattle.std.proofs.lemmas.Bool.{lt-leb}
 use Rattle.std.proofs.lemmas.List.Edits.{sets}
@@ -96,6 +96,22 @@ some_place v = go v v
         pick : (t : Bool) → 1 ≤ cond t 1 (suc (places_by f (v / 10)))
         pick true = omega arith
         pick false = omega arith
+
+-- so a number from 10 ^ k on, and below ten times that, has k + 1 places
+power_pos : (k : ℕ) → 0 < 10 ^ k
+power_pos zero = omega arith
+power_pos (suc k) = omega (arith, pow-suc 10 k, power_pos k)
+
+pub places_by_power : (k v : ℕ) → 10 ^ k ≤ v → v < 10 * 10 ^ k → places v ≡ suc k
+places_by_power zero v h l = one_place v l
+places_by_power (suc k) v h l =
+    more_places v (omega (arith, pow-suc 10 k, power_pos k))
+    ∙ ap suc (places_by_power k (v / 10) (omega (arith, pow-suc 10 k)) (omega (arith, pow-suc 10 k)))
+
+-- 0 has one, as 1 has
+pub places_from_one : (v : ℕ) → places v ≡ places (max v 1)
+places_from_one zero = one_place 0 (omega arith) ∙ sym (one_place 1 (omega arith))
+places_from_one (suc v) = ap places (omega arith)
 
 -- no digit of v is cut off
 holds_by : (f v : ℕ) → v ≤ f → v < 10 ^ places_by f v

@@ -13,21 +13,19 @@ const ROOM: usize = 21;
 fn has_room(length: usize, at: usize) -> bool
     ensures { result ≡ leb (at + 21) length }
 {
-    if length < ROOM {
-        return false;
-    }
-    at <= length - ROOM
+    ROOM <= length && at <= length - ROOM
 }
 
 // A digit as a byte: 0 to 9, then a to f.
+#[tactic(auto, using(crate::specs::Laws::low_digit, crate::specs::Laws::high_digit))]
 fn digit_of(d: u64) -> u8
     requires { d < 16 }
     ensures { result ≡ digit d }
 {
     if d < 10 {
-        (48 + d) as u8
+        b'0' + d as u8
     } else {
-        (87 + d) as u8
+        b'a' + (d - 10) as u8
     }
 }
 
@@ -42,12 +40,10 @@ fn put_digits(out: &mut [u8], at: usize, base: u64, width: usize, v: u64, end: u
         return at;
     }
     out[at + width] = end;
-    let mut k = width;
     let mut rest = v;
-    while 0 < k {
-        k -= 1;
+    for k in (0..width).rev() {
         out[at + k] = digit_of(rest % base);
-        rest = rest / base;
+        rest /= base;
     }
     at + width + 1
 }
@@ -56,16 +52,11 @@ fn put_digits(out: &mut [u8], at: usize, base: u64, width: usize, v: u64, end: u
 fn places_of(v: u64) -> usize
     ensures { (result ≡ places v) × (result ≤ 20) }
 {
-    let mut n: usize = 1;
-    let mut rest = v;
-    while 10 <= rest {
-        rest = rest / 10;
-        n += 1;
-    }
-    n
+    v.max(1).ilog10() as usize + 1
 }
 
 // 16 hexadecimal digits and the byte that ends the field. The answer is the offset behind it.
+#[tactic(auto, unfolding(crate::specs::Digits::hex))]
 pub fn put_hex(out: &mut [u8], at: usize, v: u64, end: u8) -> usize
     ensures next { result ≡ behind (hex v) at out.old }
     ensures bytes { out.new ≡ with_field (hex v) end at out.old }
@@ -74,6 +65,7 @@ pub fn put_hex(out: &mut [u8], at: usize, v: u64, end: u8) -> usize
 }
 
 // A count in decimal and the byte that ends the field.
+#[tactic(auto, unfolding(crate::specs::Digits::decimal))]
 pub fn put_decimal(out: &mut [u8], at: usize, v: u64, end: u8) -> usize
     ensures next { result ≡ behind (decimal v) at out.old }
     ensures bytes { out.new ≡ with_field (decimal v) end at out.old }
