@@ -1,9 +1,7 @@
 -- How a record of the list compares with an edge and with the start (01, The graph, "Same point"). Definitions only.
-use Rattle.std.specs.Prelude.{Bool, false, ◌&&◌}
+use Rattle.std.specs.Prelude.{Bool, false, ◌&&◌, Option, Some, None}
 use Rattle.world.specs.declared.Point.{Point}
 use Rattle.moves.specs.declared.answer.Waypoint.{Waypoint}
-use Rattle.moves.specs.declared.answer.EdgeAnswer.{EdgeAnswer}
-use Rattle.moves.specs.declared.answer.EdgeAnswer.TheVariants.{To, Nowhere}
 use Rattle.rooms.specs.declared.Label.{Label}
 use Rattle.rooms.specs.declared.WaypointRecord.{WaypointRecord}
 use Rattle.rooms.specs.Waypoints.{same_point, alike, standing}
@@ -14,9 +12,9 @@ unfoldable pub leads_to : WaypointRecord → Waypoint → Bool
 leads_to v step = same_point (feet_of step.feet) v.feet && alike (label_of step) v.label
 
 -- an answer is an edge with a label
-abbrev pub labelled_by : EdgeAnswer → Label → Bool
-labelled_by Nowhere l = false
-labelled_by (To step) l = alike (label_of step) l
+abbrev pub labelled_by : Option Waypoint → Label → Bool
+labelled_by None l = false
+labelled_by (Some step) l = alike (label_of step) l
 
 -- a record is the start's: its point, Walk, lift 0, and no door
 abbrev pub starts : Point → WaypointRecord → Bool

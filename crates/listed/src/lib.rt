@@ -6,13 +6,20 @@ ghost use Rattle.std.specs.Prelude.{◌≡◌};
 ghost use Rattle.rooms.specs.Waypoints.{same_point, alike};
 ghost use Rattle.words.specs.Words.{feet_of, label_of};
 ghost use Rattle.rooms.specs.Records.{waypoint_at};
-ghost use Rattle.listed.specs.Listed.{bad_list};
+ghost use Rattle.listed.specs.Listed.{entry, above3, bad_list};
 ghost use Rattle.listed.specs.Compared.{leads_to, labelled_by, starts};
 
 use equal_points::same_word;
-use moves::{EdgeAnswer, Waypoint};
-use rooms::{NO_DOOR, WaypointRecord};
+use moves::Waypoint;
+use rooms::{Label, NO_DOOR, WaypointRecord};
 use world::Point;
+
+// The start's label: Walk, lift 0 and no door.
+const STANDING: Label = Label {
+    lift: 0,
+    movement: 0,
+    door: NO_DOOR,
+};
 
 // Whether a point is a record's.
 pub fn same_feet(p: Point, v: WaypointRecord) -> bool
@@ -21,39 +28,34 @@ pub fn same_feet(p: Point, v: WaypointRecord) -> bool
     equal_points::same_point(words::feet_of(p), v.feet)
 }
 
+// Whether two labels are alike: their movements, their lifts and their doors.
+#[tactic(auto, unfolding(rooms::specs::Waypoints::alike))]
+fn alike(a: Label, b: Label) -> bool
+    ensures { result ≡ alike a b }
+{
+    (a.movement == b.movement) & (same_word(a.lift, b.lift) & (a.door == b.door))
+}
+
 // Whether an edge leads to a record: its point, its movement, its lift and its door.
+#[tactic(auto, unfolding(crate::specs::Compared::leads_to))]
 pub fn leads_to(v: WaypointRecord, step: Waypoint) -> bool
     ensures { result ≡ leads_to v step }
 {
-    same_feet(step.feet, v) & same_label(step, v)
+    same_feet(step.feet, v) & alike(words::label_of(step), v.label)
 }
 
-// Whether an edge has a record's movement, lift and door.
-fn same_label(step: Waypoint, v: WaypointRecord) -> bool
-    ensures { result ≡ alike (label_of step) v.label }
+// Whether there is an edge, with a record's movement, lift and door.
+pub fn labelled_by(edge: Option<Waypoint>, v: WaypointRecord) -> bool
+    ensures { result ≡ labelled_by edge v.label }
 {
-    let kind = step.movement;
-    let movement = moves::movement_number(kind);
-    let lift = floats::bits_of(step.lift);
-    (movement == v.label.movement) & (same_word(lift, v.label.lift) & (step.door == v.label.door))
+    edge.is_some_and(|step| alike(words::label_of(step), v.label))
 }
 
-// Whether an answer is an edge with a record's movement, lift and door.
-pub fn labelled_by(answer: EdgeAnswer, v: WaypointRecord) -> bool
-    ensures { result ≡ labelled_by answer v.label }
-{
-    let EdgeAnswer::To(step) = answer else {
-        return false;
-    };
-    same_label(step, v)
-}
-
-// Whether a record is the start's: its point, Walk, lift 0 and no door.
+// Whether a record is the start's: its point and its label.
 fn is_start(start: Point, v: WaypointRecord) -> bool
     ensures { result ≡ starts start v }
 {
-    same_feet(start, v)
-        & ((0 == v.label.movement) & (same_word(0, v.label.lift) & (NO_DOOR == v.label.door)))
+    same_feet(start, v) & alike(STANDING, v.label)
 }
 
 // Whether the first record of a list is the start's.
@@ -63,17 +65,19 @@ pub fn begins_at(start: Point, list: &[u8]) -> bool
     is_start(start, rooms::get_waypoint(list, 0))
 }
 
+// Whether the movement of record k is above 3.
+fn is_above(list: &[u8], k: usize) -> bool
+    ensures { result ≡ above3 (entry (waypoint_at list.now k)) }
+{
+    3 < rooms::get_waypoint(list, k).label.movement
+}
+
 // Whether a list is bad: empty, with a partial record, or with a movement above 3.
 pub fn is_bad(list: &[u8]) -> bool
     ensures { result ≡ bad_list list.now }
 {
-    let n = list.len() / 48;
-    let mut bad = (list.len() % 48 != 0) | (list.len() == 0);
-    let mut k: usize = 0;
-    while (k < n) & !bad {
-        let v = rooms::get_waypoint(list, k);
-        bad = 3 < v.label.movement;
-        k += 1;
+    if (list.len() % 48 != 0) | (list.len() == 0) {
+        return true;
     }
-    bad
+    (0..list.len() / 48).any(|k| is_above(list, k))
 }

@@ -1,19 +1,20 @@
 -- `listed::is_bad` meets its contract. Assumes nothing.
-use Rattle.std.proofs.Common.{sym, ◌∙◌, arith}
-use Rattle.listed.specs.Laws.{bad_begins, still_good, bad_on, bad_ends}
+use Rattle.std.proofs.Common.{refl, arith, rules, tests, ◌∙◌, ◌/◌, length}
+use Rattle.std.proofs.lemmas.Iterator.{YieldsList-from_range}
+use Rattle.std.proofs.lemmas.Iterator.Search.{any_from_yields_List}
+use Rattle.rooms.specs.Records.{waypoint_at}
+use Rattle.listed.specs.Listed.{entry, waypoints, above3, bad_list}
+use Rattle.listed.specs.Laws.{any_above}
 use Rattle.listed.proofs.is_bad.Goals as goal
 
-pub loop-k-init : goal.loop-k-init
-loop-k-init c = bad_begins c.args.list.now
-
-pub overflow_add-k : goal.overflow_add-k
-overflow_add-k c = omega (arith, (still_good c.args.list.now c.loop-k.k c.loop-k.bad c.loop-k-test.true).0)
-
-pub loop-k-smaller : goal.loop-k-smaller
-loop-k-smaller c = omega (arith, (still_good c.args.list.now c.loop-k.k c.loop-k.bad c.loop-k-test.true).0)
-
-pub loop-k-preserved : goal.loop-k-preserved
-loop-k-preserved c = c.loop-k.invariant ∙ bad_on c.args.list.now c.loop-k.k c.loop-k.bad c.loop-k-test.true _ c.get_waypoint-v.ensures
+pub returns-then-list : goal.returns-then-list
+unfolding bad_list
+returns-then-list c = rw c.if-list.true
 
 pub returns : goal.returns
-returns c = sym (c.loop-k.invariant ∙ bad_ends c.args.list.now c.loop-k.k c.loop-k.bad c.loop-k-test.false)
+unfolding bad_list waypoints
+returns c =
+    let s = c.args.list.now in
+    let n = length s / 48 in
+    rw c.if-list.false
+    (any_from_yields_List (λ k. above3 (entry (waypoint_at s k))) _ _ c.any.result c.any.ensures.ran (YieldsList-from_range 0 n n refl (omega arith)) (λ x b q k. search (rules, tests)) ∙ any_above s 0 n)
