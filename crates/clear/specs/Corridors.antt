@@ -1,14 +1,14 @@
 -- The door of an area (02, No. 5): "the state number, as u64, of the first crossed cell that is known, lacks bit 4 and whose voxel intersects a corridor area, taken in
 -- lift, crossing, settle order and within each in the clear check's y, x, z order; 4294967295 when there is none." A cell that is known and lacks bit 4 has a door
 -- (`door` of a `Block`: world, Space); here is which of an area's cells comes first. The three areas of a way are in `ways`. Definitions only.
-use Rattle.std.specs.Prelude.{ℕ, cond, List, [], ◌∷◌, eqb}
+use Rattle.std.specs.Prelude.{ℕ, cond, List, [], ◌∷◌, eqb, Option}
+use Rattle.std.specs.Bool.{then_some}
 use Rattle.regions.specs.Ranges.{along}
 use Rattle.regions.specs.declared.Spot.{Spot}
 use Rattle.world.specs.declared.Point.{Point}
 use Rattle.world.specs.declared.Aabb.{Aabb}
 use Rattle.world.specs.Boxes.{meets, corner, voxel}
 use Rattle.world.specs.Space.{Space, Block, no_door}
-use Rattle.clear.specs.declared.Corridor.{Corridor}
 use Rattle.clear.specs.Clear.{around, clear}
 
 -- the first of two: the second where the first is none
@@ -39,6 +39,6 @@ door_at sp area p = cell_door area (corner p.x p.y p.z) (sp p.x p.y p.z)
 unfoldable pub door_in : Space → Aabb → ℕ
 door_in sp area = first_door (door_at sp area) (crossed_cells area)
 
--- a corridor area: whether it is clear, and the door that it has only then
-unfoldable pub corridor : Space → Aabb → Corridor
-corridor sp area = record { clear = clear sp area; door = cond (clear sp area) (door_in sp area) no_door }
+-- a corridor area: the door that it has, where it is clear
+unfoldable pub corridor : Space → Aabb → Option ℕ
+corridor sp area = then_some (clear sp area) (door_in sp area)

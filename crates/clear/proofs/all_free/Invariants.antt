@@ -1,18 +1,10 @@
 -- `clear::all_free` meets its contract. Assumes nothing.
-use Rattle.std.proofs.Common.{◌&&◌, ◌≡◌, length}
+use Rattle.std.proofs.Common.{◌≡◌}
 use Rattle.regions.specs.Regions.{cells_of}
-use Rattle.regions.specs.RegionLaws.{to_come, Proper}
-use Rattle.world.specs.Space.{space}
-use Rattle.clear.specs.Corridors.{or_else}
-use Rattle.clear.specs.Laws.{free_along, door_along}
+use Rattle.world.specs.Space.{space_of}
+use Rattle.clear.specs.Laws.{corridor_along, corridor_behind}
 use Rattle.clear.proofs.all_free.Given as goal
 
-abbrev pub invariant-loop-cursor : goal.invariant-loop-cursor
-invariant-loop-cursor l =
-    let sp = space l.w l.cells l.perms l.shapes l.boxes in
-    Proper l.region l.cursor
-    × (free_along sp l.area (cells_of l.region) ≡ l.free && free_along sp l.area (to_come l.region l.cursor))
-    × (door_along sp l.area (cells_of l.region) ≡ or_else l.door (door_along sp l.area (to_come l.region l.cursor)))
-
-abbrev pub decreases-loop-cursor : goal.decreases-loop-cursor
-decreases-loop-cursor l = length (to_come l.region l.cursor)
+-- the cells that are left go on behind the first door so far
+abbrev pub invariant-loop-at : goal.invariant-loop-at
+invariant-loop-at l = corridor_along (space_of l.world) l.area (cells_of l.fn.region) ≡ corridor_behind (space_of l.world) l.area l.door l.at-iterator
