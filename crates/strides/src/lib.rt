@@ -5,18 +5,9 @@
 
 ghost use Rattle.strides.specs.Strides.{Strode};
 
-use moves::EdgeAnswer;
-use rooms::{Counts, NodeRecord};
-use visits::{Aim, Visit};
-use world::Point;
-
-// The node that is expanded: its number, its record, and the point that its feet are read as.
-#[derive(Clone, Copy)]
-pub struct Place {
-    pub number: usize,
-    pub node: NodeRecord,
-    pub point: Point,
-}
+use moves::Waypoint;
+use rooms::{Counts, WaypointRecord};
+use visits::{Aim, Place};
 
 // What a column has come to: the counts, and whether an edge so far does not climb.
 #[derive(Clone, Copy)]
@@ -31,31 +22,23 @@ pub fn step_to(
     front: &mut [u8],
     aim: Aim,
     at: Place,
-    edge: EdgeAnswer,
+    edge: Option<Waypoint>,
     j: usize,
     c: Column,
 ) -> Column
     ensures { Strode aim at edge j c result nodes.old front.old nodes.new front.new }
 {
-    let EdgeAnswer::To(way) = edge else {
+    let Some(way) = edge else {
         return c;
     };
     let level = c.level | sides::is_level(at.point, way.feet);
-    let visit = reach::visit(
-        nodes,
-        front,
-        aim,
-        at.number,
-        at.node,
-        c.counts,
-        j,
-        words::feet_of(way.feet),
-        words::label_of(way),
-    );
-    let Visit::Counted(counts) = visit else {
+    let to = WaypointRecord {
+        feet: words::feet_of(way.feet),
+        label: words::label_of(way),
+    };
+    let Some(counts) = reach::visit(nodes, front, aim, at, c.counts, j, to) else {
         // A closed side still answers (01).
-        let counts = c.counts;
-        return Column { counts, level };
+        return Column { level, ..c };
     };
     Column { counts, level }
 }
