@@ -4,7 +4,7 @@ use Rattle.scene_state.specs.declared.state.Scene.{Scene}
 use Rattle.scene_state.specs.Answers.{given}
 use Rattle.outcomes.specs.declared.Answer as search
 use Rattle.search.specs.FindWalkPath.{found, nodes_after, front_after, index_after, out_after}
-use Rattle.print_lines.specs.declared.Told.{Told}
+use Rattle.report.specs.declared.lines.Told.{Told}
 use Rattle.print.specs.Print.{told_of, answered, nodes_of, front_of, index_of, out_of, told}
 
 module _ (cells perms shapes boxes nodes front index out : List ℕ) (s : Scene) where

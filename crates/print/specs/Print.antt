@@ -10,7 +10,7 @@ use Rattle.outcomes.specs.declared.Answer as search
 use Rattle.outcomes.specs.Outcomes.{outcome_number}
 use Rattle.search.specs.FindWalkPath.{found, nodes_after, front_after, index_after, out_after}
 use Rattle.lengths.specs.Length.{length_of}
-use Rattle.print_lines.specs.declared.Told.{Told}
+use Rattle.report.specs.declared.lines.Told.{Told}
 
 -- "Refusals print `refused`, number, record": nothing else is told of one
 unfoldable pub refusal : ℕ → ℕ → Told

@@ -4,7 +4,7 @@ use native.Mathlib.Omega.{arith}
 use Rattle.std.specs.Prelude.{◌≡◌, refl, Bool, true, false, cond, List, [], ◌++◌, ltb, length, drop}
 use Rattle.std.proofs.Common.{ap, ◌∙◌, length-append, lt-ltb, le-ltb}
 use Rattle.report.specs.Lines.{waypoint_line, in_buffer, count_in}
-use Rattle.print_lines.specs.declared.Told.{Told}
+use Rattle.report.specs.declared.lines.Told.{Told}
 use Rattle.print_lines.specs.Lines.{line_of}
 
 module _ (t : Told) (list : List ℕ) where

@@ -4,6 +4,7 @@ use Rattle.std.specs.Float.{binary64}
 use Rattle.std.specs.Float.Ieee.{to_bits}
 use Rattle.fields.specs.Little.{field}
 use Rattle.digits.specs.Digits.{hex, decimal}
+use Rattle.report.specs.declared.lines.Told.{Told}
 
 -- ---- words
 
@@ -72,6 +73,10 @@ refused_line number bad = line (refused ∷ decimal number ∷ decimal (record_o
 unfoldable pub first_line : ℕ → ℕ → ℕ → ℕ → ℕ → Float → List ℕ
 first_line number bad waypoints retained closed total =
     cond (ltb number 3) (line_one number waypoints retained closed (to_bits binary64 total)) (refused_line number bad)
+
+-- the first line of what is told
+abbrev pub line_told : Told → List ℕ
+line_told t = first_line t.number t.bad t.waypoints t.retained t.closed t.total
 
 -- "a line a waypoint: place, movement, x, y, z, lift", the numbers by their bits; and 02, No. 5, of the door: "walkprint prints it last in decimal"
 unfoldable pub waypoint_fields : ℕ → ℕ → ℕ → ℕ → ℕ → ℕ → ℕ → List ℕ

@@ -5,4 +5,4 @@
 pub mod lines;
 mod words;
 
-pub use lines::{first_line, waypoint_line};
+pub use lines::{Told, first_line, waypoint_line};

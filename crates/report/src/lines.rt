@@ -2,12 +2,10 @@
 // shorter is left as it was, and the answer is 0.
 ghost use Rattle.std.specs.Prelude.{◌≡◌, ◌+◌, ◌≤◌, length};
 ghost use Rattle.digits.specs.Digits.{decimal};
-ghost use Rattle.report.specs.Lines.{record_of, first_line, waypoint_fields, waypoint_line, in_buffer, count_in};
+ghost use Rattle.report.specs.Lines.{record_of, line_told, waypoint_fields, waypoint_line, in_buffer, count_in};
 ghost use Rattle.report.specs.LineLaws.{head, Headed, Whole};
-ghost use Rattle.report.specs.Words.{spell};
 
 use crate::words;
-use crate::words::Word;
 
 // The room that every line has enough of.
 pub const ROOM: usize = 128;
@@ -17,9 +15,9 @@ const SPACE: u8 = 32;
 const NEWLINE: u8 = 10;
 
 // What the first line begins with: a word and two counts. Of a refusal that is all.
-fn put_head(out: &mut [u8], word: Word, a: u64, b: u64, end: u8) -> usize
-    requires { (128 ≤ length out.old) × (word.from + word.size ≤ 53) × (word.size ≤ 20) }
-    ensures { Headed out.old out.new result (head (spell word.from word.size) (decimal a) (decimal b)) end }
+fn put_head(out: &mut [u8], word: &[u8], a: u64, b: u64, end: u8) -> usize
+    requires { (128 ≤ length out.old) × (length word.now ≤ 20) }
+    ensures { Headed out.old out.new result (head word.now (decimal a) (decimal b)) end }
 {
     let c = words::put_word(out, 0, word);
     let d = digits::put_decimal(out, c, a, SPACE);
@@ -27,35 +25,46 @@ fn put_head(out: &mut [u8], word: Word, a: u64, b: u64, end: u8) -> usize
 }
 
 // The record that a refusal names: only 7 BadScene has one, and the others print 0.
+#[tactic(auto, unfolding(crate::specs::Lines::record_of))]
 fn record_of(number: u64, bad: u64) -> u64
     ensures { result ≡ record_of number bad }
 {
     if number == 7 { bad } else { 0 }
 }
 
+// The number given back, the record that a refusal names, how many waypoints the list has, how many nodes were retained and closed, and the length.
+#[derive(Clone, Copy)]
+pub struct Told {
+    pub number: u64,
+    pub bad: u64,
+    pub waypoints: usize,
+    pub retained: u64,
+    pub closed: u64,
+    pub total: f64,
+}
+
 // The first line, by the number given back: line 1 for 0 to 2, and else a refusal's, which is all that is printed then.
-pub fn first_line(
-    out: &mut [u8],
-    number: u64,
-    bad: u64,
-    waypoints: u64,
-    retained: u64,
-    closed: u64,
-    total: f64,
-) -> usize
-    ensures count { result ≡ count_in (first_line number bad waypoints retained closed total) out.old }
-    ensures bytes { out.new ≡ in_buffer (first_line number bad waypoints retained closed total) out.old }
+pub fn first_line(out: &mut [u8], told: Told) -> usize
+    ensures count { result ≡ count_in (line_told told) out.old }
+    ensures bytes { out.new ≡ in_buffer (line_told told) out.old }
 {
     if out.len() < ROOM {
         return 0;
     }
+    let number = told.number;
     if number < 3 {
         let word = words::outcome_word(number);
-        let a = put_head(out, word, waypoints, retained, SPACE);
-        let b = digits::put_decimal(out, a, closed, SPACE);
-        return digits::put_hex(out, b, floats::bits_of(total), NEWLINE);
+        let a = put_head(out, word, told.waypoints as u64, told.retained, SPACE);
+        let b = digits::put_decimal(out, a, told.closed, SPACE);
+        return digits::put_hex(out, b, floats::bits_of(told.total), NEWLINE);
     }
-    put_head(out, words::REFUSED, number, record_of(number, bad), NEWLINE)
+    put_head(
+        out,
+        words::REFUSED,
+        number,
+        record_of(number, told.bad),
+        NEWLINE,
+    )
 }
 
 // The fields of a waypoint's line.

@@ -1,4 +1,5 @@
 -- `report::lines::first_line` meets its contract. Assumes nothing.
+use Rattle.std.proofs.Common.{rules}
 use mathlib.Core.List.{[], ◌∷◌, ◌++◌}
 use mathlib.Core.Path.{sym, ap, ◌∙◌}
 use native.Mathlib.Omega.{arith}
@@ -7,7 +8,6 @@ use Rattle.digits.specs.Digits.{hex, decimal}
 use Rattle.digits.specs.Laws.{hex_field, decimal_field}
 use Rattle.report.specs.Lines.{refused, outcome_word, line_one, refused_line}
 use Rattle.report.specs.LineLaws.{then, whole, head, head_then, shown, too_short, outcome_first, refusal_first}
-use Rattle.report.specs.Words.{spells_refused}
 use Rattle.report.proofs.lines.first_line.Goals as goal
 
 pub returns-then-out-lt-ROOM : goal.returns-then-out-lt-ROOM
@@ -18,16 +18,16 @@ returns-then-out-lt-ROOM c =
     record { count = w.0; bytes = w.1 }
 
 pub put_head-a-requires : goal.put_head-a-requires
-put_head-a-requires c = let word = c.outcome_word-word.ensures in (omega arith, word.inside, word.short)
+put_head-a-requires c = (omega arith, c.outcome_word-word.ensures.short)
 
 pub returns-then-number-lt3 : goal.returns-then-number-lt3
 unfolding line_one
 returns-then-number-lt3 c =
-    let a = c.args in
+    let a = c.args.told in
     let o = outcome_word a.number in
     let bits = c.bits_of in
     let headed = rw c.outcome_word-word.ensures.is at c.put_head-a.ensures in
-    let closed = decimal_field a.closed 32 21 c.ranges.closed.fits (c.put_decimal-b.ensures.next, c.put_decimal-b.ensures.bytes) headed.room in
+    let closed = decimal_field a.closed 32 21 (search rules) (c.put_decimal-b.ensures.next, c.put_decimal-b.ensures.bytes) headed.room in
     let total = hex_field bits.result 10 0 (c.put_hex.ensures.next, c.put_hex.ensures.bytes) closed.1 in
     let w =
     shown c.if-out-lt-ROOM.false
@@ -38,14 +38,14 @@ returns-then-number-lt3 c =
     record { count = w.0; bytes = w.1 }
 
 pub put_head-requires : goal.put_head-requires
-put_head-requires c = (omega arith, omega arith, omega arith)
+put_head-requires c = (omega arith, omega arith)
 
 pub returns : goal.returns
 unfolding refused_line
 returns c =
-    let a = c.args in
+    let a = c.args.told in
     let named = c.record_of in
-    let headed = rw spells_refused.is at c.put_head.ensures in
+    let headed = c.put_head.ensures in
     let w =
     shown c.if-out-lt-ROOM.false (whole headed.wrote (omega (arith, headed.room)))
     (refusal_first a.number a.bad a.waypoints a.retained a.closed a.total c.if-number-lt3.false

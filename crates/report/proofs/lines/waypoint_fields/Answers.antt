@@ -11,7 +11,7 @@ pub put_word-b-requires : goal.put_word-b-requires
 put_word-b-requires c =
     let place = decimal_field c.args.place 32 21 c.ranges.place.fits (c.put_decimal-a.ensures.next, c.put_decimal-a.ensures.bytes) (omega (arith, c.requires)) in
     let word = c.movement_word.ensures in
-    (place.1, word.inside, word.short)
+    (place.1, word.short)
 
 -- a line has at most 115 bytes: 21 for the place, 5 for the movement, 17 for each of four numbers, 21 for the door
 pub returns : goal.returns

@@ -1,49 +1,24 @@
 -- `report::lines::waypoint_line` meets its contract. Assumes nothing.
-use native.Mathlib.Omega.{arith}
 use Rattle.report.specs.LineLaws.{shown, too_short, nothing_shown, no_record, no_movement, a_record}
 use Rattle.report.proofs.lines.waypoint_line.Goals as goal
 
 pub returns-then-out-lt-ROOM : goal.returns-then-out-lt-ROOM
 returns-then-out-lt-ROOM c =
-    let w =
-    too_short _ _ c.if-out-lt-ROOM.true
+    let w = too_short _ _ c.if-out-lt-ROOM.true
     in
     record { count = w.0; bytes = w.1 }
 
 pub returns-then-list-place : goal.returns-then-list-place
 returns-then-list-place c =
-    let w =
-    nothing_shown _ _ (no_record c.args.list.now c.args.place c.if-list-place.true)
+    let w = nothing_shown _ _ (no_record c.args.list.now c.args.place c.if-list-place.true)
     in
     record { count = w.0; bytes = w.1 }
-
-pub overflow_mul-at : goal.overflow_mul-at
-overflow_mul-at c = record { fits = omega arith }
-
-pub overflow_add-at : goal.overflow_add-at
-overflow_add-at c = record { fits = omega arith }
 
 pub returns-then-movement-gt3 : goal.returns-then-movement-gt3
 returns-then-movement-gt3 c =
-    let w =
-    nothing_shown _ _ (no_movement c.args.list.now c.args.place _ c.u64_at-movement.ensures c.if-movement-gt3.true c.if-list-place.false)
+    let w = nothing_shown _ _ (no_movement c.args.list.now c.args.place _ c.u64_at-movement.ensures c.if-movement-gt3.true c.if-list-place.false)
     in
     record { count = w.0; bytes = w.1 }
-
-pub overflow_add-at-2 : goal.overflow_add-at-2
-overflow_add-at-2 c = record { fits = omega arith }
-
-pub overflow_add-at-3 : goal.overflow_add-at-3
-overflow_add-at-3 c = record { fits = omega arith }
-
-pub overflow_add-at-4 : goal.overflow_add-at-4
-overflow_add-at-4 c = record { fits = omega arith }
-
-pub overflow_add-at-5 : goal.overflow_add-at-5
-overflow_add-at-5 c = record { fits = omega arith }
-
-pub waypoint_fields-requires : goal.waypoint_fields-requires
-waypoint_fields-requires c = (omega arith, omega arith)
 
 pub returns : goal.returns
 returns c =
