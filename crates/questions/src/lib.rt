@@ -3,38 +3,30 @@
 #![tactic(auto)]
 
 ghost use Rattle.std.specs.Prelude.{◌≡◌};
-ghost use Rattle.questions.specs.Questions.{judgement_number, question_number};
+ghost use Rattle.questions.specs.Questions.{question};
 
-use world::{Body, Request, Window};
+use world::Query;
 
-// 3 BadWorld, an invalid request, 4 TooLarge, or that the question is answered.
+// What keeps a question from its answer: 3 BadWorld, an invalid request, or 4 TooLarge.
 #[derive(Clone, Copy)]
 pub enum Judgement {
     BadWorld,
     Invalid,
     TooLarge,
-    Good,
 }
 
-// The first of them that holds.
-pub fn judge(
-    w: Window,
-    cells: &[u8],
-    shapes: &[u8],
-    boxes: &[u8],
-    r: Request,
-    body: Body,
-) -> Judgement
-    ensures { judgement_number result ≡ question_number w cells.now shapes.now boxes.now r body }
+// The first of them that holds; where none does, the question is answered.
+pub fn judge(query: Query) -> Result<(), Judgement>
+    ensures { let t = query.entry in result ≡ question t.world.window t.world.cells.now t.world.shapes.now t.world.boxes.now t.request t.body }
 {
-    if tables::bad_world(w, cells, shapes, boxes) {
-        return Judgement::BadWorld;
+    if tables::bad_world(query.world) {
+        return Err(Judgement::BadWorld);
     }
-    if !request::valid_request(r, body) {
-        return Judgement::Invalid;
+    if !request::valid_request(query.request, query.body) {
+        return Err(Judgement::Invalid);
     }
-    if request::sizes_too_large(r, body) {
-        return Judgement::TooLarge;
+    if request::sizes_too_large(query.request, query.body) {
+        return Err(Judgement::TooLarge);
     }
-    Judgement::Good
+    Ok(())
 }
