@@ -1,6 +1,6 @@
 -- A batch of a column's lowest tops gone through: each time the next of the heights, until there is none.
 use Rattle.std.proofs.Common.{ℕ, zero, suc, ◌+◌, ◌-◌, ◌≤◌, ◌<◌, arith, ◌∙◌, drop_of_length-le, drop-cons, get_or-take, List, [], ◌∷◌, ◌++◌, ltb-true, ltb-false, lt-ltb, le-ltb}
-use Rattle.std.specs.Prelude.{Option, Some, None, ◌≡◌, Bool, not, ◌||◌, cond, get_or, take, drop}
+use Rattle.std.specs.Prelude.{min, Option, Some, None, ◌≡◌, Bool, not, ◌||◌, cond, get_or, take, drop}
 use Rattle.std.proofs.Math.Path.{refl, sym, ap, subst}
 use Rattle.std.proofs.Math.Bool.{true, false}
 use Rattle.std.proofs.Math.Dec.{ltb}
@@ -65,6 +65,13 @@ kept_beyonds (Some k) us h = go us h
             cond b (thinned_after k us) (u ∷ thinned_after u us) ≡ thinned_after k (cond (not b) (u ∷ beyonds (Some k) us) (beyonds (Some k) us))
         pick true e r = r
         pick false e r = rw (e, beyonds_all (Some k) u us h.0 h.1 (ap not e))
+
+pub fewest : (a b : ℕ) → min a b ≡ cond (ltb a b) a b
+fewest a b = go (ltb a b) refl
+  where
+    go : (c : Bool) → ltb a b ≡ c → min a b ≡ cond c a b
+    go true e = omega (arith, ltb-true a b e)
+    go false e = omega (arith, ltb-false a b e)
 
 pub batch_count_le : (room : List Float) (b : Batch) → batch_count room b ≤ length room
 batch_count_le room b = go (ltb b.count (length room)) refl

@@ -21,7 +21,8 @@ fn first_beyond(room: &[f64], from: usize, count: usize, after: Option<f64>) -> 
     ensures { result ≡ first_from after room.now from (count - from) }
 {
     for at in from..count {
-        if is_beyond(after, room[at]) {
+        let beyond = is_beyond(after, room[at]);
+        if beyond {
             return at;
         }
     }
@@ -33,7 +34,7 @@ pub fn advance(world: World, shaft: Shaft, after: Option<f64>, room: &mut [f64],
     ensures { (room.new, result) ≡ moved_on (tops (space_of world.entry) shaft.band shaft.x shaft.z) after room.old b }
 {
     let short = b.count < room.len();
-    let count = if short { b.count } else { room.len() };
+    let count = b.count.min(room.len());
     let at = first_beyond(room, b.at, count, after);
     if (at < count) | short {
         return Batch { count, at };
@@ -43,12 +44,12 @@ pub fn advance(world: World, shaft: Shaft, after: Option<f64>, room: &mut [f64],
 }
 
 // The height that a batch is at.
+#[tactic(auto, unfolding(crate::specs::Lowest::height_at))]
 pub fn height_at(room: &[f64], b: Batch) -> Option<f64>
     ensures { result ≡ height_at room.now b }
 {
-    let at = b.at;
-    if (at < b.count) & (at < room.len()) {
-        return Some(room[at]);
+    if b.count <= b.at {
+        return None;
     }
-    None
+    room.get(b.at).copied()
 }

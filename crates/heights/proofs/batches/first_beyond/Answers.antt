@@ -9,13 +9,13 @@ loop-at-preserved c =
     let a = c.args in
     let l = c.loop-at in
     let z : a.count - l.at - 1 ≡ a.count - (l.at + 1) = omega arith in
-    (omega arith, l.invariant.1 ∙ place_later a.after a.room.now l.at (a.count - l.at) (omega arith) (sym c.is_beyond.ensures ∙ c.if-is_beyond.false) ∙ ap (first_from a.after a.room.now (l.at + 1)) z)
+    (omega arith, l.invariant.1 ∙ place_later a.after a.room.now l.at (a.count - l.at) (omega arith) (sym c.is_beyond-beyond.ensures ∙ c.if-beyond.false) ∙ ap (first_from a.after a.room.now (l.at + 1)) z)
 
-pub returns-then-is_beyond : goal.returns-then-is_beyond
-returns-then-is_beyond c =
+pub returns-then-beyond : goal.returns-then-beyond
+returns-then-beyond c =
     let a = c.args in
     let l = c.loop-at in
-    sym (l.invariant.1 ∙ place_here a.after a.room.now l.at (a.count - l.at) (omega arith) (sym c.is_beyond.ensures ∙ c.if-is_beyond.true))
+    sym (l.invariant.1 ∙ place_here a.after a.room.now l.at (a.count - l.at) (omega arith) (sym c.is_beyond-beyond.ensures ∙ c.if-beyond.true))
 
 pub returns : goal.returns
 returns c =
