@@ -17,6 +17,7 @@ pub struct Stop {
 }
 
 // The stop whose record stands from an offset on.
+#[tactic(auto, unfolding(crate::specs::Length::stop_at))]
 fn stop_at(list: &[u8], at: usize) -> Stop
     requires { at ≤ length list.now }
     ensures { result ≡ stop_at list.now at }
@@ -28,6 +29,7 @@ fn stop_at(list: &[u8], at: usize) -> Stop
 }
 
 // A sum so far, with the length of one more edge added to it.
+#[tactic(auto, unfolding(crate::specs::Length::edge_length))]
 fn add_edge(total: f64, from: Stop, to: Stop) -> f64
     ensures { result ≡ add binary64 total (edge_length from to) }
 {
@@ -44,15 +46,12 @@ fn add_edge(total: f64, from: Stop, to: Stop) -> f64
 pub fn length_of(list: &[u8]) -> f64
     ensures { result ≡ length_of list.now }
 {
-    let n = list.len() / 48;
     let mut total: f64 = 0.0;
     let mut from = stop_at(list, 0);
-    let mut k: usize = 1;
-    while k < n {
+    for k in 1..list.len() / 48 {
         let to = stop_at(list, 48 * k);
         total = add_edge(total, from, to);
         from = to;
-        k += 1;
     }
     total
 }

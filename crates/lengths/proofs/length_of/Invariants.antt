@@ -4,7 +4,4 @@ use Rattle.lengths.specs.Length.{edge_length, sum_onward, stops_from, length_of}
 use Rattle.lengths.proofs.length_of.Given as goal
 
 abbrev pub invariant-loop-k : goal.invariant-loop-k
-invariant-loop-k l = (length_of l.list ≡ sum_onward edge_length l.total l.from (stops_from l.list l.k (l.n - l.k))) × (l.n ≡ length l.list / 48)
-
-abbrev pub decreases-loop-k : goal.decreases-loop-k
-decreases-loop-k l = l.n - l.k
+invariant-loop-k l = length_of l.list ≡ sum_onward edge_length l.total l.from (stops_from l.list l.k (length l.list / 48 - l.k))
