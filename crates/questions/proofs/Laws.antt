@@ -5,8 +5,6 @@ use Rattle.std.proofs.Math.Option.{Option, none, some}
 use Rattle.world.specs.declared.Body.{Body}
 use Rattle.world.specs.declared.Request.{Request}
 use Rattle.world.specs.declared.Window.{Window}
-use Rattle.tables.specs.BadWorld.{bad_world}
-use Rattle.request.specs.Request.{valid_request, sizes_too_large}
 use Rattle.questions.specs.declared.Judgement.{Judgement}
 use Rattle.questions.specs.declared.Judgement.TheVariants.{BadWorld, Invalid, TooLarge}
 use Rattle.questions.specs.Questions.{judged, question, judgement_number, question_number}
@@ -38,7 +36,7 @@ module _ {A : Type 0} (bad invalid large answer : A) where
 
   pub said : (w : Window) (cells shapes boxes : List ℕ) (r : Request) (body : Body) {j : Result (Unit {0}) Judgement} → question w cells shapes boxes r body ≡ j →
       said_of j ≡ judged w cells shapes boxes r body bad invalid large answer
-  said w cells shapes boxes r body e = ap said_of (sym e) ∙ go (bad_world w cells shapes boxes) (valid_request r body) (sizes_too_large r body)
+  said w cells shapes boxes r body e = ap said_of (sym e) ∙ go _ _ _
     where
       go : (b v l : Bool) → said_of (cond b (Err BadWorld) (cond (not v) (Err Invalid) (cond l (Err TooLarge) (Ok tt)))) ≡ cond b bad (cond (not v) invalid (cond l large answer))
       go true v l = refl
@@ -49,7 +47,7 @@ module _ {A : Type 0} (bad invalid large answer : A) where
 -- the number of a question's judgement is the question's
 pub question_told : (w : Window) (cells shapes boxes : List ℕ) (r : Request) (body : Body) → judgement_number (question w cells shapes boxes r body) ≡ question_number w cells shapes boxes r body
 unfolding judgement_number
-question_told w cells shapes boxes r body = go (bad_world w cells shapes boxes) (valid_request r body) (sizes_too_large r body)
+question_told w cells shapes boxes r body = go _ _ _
   where
     go : (b v l : Bool) → judgement_number (cond b (Err BadWorld) (cond (not v) (Err Invalid) (cond l (Err TooLarge) (Ok tt)))) ≡ cond b (some 3) (cond (not v) (some 1) (cond l (some 4) none))
     go true v l = refl
