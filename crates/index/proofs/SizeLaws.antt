@@ -1,7 +1,9 @@
 -- What a right size is, in 02's words: 4 bytes a slot, a power of two of slots, and at least twice the budget of them. And powers of two found by doubling.
-use Rattle.std.specs.Prelude.{◌≡◌, ℕ, zero, suc, ◌*◌, ◌/◌, ◌%◌, ◌^◌, ◌<◌, ◌≤◌, Bool, true, false, ◌&&◌, ◌==◌, nat_eq, nat_le, refl}
-use Rattle.std.proofs.Common.{sym, ap, subst, ◌∙◌, ⊎_elim, arith, eq-eqb, ne_eqb, eqb-true, le-leb, leb-true, leb-false}
-use Rattle.std.proofs.Math.Nat.{pow-le-pow_right}
+use Rattle.std.specs.Prelude.{◌≡◌, ℕ, zero, suc, ◌*◌, ◌/◌, ◌%◌, ◌^◌, ◌<◌, ◌≤◌, Bool, true, false, ◌&&◌, ◌==◌, nat_eq, nat_le, refl, count_ones, ◌+◌, ◌⊎◌}
+use Rattle.std.proofs.Common.{sym, ap, ◌∙◌, ⊎_elim, inl, inr, arith, eq-eqb, ne_eqb, eqb-true, le-leb, leb-true, leb-false}
+use Rattle.std.proofs.Math.Nat.{pow-succ'}
+use Rattle.std.proofs.lemmas.Nat.{ones_cat, zero_from_ones, ones_le_self}
+use Rattle.std.specs.Int.Count.{ones_step}
 use Rattle.std.proofs.lemmas.Bool.{lt-leb, not-false}
 use Rattle.exploration.proofs.Laws.Lists.{true_false, and_first, and_second, or_cases, or_left, or_right}
 use Rattle.rooms.proofs.Laws.Lists.{in_or_out}
@@ -31,16 +33,26 @@ pub is_power_lem : (j : ℕ) → is_power (2 ^ j) ≡ true
 unfolding is_power
 is_power_lem j = below_finds j (2 ^ j) (below_power j)
 
--- the first power of two that is not below n is n itself exactly where n is one
-pub doubled : (n p k : ℕ) → p ≡ 2 ^ k → ((j : ℕ) → j < k → 2 ^ j < n) → n ≤ p → (p == n) ≡ is_power n
-doubled n p k e h l = go (is_power n) refl
+-- a power of two has one set digit, and no other number has
+ones_power : (k n : ℕ) → n < 2 ^ k → count_ones n ≡ 1 → (j : ℕ) × (n ≡ 2 ^ j)
+ones_power zero n h e = absurd (omega (arith, ones_le_self n))
+ones_power (suc k) n h e = ⊎_elim
+    (λ z. let r = ones_power k (n / 2) (omega (arith, pow-succ' 2 k)) (omega (arith, ones_step n, z)) in (suc r.0, omega (arith, r.1, z, pow-succ' 2 r.0)))
+    (λ z. let o : n / 2 ≡ 0 = zero_from_ones (n / 2) (omega (arith, ones_step n, z)) in (0, omega (arith, o, z)))
+    (even_or_odd n)
   where
-    at_least : (j : ℕ) → n ≡ 2 ^ j → p ≤ n
-    at_least j i = ⊎_elim (λ t. absurd (omega (arith, h j t, i))) (λ t. let x = pow-le-pow_right {n = 2} (omega arith) t in omega (arith, x, i, e)) (in_or_out j k)
+    even_or_odd : (n : ℕ) → (n % 2 ≡ 0) ⊎ (n % 2 ≡ 1)
+    even_or_odd n = ⊎_elim (λ l. inl (omega arith)) (λ l. inr (omega arith)) (in_or_out (n % 2) 1)
 
-    go : (b : Bool) → is_power n ≡ b → (p == n) ≡ b
-    go true i = let w = power_is n i in eq-eqb p n (omega (arith, at_least w.0 w.1))
-    go false i = ne_eqb p n (λ x. true_false (subst (λ (m : ℕ). is_power m ≡ true) (sym e ∙ x) (is_power_lem k)) i)
+one_set : (j : ℕ) → count_ones (2 ^ j) ≡ 1
+one_set j = let e : 1 * 2 ^ j + 0 ≡ 2 ^ j = omega arith in ap count_ones (sym e) ∙ omega (arith, ones_cat j 1 0 (omega (arith, below_power j)), ones_step 1, ones_le_self 0)
+
+pub one_digit : (n : ℕ) → (count_ones n == 1) ≡ is_power n
+one_digit n = go (is_power n) refl
+  where
+    go : (b : Bool) → is_power n ≡ b → (count_ones n == 1) ≡ b
+    go true i = let w = power_is n i in rw w.1 (eq-eqb (count_ones (2 ^ w.0)) 1 (one_set w.0))
+    go false i = ne_eqb (count_ones n) 1 (λ x. let w = ones_power n n (below_power n) x in true_false (rw w.1 (is_power_lem w.0)) i)
 
 -- ---- twice the budget
 

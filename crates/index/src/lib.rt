@@ -21,6 +21,7 @@ pub use size::wrong_size;
 const NODES: usize = 4294967296;
 
 // A hash stirred, by shifts and sums that wrap.
+#[tactic(auto, unfolding(crate::specs::Index::stir))]
 fn stir(h: u64) -> u64
     ensures { result ≡ stir h }
 {
@@ -29,6 +30,7 @@ fn stir(h: u64) -> u64
 }
 
 // One more word mixed into a hash.
+#[tactic(auto, unfolding(crate::specs::Index::mix))]
 fn mix(h: u64, w: u64) -> u64
     ensures { result ≡ mix h w }
 {
@@ -49,6 +51,7 @@ fn home(n: usize, p: Feet) -> usize
 }
 
 // The slot behind one of n: behind the last the first.
+#[tactic(auto, unfolding(crate::specs::Index::next_slot))]
 fn next_slot(n: usize, s: usize) -> usize
     requires { s < n }
     ensures { result ≡ next_slot n s }
@@ -65,8 +68,7 @@ fn probe(index: &[u8], nodes: &[u8], m: usize, q: Feet) -> usize
         return m;
     }
     let mut s = home(n, q);
-    let mut left = n;
-    while 0 < left {
+    for turn in 0..n {
         let e = fields::u32_at(index, 4 * s) as usize;
         if (e == 0) | (m < e) {
             return m;
@@ -76,7 +78,6 @@ fn probe(index: &[u8], nodes: &[u8], m: usize, q: Feet) -> usize
             return k;
         }
         s = next_slot(n, s);
-        left -= 1;
     }
     m
 }
@@ -101,18 +102,17 @@ fn free_slot(index: &[u8], q: Feet) -> usize
         return n;
     }
     let mut s = home(n, q);
-    let mut left = n;
-    while 0 < left {
+    for turn in 0..n {
         if fields::u32_at(index, 4 * s) == 0 {
             return s;
         }
         s = next_slot(n, s);
-        left -= 1;
     }
     n
 }
 
 // Where node k is, read at its offset: for a room whose length is judged once.
+#[tactic(auto, unfolding(rooms::specs::Records::node_at))]
 fn near_feet(nodes: &[u8], k: usize) -> Feet
     requires { k < 4294967296 }
     ensures { result ≡ (node_at nodes.now k).feet }
@@ -129,33 +129,33 @@ fn enter(index: &mut [u8], nodes: &[u8], from: usize, n: usize) -> usize
     ensures { (length index.new ≡ length index.old) × (extended index.old nodes.now from n ≡ extend_by (n - result) index.new nodes.now result) }
 {
     let border = n % NODES;
-    let mut k = from;
-    if nodes.len() < 64 * border {
-        return k;
+    if (border < from) | (nodes.len() < 64 * border) {
+        return from;
     }
-    while k < border {
+    for k in from..border {
         let s = free_slot(index, near_feet(nodes, k));
         if index.len() / 4 <= s {
             return k;
         }
-        stores::put_u32(index, 4 * s, ((k + 1) % 4294967296) as u32);
-        k += 1;
+        stores::put_u32(index, 4 * s, ((k + 1) % NODES) as u32);
     }
-    k
+    border
 }
 
 // Enters the nodes `from`, `from` + 1, .. below n while a slot is free; answers the first one that is not entered.
 pub fn extend(index: &mut [u8], nodes: &[u8], from: usize, n: usize) -> usize
     ensures { (result ≡ (extended index.old nodes.now from n).1) × (index.new ≡ (extended index.old nodes.now from n).0) }
 {
-    let mut k = enter(index, nodes, from, n);
-    while k < n {
+    let first = enter(index, nodes, from, n);
+    if n <= first {
+        return first;
+    }
+    for k in first..n {
         let s = free_slot(index, get_feet(nodes, k));
         if index.len() / 4 <= s {
             return k;
         }
-        stores::put_u32(index, 4 * s, ((k + 1) % 4294967296) as u32);
-        k += 1;
+        stores::put_u32(index, 4 * s, ((k + 1) % NODES) as u32);
     }
-    k
+    n
 }

@@ -1,14 +1,15 @@
 -- `index::enter` meets its contract. The loop's invariant: what is left to enter makes of the room at hand what the whole makes of the first one. Assumes
-use Rattle.std.proofs.Common.{◌≡◌, ◌+◌, ◌-◌, sym, refl, ap, ◌∙◌, arith, lt-ltb}
+use Rattle.std.proofs.Common.{◌≡◌, ◌+◌, ◌-◌, ◌%◌, ◌≤◌, sym, refl, ap, ◌∙◌, arith, lt-ltb, ltb-false}
+use Rattle.exploration.proofs.Laws.Lists.{or-false}
 use Rattle.rooms.specs.Records.{node_at}
 use Rattle.index.specs.Index.{free_for, entered, extend_by, extended}
 use Rattle.index.proofs.Turns.{extend_goes_on}
 use Rattle.index.proofs.enter.Goals as goal
 use Rattle.index.proofs.enter.Goals.{After-free_slot-s}
 
-pub returns-then-nodes-border : goal.returns-then-nodes-border
+pub returns-then-border-from : goal.returns-then-border-from
 unfolding extended
-returns-then-nodes-border c = (refl, refl)
+returns-then-border-from c = (refl, refl)
 
 pub loop-k-init : goal.loop-k-init
 unfolding extended
@@ -42,4 +43,7 @@ pub shape_of-index : goal.shape_of-index
 shape_of-index c = c.loop-k.invariant.0
 
 pub returns : goal.returns
-returns c = c.loop-k.invariant
+returns c =
+    let o : c.args.from ≤ c.args.n % 4294967296 = ltb-false _ _ (or-false _ _ c.if-border-from.false).0 in
+    let e : c.loop-k.k ≡ c.args.n % 4294967296 = omega (arith, o, c.loop-k-test.false) in
+    rw (← e) c.loop-k.invariant

@@ -6,6 +6,3 @@ use Rattle.index.proofs.enter.Given as goal
 -- nothing.
 abbrev pub invariant-loop-k : goal.invariant-loop-k
 invariant-loop-k l = (length l.index ≡ length l.initial.index) × (extended l.initial.index l.nodes l.from l.n ≡ extend_by (l.n - l.k) l.index l.nodes l.k)
-
-abbrev pub decreases-loop-k : goal.decreases-loop-k
-decreases-loop-k l = l.n - l.k

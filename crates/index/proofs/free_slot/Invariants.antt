@@ -1,10 +1,7 @@
--- `index::free_slot` meets its contract. Assumes nothing.
-use Rattle.std.proofs.Common.{◌≡◌, ◌<◌, ◌≤◌}
-use Rattle.index.specs.Index.{free_from}
+-- `index::free_slot` meets its contract. The loop's invariant: what is left to look at answers as the whole. Assumes nothing.
+use Rattle.std.proofs.Common.{◌≡◌, ◌<◌, ◌-◌}
+use Rattle.index.specs.Index.{free_from, free_for}
 use Rattle.index.proofs.free_slot.Given as goal
 
-abbrev pub invariant-loop-left : goal.invariant-loop-left
-invariant-loop-left l = (l.s < l.n) × (l.left ≤ l.n) × (free_from l.index l.initial.left l.initial.s ≡ free_from l.index l.left l.s)
-
-abbrev pub decreases-loop-left : goal.decreases-loop-left
-decreases-loop-left l = l.left
+abbrev pub invariant-loop-turn : goal.invariant-loop-turn
+invariant-loop-turn l = (l.s < l.n) × (free_for l.index l.fn.q ≡ free_from l.index (l.n - l.turn) l.s)
