@@ -1,6 +1,7 @@
 -- The layout of scene records (01, "Scenes and walkprint"): "Scene records are 64 bytes, no header: kind byte, three zeros, u32 n, payload; unused
 -- bytes zero". What each kind's fields are and where they stand, for those who read scenes and those who write them.
-use Rattle.std.specs.Prelude.{ℕ, ◌+◌, ◌*◌, Bool, true, ◌&&◌, cond, List, [], ◌∷◌, eqb, Float, get_or}
+use Rattle.std.specs.Prelude.{ℕ, ◌+◌, ◌*◌, Bool, ◌&&◌, cond, List, eqb, Float, get_or}
+use Rattle.std.specs.List.{list_all}
 use Rattle.fields.specs.Little.{field, signed_field, float_field}
 use Rattle.world.specs.declared.Point.{Point}
 use Rattle.world.specs.declared.Aabb.{Aabb}
@@ -33,8 +34,7 @@ unused_from k = by_kind k 64 56 32 56 9 40
 
 -- every byte is zero
 unfoldable pub zeros : List ℕ → Bool
-zeros [] = true
-zeros (b ∷ bs) = eqb b 0 && zeros bs
+zeros = list_all (λ b. eqb b 0)
 
 -- ---- a body and a window from an offset on, as these records have them and those that a C call is handed
 

@@ -4,22 +4,11 @@ use Rattle.std.proofs.Common.{arith, add-one, eq-eqb, ne_eqb, drop_of_length-le,
 use Rattle.fields.specs.Little.{field}
 use Rattle.fields.proofs.Laws.{four}
 use Rattle.tables.specs.BadWorld.{box_rule}
-use Rattle.scene_records.specs.Layout.{three_zeros, number_of, by_kind, zeros, box_of}
+use Rattle.scene_records.specs.Layout.{three_zeros, number_of, by_kind, box_of}
 use Rattle.scene_rules.specs.declared.Counts.{Counts}
 use Rattle.scene_rules.specs.Rules.{shape_rule}
 
--- ---- zeros, byte by byte
-
--- the bytes before i are zero or not, and then those from i on
-pub zeros_end : (all : Bool) (s : List ℕ) (i : ℕ) → length s ≤ i → (all && zeros (drop i s)) ≡ all
-unfolding zeros
-zeros_end true s i h = rw (drop_of_length-le s h)
-zeros_end false s i h = refl
-
-pub zeros_on : (all : Bool) (s : List ℕ) (i : ℕ) → i < length s → (all && zeros (drop i s)) ≡ ((all && eqb (get_or s i 0) 0) && zeros (drop (i + 1) s))
-unfolding zeros
-zeros_on true s i h = rw (drop-cons s i 0 h, add-one)
-zeros_on false s i h = refl
+-- ---- the first four bytes
 
 -- a number of four bytes is its lowest one where the three above are zero
 lowest : (a b c d : ℕ) → eqb (a + 256 * (b + 256 * (c + 256 * d))) a ≡ (eqb b 0 && eqb c 0 && eqb d 0)

@@ -2,17 +2,12 @@
 ghost use Rattle.std.specs.Prelude.{◌≡◌, drop};
 ghost use Rattle.scene_records.specs.Layout.{zeros, unused_from};
 
-// Whether every byte from an offset on is zero. Each is looked at: in a good record they all are zero.
+// Whether every byte from an offset on is zero.
+#[tactic(auto, unfolding(scene_records::specs::Layout::zeros))]
 pub(crate) fn zeros_from(bytes: &[u8], from: usize) -> bool
     ensures { result ≡ zeros (drop from bytes.now) }
 {
-    let mut all = true;
-    let mut i = from;
-    while i < bytes.len() {
-        all = all & (bytes[i] == 0);
-        i += 1;
-    }
-    all
+    bytes.iter().skip(from).all(|byte| *byte == 0)
 }
 
 // Where the bytes begin that a kind does not use.

@@ -7,10 +7,8 @@ pub fn put_box(boxes: &mut [u8], k: u32, bytes: &[u8])
     ensures { boxes.new ≡ with_box bytes.now k boxes.old }
 {
     let at = 48 * (k as usize);
-    let mut j: usize = 0;
-    while j < 6 {
+    for j in 0..6 {
         let word = fields::u64_at(bytes, 8 + 8 * j);
         stores::put_u64(boxes, at + 8 * j, word);
-        j += 1;
     }
 }
