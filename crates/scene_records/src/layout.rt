@@ -19,6 +19,7 @@ pub fn number_of(bytes: &[u8]) -> u32
 }
 
 // A body from an offset on.
+#[tactic(auto, unfolding(crate::specs::Layout::body_at, world::specs::Space::point_at))]
 pub fn body_at(bytes: &[u8], at: u32) -> Body
     ensures { result ≡ body_at bytes.now at }
 {
@@ -31,6 +32,7 @@ pub fn body_at(bytes: &[u8], at: u32) -> Body
 }
 
 // A window from an offset on.
+#[tactic(auto, unfolding(crate::specs::Layout::window_at))]
 pub fn window_at(bytes: &[u8], at: u32) -> Window
     ensures { result ≡ window_at bytes.now at }
 {

@@ -1,10 +1,10 @@
 -- Laws of the layout and the rules that the code goes by.
-use Rattle.std.specs.Prelude.{ℕ, zero, suc, ◌+◌, ◌*◌, ◌<◌, ◌≤◌, ◌≡◌, refl, Bool, true, false, not, ◌&&◌, ◌||◌, cond, List, ltb, leb, eqb, length, get_or, drop}
-use Rattle.std.proofs.Common.{arith, add-one, eq-eqb, ne_eqb, drop_of_length-le, drop-cons}
+use Rattle.std.specs.Prelude.{ℕ, zero, suc, ◌+◌, ◌*◌, ◌≡◌, refl, Bool, true, false, not, ◌&&◌, ◌||◌, cond, List, ltb, leb, eqb, length, get_or}
+use Rattle.std.proofs.Common.{arith, eq-eqb, ne_eqb}
 use Rattle.fields.specs.Little.{field}
 use Rattle.fields.proofs.Laws.{four}
 use Rattle.tables.specs.BadWorld.{box_rule}
-use Rattle.scene_records.specs.Layout.{three_zeros, number_of, by_kind, box_of}
+use Rattle.scene_records.specs.Layout.{three_zeros, number_of, box_of}
 use Rattle.scene_rules.specs.declared.Counts.{Counts}
 use Rattle.scene_rules.specs.Rules.{shape_rule}
 
@@ -31,19 +31,3 @@ pub shape_is : (c : Counts) (s : List ℕ) {n : ℕ} {good : Bool} → n ≡ num
     (leb n 255 && leb c.shapes (n + 1) && (not (eqb (n + 1) c.shapes) || ltb c.last 16) && ltb c.boxes 256 && good) ≡ shape_rule c s
 unfolding shape_rule
 shape_is c s {n} e g = rw (room_is (eqb (n + 1) c.shapes) (ltb c.last 16), e, g)
-
--- ---- by a kind's number
-
--- none of the first five
-pub kind_6 : {A : Type 0} (k : ℕ) (a b c d e f : A) → (k ≡ 1 → ⊥) → (k ≡ 2 → ⊥) → (k ≡ 3 → ⊥) → (k ≡ 4 → ⊥) → (k ≡ 5 → ⊥) → by_kind k a b c d e f ≡ f
-unfolding by_kind
-kind_6 k a b c d e f h₁ h₂ h₃ h₄ h₅ = rw (ne_eqb k 1 h₁, ne_eqb k 2 h₂, ne_eqb k 3 h₃, ne_eqb k 4 h₄, ne_eqb k 5 h₅)
-
--- the kinds that have no rule but n, and those behind 6
-pub kind_rest : {A : Type 0} (k : ℕ) (a b c d e : A) → (k ≡ 1 → ⊥) → (k ≡ 3 → ⊥) → (k ≡ 4 → ⊥) → (k ≡ 5 → ⊥) → by_kind k a b c d e b ≡ b
-unfolding by_kind
-kind_rest k a b c d e h₁ h₃ h₄ h₅ = rw (ne_eqb k 1 h₁, ne_eqb k 3 h₃, ne_eqb k 4 h₄, ne_eqb k 5 h₅) (go (eqb k 2))
-  where
-    go : (t : Bool) → cond t b b ≡ b
-    go true = refl
-    go false = refl

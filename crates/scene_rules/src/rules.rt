@@ -8,6 +8,7 @@ use scene_records::{byte_at, cell_count, number_of, window_at};
 use world::{Aabb, point_at, size_above};
 
 // Whether a kind may come after the last one, of which 0 is none.
+#[tactic(auto, unfolding(crate::specs::Rules::in_order))]
 fn in_order(last: u8, kind: u8) -> bool
     ensures { result ≡ in_order last kind }
 {
@@ -18,6 +19,7 @@ fn in_order(last: u8, kind: u8) -> bool
 }
 
 // Kind 4: whether its box is good, and its shape has not fallen and has room for one box more. The next shape is a usize: behind the last u32 there is one.
+#[tactic(auto, using(crate::specs::Laws::shape_is), unfolding(scene_records::specs::Layout::box_of, world::specs::Space::box_at, world::specs::Space::point_at))]
 fn shape_good(counts: Counts, n: u32, bytes: &[u8]) -> bool
     requires { n ≡ number_of bytes.now }
     ensures { result ≡ shape_rule counts bytes.now }
@@ -33,6 +35,7 @@ fn shape_good(counts: Counts, n: u32, bytes: &[u8]) -> bool
 }
 
 // Whether the record keeps the rule of its kind.
+#[tactic(auto, unfolding(crate::specs::Rules::rule, crate::specs::Rules::window_rule, crate::specs::Rules::state_rule, scene_records::specs::Layout::by_kind))]
 fn rule_kept(counts: Counts, bytes: &[u8], kind: u8) -> bool
     ensures { result ≡ rule kind counts bytes.now }
 {
@@ -55,6 +58,7 @@ fn rule_kept(counts: Counts, bytes: &[u8], kind: u8) -> bool
 }
 
 // Whether the record is good. Its first four bytes are its kind alone where the three behind the kind are zero.
+#[tactic(auto, using(crate::specs::Laws::head_is), unfolding(crate::specs::Rules::good))]
 pub fn good_record(last: u8, counts: Counts, bytes: &[u8]) -> bool
     ensures { result ≡ good last counts bytes.now }
 {

@@ -11,6 +11,7 @@ pub(crate) fn zeros_from(bytes: &[u8], from: usize) -> bool
 }
 
 // Where the bytes begin that a kind does not use.
+#[tactic(auto, unfolding(scene_records::specs::Layout::unused_from, scene_records::specs::Layout::by_kind))]
 pub(crate) fn unused_from(kind: u8) -> usize
     ensures { result ≡ unused_from kind }
 {

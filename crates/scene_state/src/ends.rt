@@ -8,6 +8,7 @@ use scene_rules::Counts;
 use world::{Body, Point, Request, Window};
 
 // A state before the first record.
+#[tactic(auto, unfolding(crate::specs::State::empty))]
 fn empty() -> Reading
     ensures { result ≡ empty }
 {
@@ -52,6 +53,7 @@ fn empty() -> Reading
 }
 
 // The state before the first record, if the lent tables have room for any scene; nothing is written.
+#[tactic(auto, unfolding(crate::specs::Answers::begun))]
 pub fn begin(
     cells: &[u8],
     perms: &[u8],
@@ -68,6 +70,7 @@ pub fn begin(
 }
 
 // How many bytes of each table are in use.
+#[tactic(auto, unfolding(crate::specs::State::in_use))]
 fn in_use(c: Counts) -> InUse
     ensures { result ≡ in_use c }
 {

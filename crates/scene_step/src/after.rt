@@ -8,6 +8,7 @@ use scene_state::Reading;
 use world::point_at;
 
 // One box more, of shape n: the last shape, or a new one.
+#[tactic(auto, unfolding(crate::specs::Next::count_after, crate::specs::Next::with_box_counted))]
 fn with_box_counted(c: Counts, n: u32) -> Counts
     requires { ShapeFits c n }
     ensures { result ≡ with_box_counted c n }

@@ -12,6 +12,7 @@ use scene_records::byte_at;
 use scene_state::{Reading, SceneError};
 
 // The state behind the record, or 7 BadScene with the record's number.
+#[tactic(auto, using(crate::specs::Laws::allowed), unfolding(crate::specs::Next::step))]
 pub fn next_state(state: Reading, bytes: &[u8]) -> Result<Reading, SceneError>
     ensures { progress_answer result ≡ step state bytes.now }
 {
