@@ -1,4 +1,3 @@
--- The words of a number. What a reader must believe: Table. How the code has them: Commas. What is proved of both: Laws.
+-- The words of a number. What a reader must believe: Table. What is proved of it: Laws.
 pub mod Table
-pub mod Commas
 pub mod Laws

@@ -2,87 +2,72 @@
 // reasons of 02, No. 3, and what a search in slices is told by No. 10, in small letters.
 #![tactic(auto)]
 
-ghost use Rattle.std.specs.Prelude.{◌≡◌, ◌+◌, ◌≤◌, length};
-ghost use Rattle.answer_words.specs.Table.{words_of, at_start};
-ghost use Rattle.answer_words.specs.Commas.{slice, index_of, kth, KthAt, PutWords};
+ghost use Rattle.std.specs.Prelude.{◌≡◌, length, drop};
+ghost use Rattle.answer_words.specs.Table.{words_of, words_in, answer_table, at_start};
 
-const COMMA: u8 = 44;
-
-// The first place from `from` on that holds the byte; `to` where none before it does.
-fn find(texts: &[u8], from: usize, to: usize, byte: u8) -> usize
-    requires in_order { from ≤ to }
-    requires inside { to ≤ length texts.now }
-    ensures first { result ≡ from + index_of byte (slice from to texts.now) }
-    ensures within { result ≤ to }
+// 01's names, and that of 02, No. 10; then the other rows of the table.
+#[tactic(auto, unfolding(crate::specs::Table::words_of))]
+fn words(number: u64) -> &'static [u8]
+    ensures { result.now ≡ words_of number }
 {
-    for i in from..to {
-        if texts[i] == byte {
-            return i;
-        }
+    match number {
+        0 => b"found",
+        1 => b"unreachable",
+        2 => b"budget exceeded",
+        3 => b"bad world",
+        4 => b"too large",
+        5 => b"no room",
+        6 => b"endless jump",
+        7 => b"bad scene",
+        8 => b"bad table",
+        9 => b"bad number",
+        12 => b"bad progress",
+        _ => reason(number),
     }
-    to
 }
 
-// Where the k-th of the words that commas part begin, from 0 on; the end where there are fewer.
-fn start_of(texts: &[u8], k: u64) -> usize
-    ensures { KthAt texts.now k result }
+// Why a search is not at its end, why there is no edge, why a list is no route, and an edge, by its movement. Every other number has no words.
+fn reason(number: u64) -> &'static [u8]
+    ensures { result.now ≡ words_in (drop 11 answer_table) number }
 {
-    let mut from = 0;
-    let mut left = k;
-    while 0 < left {
-        let comma = find(texts, from, texts.len(), COMMA);
-        if comma == texts.len() {
-            return comma;
-        }
-        from = comma + 1;
-        left -= 1;
+    match number {
+        100 => b"still searching",
+        101 => b"too high",
+        102 => b"too deep",
+        103 => b"target out of range",
+        104 => b"raised point out of range",
+        105 => b"target not standable",
+        106 => b"lift blocked",
+        107 => b"crossing blocked",
+        108 => b"settle blocked",
+        109 => b"segment unsupported",
+        111 => b"invalid request",
+        112 => b"bad list",
+        113 => b"goal out of range",
+        114 => b"start not standable",
+        115 => b"goal not standable",
+        116 => b"wrong start",
+        117 => b"not a graph step",
+        118 => b"wrong movement or lift",
+        119 => b"wrong end",
+        130 => b"walk",
+        131 => b"step",
+        132 => b"jump",
+        133 => b"drop",
+        _ => b"",
     }
-    from
 }
 
-// The k-th of the words that commas part, in the first bytes of a slice that has room for them. The answer is their length, also where it has none.
-fn put_kth(texts: &[u8], k: u64, out: &mut [u8]) -> u64
-    ensures { PutWords (kth k texts.now) out.old out.new result }
-{
-    let from = start_of(texts, k);
-    let to = find(texts, from, texts.len(), COMMA);
-    let size = to - from;
-    if out.len() < size {
-        return size as u64;
-    }
-    out[..size].copy_from_slice(&texts[from..to]);
-    size as u64
-}
-
-// How many bytes a number's words have, 0 where it has none; and the words in the first bytes of `out`, where they fit. A text has the words of the numbers
-// from its first one on; those behind its last, up to the next text's, have none.
+// How many bytes a number's words have, 0 where it has none; and the words in the first bytes of `out`, where they fit.
+#[tactic(auto, unfolding(crate::specs::Table::at_start))]
 pub fn put_words(number: u64, out: &mut [u8]) -> u64
     ensures value { result ≡ length (words_of number) }
     ensures out_after { out.new ≡ at_start (words_of number) out.old }
 {
-    if number < 100 {
-        return put_kth(
-            b"found,unreachable,budget exceeded,bad world,too large,no room,endless jump,bad scene,bad table,bad number,,,bad progress",
-            number,
-            out,
-        );
+    let words = words(number);
+    let size = words.len();
+    if size <= out.len() {
+        out[..size].copy_from_slice(words);
     }
-    if number < 111 {
-        return put_kth(
-            b"still searching,too high,too deep,target out of range,raised point out of range,target not standable,lift blocked,crossing blocked,settle blocked,segment unsupported",
-            number - 100,
-            out,
-        );
-    }
-    if number < 130 {
-        return put_kth(
-            b"invalid request,bad list,goal out of range,start not standable,goal not standable,wrong start,not a graph step,wrong movement or lift,wrong end",
-            number - 111,
-            out,
-        );
-    }
-    if number < 134 {
-        return put_kth(b"walk,step,jump,drop", number - 130, out);
-    }
-    0
+    size as u64
 }
