@@ -1,105 +1,51 @@
 // One pass over the shapes under a footprint (01, The graph, supported segments): how far they cover the centre line, of what is covered so far.
 //
-// A shape that counts and is no support refuses the way, and the pass ends there.
+// A shape that counts and is no support refuses the way, and the pass ends there, with none.
 ghost use Rattle.std.specs.Prelude.{◌≡◌};
 ghost use Rattle.regions.specs.Regions.{cells_of};
-ghost use Rattle.world.specs.Space.{space};
+ghost use Rattle.world.specs.Run.{boxes_left};
+ghost use Rattle.world.specs.Space.{space_of};
 ghost use Rattle.support.specs.Support.{shapes_of, shapes_at};
-ghost use Rattle.support.specs.Pass.{pass, reached, run_shapes};
+ghost use Rattle.support.specs.Pass.{pass, run_shapes};
 
-use regions::Region;
-use support::{Reach, Way};
-use world::{Cell, Found, Point, Window};
+use regions::{Region, Spot};
+use support::Way;
+use world::{Point, Run, World};
 
-// The shapes of so many box records of a part of the table, each moved by a point.
-fn reach_run(part: &[u8], boxes: u32, by: Point, support: bool, way: Way, covered: f64) -> Reach
-    ensures { result ≡ pass way (reached covered) (run_shapes support by part.now boxes 0) }
+// The shapes of a run of boxes, each moved by a point.
+fn reach_run(run: Run, by: Point, support: bool, way: Way, covered: f64) -> Option<f64>
+    ensures { result ≡ pass way (Some covered) (run_shapes support by (boxes_left run.entry)) }
 {
-    let mut reach = Reach {
-        to: covered,
-        refused: false,
-    };
-    let mut left = boxes;
-    let mut at: usize = 0;
-    while (left > 0) & !reach.refused {
-        let Found::Here(b) = world::box_at(part, at) else {
-            return reach;
-        };
-        reach = support::reach_shape(way, support, boxes::offset(b, by), reach.to);
-        left -= 1;
-        at += 48;
+    let mut to = covered;
+    for b in run {
+        to = support::reach_shape(way, support, boxes::offset(b, by), to)?;
     }
-    reach
+    Some(to)
 }
 
 // The shapes of a cell. Most cells have none: their place is not worked out.
-fn reach_cell(
-    w: Window,
-    cells: &[u8],
-    perms: &[u8],
-    shapes: &[u8],
-    boxes: &[u8],
-    way: Way,
-    x: i64,
-    y: i64,
-    z: i64,
-    covered: f64,
-) -> Reach
-    ensures { result ≡ pass way (reached covered) (shapes_of (space w cells.now perms.now shapes.now boxes.now x y z)) }
+fn reach_cell(world: World, way: Way, at: Spot, covered: f64) -> Option<f64>
+    ensures { result ≡ pass way (Some covered) (shapes_of (space_of world.entry at.x at.y at.z)) }
 {
-    let Cell::Known {
-        occupied: _,
-        support,
-        first,
-        count,
-        through: _,
-        state: _,
-    } = space::cell_at(w, cells, perms, shapes, x, y, z)
-    else {
-        let cube = boxes::offset(boxes::unit(), points::corner_of(x, y, z));
+    let Some(cell) = space::cell_at(world, at.x, at.y, at.z) else {
+        let cube = boxes::offset(boxes::unit(), points::corner_of(at.x, at.y, at.z));
         return support::reach_shape(way, false, cube, covered);
     };
-    if count == 0 {
-        return Reach {
-            to: covered,
-            refused: false,
-        };
+    if cell.count == 0 {
+        return Some(covered);
     }
-    let by = points::corner_of(x, y, z);
-    reach_run(
-        world::boxes_from(boxes, first),
-        count,
-        by,
-        support,
-        way,
-        covered,
-    )
+    let by = points::corner_of(at.x, at.y, at.z);
+    let run = world::boxes_in(world.boxes, cell.first, cell.count);
+    reach_run(run, by, cell.support, way, covered)
 }
 
 // The shapes of the cells of a region.
-pub(crate) fn reach_all(
-    w: Window,
-    cells: &[u8],
-    perms: &[u8],
-    shapes: &[u8],
-    boxes: &[u8],
-    way: Way,
-    region: Region,
-    covered: f64,
-) -> Reach
-    ensures { result ≡ pass way (reached covered) (shapes_at (space w cells.now perms.now shapes.now boxes.now) (cells_of region)) }
+pub(crate) fn reach_all(world: World, way: Way, region: Region, covered: f64) -> Option<f64>
+    ensures { result ≡ pass way (Some covered) (shapes_at (space_of world.entry) (cells_of region)) }
 {
-    let mut reach = Reach {
-        to: covered,
-        refused: false,
-    };
-    let mut cursor = regions::first_in(region);
-    while cursor.more & !reach.refused {
-        let at = cursor.at;
-        reach = reach_cell(
-            w, cells, perms, shapes, boxes, way, at.x, at.y, at.z, reach.to,
-        );
-        cursor = regions::next_in(region, at);
+    let mut to = covered;
+    for at in region.cells() {
+        to = reach_cell(world, way, at, to)?;
     }
-    reach
+    Some(to)
 }

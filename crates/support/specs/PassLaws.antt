@@ -9,6 +9,7 @@ use Rattle.floats.specs.Order.{false_true, le_trans}
 use Rattle.regions.specs.RangeLaws.{fold_stays}
 use Rattle.regions.specs.declared.Spot.{Spot}
 use Rattle.world.specs.declared.Point.{Point}
+use Rattle.world.specs.declared.Aabb.{Aabb}
 use Rattle.world.specs.declared.Cell.{Cell}
 use Rattle.world.specs.Boxes.{moved, cube}
 use Rattle.world.specs.Laws.{run_none, unknown_block, known_block}
@@ -23,7 +24,7 @@ use Rattle.support.specs.Pass.{reach_by, step, pass, run_shapes}
 
 -- ---- a pass as a round
 
-pub refused_stays : (w : Way) (ss : List Shape) → pass w None ss ≡ None
+refused_stays : (w : Way) (ss : List Shape) → pass w None ss ≡ None
 unfolding step
 refused_stays w ss = fold_stays (step w) None (λ s. refl) ss
 
@@ -51,6 +52,16 @@ pass_is w c (s ∷ ss) = go (λ d. pass_is w d ss) (counts w.under s.box) refl s
     go f true p false q = rw (p, q) (refused_stays w ss)
     go f true p true q = rw (p, q, round_ahead c (interval s.box w.from w.to) (found w ss)) (f (reach_by c (interval s.box w.from w.to)))
 
+-- ---- a box of a run, then the rest, which changes nothing where the box refuses the pass
+
+pub run_on : (w : Way) (support : Bool) (by : Point) (bs cs : List Aabb) (b : Aabb) (r q : Option Float) → bs ≡ b ∷ cs → step w r (record { support = support; box = moved b by }) ≡ q →
+    pass w r (run_shapes support by bs) ≡ pass w q (run_shapes support by cs)
+run_on w support by bs cs b r q e f = rw e (ap (λ (x : Option Float). pass w x (run_shapes support by cs)) f)
+
+pub run_refused : (w : Way) (support : Bool) (by : Point) (bs cs : List Aabb) (b : Aabb) (r : Option Float) → bs ≡ b ∷ cs → step w r (record { support = support; box = moved b by }) ≡ None →
+    pass w r (run_shapes support by bs) ≡ None
+run_refused w support by bs cs b r e f = run_on w support by bs cs b r None e f ∙ refused_stays w (run_shapes support by cs)
+
 -- ---- a cell
 
 module _ (w : Way) (r : Option Float) (boxes : List ℕ) (p : Point) where
@@ -66,12 +77,15 @@ module _ (w : Way) (r : Option Float) (boxes : List ℕ) (p : Point) where
     pub pass_empty : c.count ≡ 0 → pass w r (shapes_of (block_of boxes (Some c) p)) ≡ r
     pass_empty e = rw (pass_known, e, run_none (drop (48 * c.first) boxes) 0)
 
--- ---- the loop over the cells: what a cell makes of the pass, then the rest
+-- ---- the same of the cells: what one makes of the pass, then the rest
 
 pub pass_on : (w : Way) (sp : Space) (ps qs : List Spot) (p : Spot) (r q : Option Float) → ps ≡ p ∷ qs → pass w r (shapes_of (sp p.x p.y p.z)) ≡ q →
     pass w r (shapes_at sp ps) ≡ pass w q (shapes_at sp qs)
 unfolding shapes_at
 pass_on w sp ps qs p r q e f = rw e (foldl-append (step w) r (shapes_of (sp p.x p.y p.z)) (shapes_at sp qs) ∙ ap (λ (x : Option Float). pass w x (shapes_at sp qs)) f)
+
+pub pass_refused : (w : Way) (sp : Space) (ps qs : List Spot) (p : Spot) (r : Option Float) → ps ≡ p ∷ qs → pass w r (shapes_of (sp p.x p.y p.z)) ≡ None → pass w r (shapes_at sp ps) ≡ None
+pass_refused w sp ps qs p r e f = pass_on w sp ps qs p r None e f ∙ refused_stays w (shapes_at sp qs)
 
 -- ---- passes, as long as they cover more
 
@@ -102,12 +116,12 @@ module _ (w : Way) (ss : List Shape) where
     more k = ap (lt c) told.1 ∙ k
 
     -- what a pass reaches is covered, where what it began with is
-    reaches_covered : CoversTo (found w ss) c → CoversTo (found w ss) d
-    reaches_covered cov = subst (CoversTo (found w ss)) told.1 (round_covers (found w ss) (found w ss) c (λ i m. m) cov)
+    pub covered_on : CoversTo (found w ss) c → CoversTo (found w ss) d
+    covered_on cov = subst (CoversTo (found w ss)) told.1 (round_covers (found w ss) (found w ss) c (λ i m. m) cov)
 
     enough_carried : enough d ≡ true → CoversTo (found w ss) c → carried w.under w.from w.to ss ≡ true
     unfolding carried
-    enough_carried k cov = rw told.0 (covers_complete (found w ss) (d, reaches_covered cov, k))
+    enough_carried k cov = rw told.0 (covers_complete (found w ss) (d, covered_on cov, k))
 
     -- where nothing is covered further, nothing more can be
     short_not : enough d ≡ false → lt c d ≡ false → CoversTo (found w ss) c → carried w.under w.from w.to ss ≡ false
@@ -142,9 +156,6 @@ module _ (w : Way) (ss : List Shape) where
         go true l k t = cc
         go false true k t = k
         go false false k t = cc
-
-    pub covered_on : last ≡ false → CoversTo (found w ss) c → CoversTo (found w ss) d
-    covered_on t cov = reaches_covered cov
 
     pub carried_falls : last ≡ false → left d < left c
     carried_falls t = rw told.1 at (falls (found w ss) c (more (goes_further t)))

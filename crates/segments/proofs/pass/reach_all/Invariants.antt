@@ -1,16 +1,11 @@
 -- `segments::pass::reach_all` meets its contract. Assumes nothing.
-use Rattle.std.proofs.Common.{◌≡◌, length}
+use Rattle.std.proofs.Common.{◌≡◌, Some}
 use Rattle.regions.specs.Regions.{cells_of}
-use Rattle.regions.specs.RegionLaws.{to_come, Proper}
-use Rattle.world.specs.Space.{space}
+use Rattle.world.specs.Space.{space_of}
 use Rattle.support.specs.Support.{shapes_at}
-use Rattle.support.specs.Pass.{reached, pass}
+use Rattle.support.specs.Pass.{pass}
 use Rattle.segments.proofs.pass.reach_all.Given as goal
 
-abbrev pub invariant-loop-cursor : goal.invariant-loop-cursor
-invariant-loop-cursor l =
-    Proper l.region l.cursor
-    × (pass l.way (reached l.covered) (shapes_at (space l.w l.cells l.perms l.shapes l.boxes) (cells_of l.region)) ≡ pass l.way l.reach (shapes_at (space l.w l.cells l.perms l.shapes l.boxes) (to_come l.region l.cursor)))
-
-abbrev pub decreases-loop-cursor : goal.decreases-loop-cursor
-decreases-loop-cursor l = length (to_come l.region l.cursor)
+-- the cells that are left make of the pass what all of them make of it
+abbrev pub invariant-loop-at : goal.invariant-loop-at
+invariant-loop-at l = pass l.way (Some l.covered) (shapes_at (space_of l.world) (cells_of l.fn.region)) ≡ pass l.way (Some l.to) (shapes_at (space_of l.world) l.at-iterator)

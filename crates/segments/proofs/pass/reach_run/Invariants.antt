@@ -1,10 +1,9 @@
 -- `segments::pass::reach_run` meets its contract. Assumes nothing.
-use Rattle.std.proofs.Common.{◌≤◌, ◌≡◌, length}
-use Rattle.support.specs.Pass.{reached, pass, run_shapes}
+use Rattle.std.proofs.Common.{◌≡◌, Some}
+use Rattle.world.specs.Run.{boxes_left}
+use Rattle.support.specs.Pass.{pass, run_shapes}
 use Rattle.segments.proofs.pass.reach_run.Given as goal
 
-abbrev pub invariant-loop-left : goal.invariant-loop-left
-invariant-loop-left l = (l.at ≤ length l.part) × (pass l.way (reached l.covered) (run_shapes l.support l.by l.part l.boxes 0) ≡ pass l.way l.reach (run_shapes l.support l.by l.part l.left l.at))
-
-abbrev pub decreases-loop-left : goal.decreases-loop-left
-decreases-loop-left l = l.left
+-- the boxes that are left make of the pass what all of them make of it
+abbrev pub invariant-loop-b : goal.invariant-loop-b
+invariant-loop-b l = pass l.way (Some l.covered) (run_shapes l.support l.by (boxes_left l.fn.run)) ≡ pass l.way (Some l.to) (run_shapes l.support l.by (boxes_left l.b-iterator))
