@@ -1,8 +1,13 @@
 -- What a continued search may rely on.
-use Rattle.std.specs.Prelude.{ℕ, zero, suc, ◌+◌, ◌-◌, ◌*◌, ◌/◌, ◌≤◌, ◌<◌, ◌≡◌, refl, Bool, true, false, not, ◌&&◌, cond, List, ◌≢◌, eqb, leb, ltb, length}
+use Rattle.std.specs.Prelude.{ℕ, zero, suc, ◌+◌, ◌-◌, ◌*◌, ◌/◌, ◌≤◌, ◌<◌, ◌≡◌, refl, Bool, true, false, not, ◌&&◌, cond, List, ◌≢◌, eqb, leb, ltb, length, Option, Some, None, MatchOption, unwrap_or}
 use Rattle.std.proofs.Common.{arith, sym, ap, subst, ◌∙◌, ⊎_elim, eq-eqb, ne_eqb, leb-true, ltb-true, ltb-false}
 use Rattle.exploration.proofs.Laws.Lists.{and_first, and_second}
+use Rattle.std.specs.Float.{binary64}
+use Rattle.std.specs.Float.Ieee.{of_bits}
+use Rattle.std.specs.Float.Ieee.Scale.{finite}
 use Rattle.world.specs.declared.Request.{Request}
+use Rattle.places.specs.Places.{in_range}
+use Rattle.rooms.specs.declared.Feet.{Feet}
 use Rattle.rooms.specs.declared.Counts.{Counts}
 use Rattle.fields.specs.Little.{field}
 use Rattle.rooms.specs.declared.Entry.{Entry}
@@ -13,7 +18,7 @@ use Rattle.rooms.proofs.Laws.Lists.{in_or_out}
 use Rattle.scans.specs.Laws.{Idle, idle_none, idle_more, first_past}
 use Rattle.chains.specs.Chains.{each_below, good_chains}
 use Rattle.chains.specs.Laws.{each_all, each_at, each_not}
-use Rattle.progress.specs.Progress.{good_asked, good_retained, good_closed, good_pushed, good_dropped, good_counts, good_node, good_wait, is_idle, some_waits, good_progress}
+use Rattle.progress.specs.Progress.{stands_at, good_asked, good_retained, good_closed, good_pushed, good_dropped, good_counts, good_node, good_wait, is_idle, some_waits, good_progress}
 
 -- the bounds that keep every count from wrapping: one call makes at most 4,096 expansions
 pub record CountBounds (budget : ℕ) (c : Counts) (n : ℕ) : Type 0 where
@@ -122,3 +127,14 @@ module _ (r : Request) (a f : List ℕ) (c : Counts) (n : ℕ) where
       (each_below (good_node r a f) c.retained && good_chains a c.retained && some_waits f c.retained && each_below (good_wait a f c.retained) (length f / 24)) ≡ good_progress r a f c n
   unfolding good_progress
   progress_by e = rw e
+
+-- ---- a node by its words
+
+abbrev pub good_words : Request → Feet → ℕ → ℕ → ℕ → ℕ → Bool
+good_words r feet cost movement closed waiting = in_range r (stands_at feet) && finite (of_bits binary64 cost) && leb movement 3 && (leb closed 1 && leb waiting 1)
+
+-- what `find` says of the first number that fails, where the others pass
+pub passed_good : (p : ℕ → Bool) (n : ℕ) (r : Option ℕ) → MatchOption r ((k : ℕ) → 0 ≤ k → k < n → p k ≡ true) (λ i. (0 ≤ i) × (i < n) × Unit {0} × ((k : ℕ) → 0 ≤ k → k < i → p k ≡ true))
+    → (unwrap_or r n ≤ n) × (each_below p (unwrap_or r n) ≡ true)
+passed_good p n None h = (omega arith, each_all p n (λ k l. h k (omega arith) l))
+passed_good p n (Some i) h = (omega (arith, h.1), each_all p i (λ k l. h.3 k (omega arith) l))

@@ -11,14 +11,16 @@ ghost use Rattle.rooms.specs.Scans.{first_of, waits};
 ghost use Rattle.scans.specs.Laws.{Idle};
 ghost use Rattle.chains.specs.Chains.{each_below};
 ghost use Rattle.progress.specs.Progress.{good_counts, good_node, good_wait, good_progress};
+ghost use Rattle.progress.specs.Laws.{good_words};
 
-use rooms::{Counts, get_entry, get_node};
+use rooms::{Counts, Feet, get_entry, get_node};
 use world::{Point, Request};
 
 // More nodes than a room can tell apart: a parent's number is a u32.
 const NODES: usize = 4294967296;
 
 // Whether the expansions and the counts are within their bounds.
+#[tactic(auto, unfolding(crate::specs::Progress::good_counts))]
 fn counts_good(budget: u64, c: Counts, expansions: u64) -> bool
     ensures { result ≡ good_counts budget c expansions }
 {
@@ -29,21 +31,33 @@ fn counts_good(budget: u64, c: Counts, expansions: u64) -> bool
     asked & few & (c.pushed < 4294967296) & (c.dropped < 4294967296)
 }
 
-// Whether node k is in range, of finite cost, with a movement and marks of 01.
+// Whether a node with these words is in range, of finite cost, with a movement and marks of 01.
+fn words_good(r: Request, feet: Feet, cost: u64, movement: u64, closed: u32, waiting: u64) -> bool
+    ensures { result ≡ good_words r feet cost movement closed waiting }
+{
+    let x = floats::float_of(feet.x);
+    let y = floats::float_of(feet.y);
+    let z = floats::float_of(feet.z);
+    let near = places::in_range(r, Point { x, y, z });
+    let finite = floats::finite(floats::float_of(cost));
+    near & finite & (movement <= 3) & ((closed <= 1) & (waiting <= 1))
+}
+
+// Whether node k is.
+#[tactic(auto, unfolding(crate::specs::Progress::good_node))]
 fn node_good(r: Request, nodes: &[u8], front: &[u8], k: usize) -> bool
     ensures { result ≡ good_node r nodes.now front.now k }
 {
     let node = get_node(nodes, k);
-    let entry = get_entry(front, k);
-    let feet = node.feet;
-    let label = node.label;
-    let x = floats::float_of(feet.x);
-    let y = floats::float_of(feet.y);
-    let z = floats::float_of(feet.z);
-    let at = Point { x, y, z };
-    let near = places::in_range(r, at);
-    let cost = floats::finite(floats::float_of(node.cost));
-    near & cost & (label.movement <= 3) & ((node.closed <= 1) & (entry.waiting <= 1))
+    let waiting = get_entry(front, k).waiting;
+    words_good(
+        r,
+        node.feet,
+        node.cost,
+        node.label.movement,
+        node.closed,
+        waiting,
+    )
 }
 
 // Whether a pattern is no NaN's. Where it is not, `float_of` takes it as it is.
@@ -59,22 +73,17 @@ fn plain_node(r: Request, nodes: &[u8], front: &[u8], k: usize) -> bool
     ensures { result ≡ true → good_node r nodes.now front.now k ≡ true }
 {
     let at = 64 * k;
-    let u = fields::u64_at(nodes, at);
-    let v = fields::u64_at(nodes, at + 8);
-    let w = fields::u64_at(nodes, at + 16);
+    let x = fields::u64_at(nodes, at);
+    let y = fields::u64_at(nodes, at + 8);
+    let z = fields::u64_at(nodes, at + 16);
     let movement = fields::u64_at(nodes, at + 32);
-    let spent = fields::u64_at(nodes, at + 48);
+    let cost = fields::u64_at(nodes, at + 48);
     let closed = fields::u32_at(nodes, at + 60);
     let waiting = fields::u64_at(front, 24 * k + 16);
-    if !(is_number(u) & is_number(v) & is_number(w) & is_number(spent)) {
+    if !(is_number(x) & is_number(y) & is_number(z) & is_number(cost)) {
         return false;
     }
-    let x = floats::float_of(u);
-    let y = floats::float_of(v);
-    let z = floats::float_of(w);
-    let near = places::in_range(r, Point { x, y, z });
-    let cost = floats::finite(floats::float_of(spent));
-    near & cost & (movement <= 3) & ((closed <= 1) & (waiting <= 1))
+    words_good(r, Feet { x, y, z }, cost, movement, closed, waiting)
 }
 
 // Passes over good nodes; in rooms that have not n of them over none. The lengths are judged once, so that the loop need not.
@@ -82,29 +91,23 @@ fn pass_good(r: Request, nodes: &[u8], front: &[u8], n: usize) -> usize
     ensures { (result ≤ n) × (each_below (good_node r nodes.now front.now) result ≡ true) }
 {
     let border = n % NODES;
-    let mut k: usize = 0;
-    if (64 * border <= nodes.len()) & (24 * border <= front.len()) {
-        while k < border && plain_node(r, nodes, front, k) {
-            k += 1;
-        }
+    if (nodes.len() < 64 * border) | (front.len() < 24 * border) {
+        return 0;
     }
-    k
+    (0..border)
+        .find(|k| !plain_node(r, nodes, front, *k))
+        .unwrap_or(border)
 }
 
 fn nodes_good(r: Request, nodes: &[u8], front: &[u8], n: usize) -> bool
     ensures { result ≡ each_below (good_node r nodes.now front.now) n }
 {
-    let mut k = pass_good(r, nodes, front, n);
-    while k < n {
-        if !node_good(r, nodes, front, k) {
-            return false;
-        }
-        k += 1;
-    }
-    true
+    let first = pass_good(r, nodes, front, n);
+    (first..n).all(|k| node_good(r, nodes, front, k))
 }
 
 // Whether frontier record k does not wait, or is that of one of n nodes, which is open, and has a finite estimate.
+#[tactic(auto, unfolding(crate::specs::Progress::good_wait))]
 fn wait_good(nodes: &[u8], front: &[u8], n: usize, k: usize) -> bool
     ensures { result ≡ good_wait nodes.now front.now n k }
 {
@@ -138,6 +141,7 @@ fn pass_idle(front: &[u8], from: usize, n: usize) -> usize
         return i;
     }
     if 24 * border <= front.len() {
+        // by fours, so it is no range's loop of one record a turn
         while i + 4 <= border && four_idle(front, i) {
             i += 4;
         }
@@ -159,6 +163,7 @@ fn waits_good(nodes: &[u8], front: &[u8], n: usize) -> bool
     ensures { result ≡ each_below (good_wait nodes.now front.now n) (length front.now / 24) }
 {
     let m = front.len() / 24;
+    // `k` goes on to the next that waits, so it is no range's
     let mut k = next_wait(front, 0, m);
     while k < m {
         if !wait_good(nodes, front, n, k) {

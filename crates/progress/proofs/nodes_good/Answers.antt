@@ -1,25 +1,15 @@
 -- `progress::nodes_good` meets its contract. Assumes nothing.
-use Rattle.std.proofs.Common.{arith, ◌≡◌, sym, ap, ◌∙◌}
-use Rattle.chains.specs.Chains.{each_below}
+use Rattle.std.proofs.Common.{◌≡◌, ◌-◌, refl, true, false, rules}
+use Rattle.std.proofs.lemmas.Iterator.{cases_from_all, YieldsList-from_range}
+use borrow.Author.Tests.{tests}
+use Rattle.chains.proofs.Each.{each_from}
 use Rattle.progress.specs.Progress.{good_node}
-use Rattle.chains.specs.Laws.{each_more, each_not}
 use Rattle.progress.proofs.nodes_good.Goals as goal
-
-pub loop-k-init : goal.loop-k-init
-loop-k-init c = c.pass_good-k.ensures
-
-pub returns-then-not-node_good : goal.returns-then-not-node_good
-returns-then-not-node_good c =
-    let a = c.args in
-    sym (each_not (good_node a.r a.nodes.now a.front.now) a.n c.loop-k.k c.loop-k-test.true (sym c.node_good.ensures ∙ c.if-not-node_good.true))
-
-pub loop-k-preserved : goal.loop-k-preserved
-loop-k-preserved c =
-    let a = c.args in
-    (omega arith, each_more (good_node a.r a.nodes.now a.front.now) c.loop-k.k c.loop-k.invariant.1 (sym c.node_good.ensures ∙ c.if-not-node_good.false))
 
 pub returns : goal.returns
 returns c =
     let a = c.args in
-    let e : c.loop-k.k ≡ a.n = omega arith in
-    sym (ap (each_below (good_node a.r a.nodes.now a.front.now)) (sym e) ∙ c.loop-k.invariant.1)
+    let p = good_node a.r a.nodes.now a.front.now in
+    let k = c.pass_good-first.result in
+    each_from p k a.n c.all.result c.pass_good-first.ensures.0 c.pass_good-first.ensures.1
+    (cases_from_all _ _ c.all.result (λ j. p j ≡ true) (λ j. p j ≡ false) c.all.ensures.ran (YieldsList-from_range k a.n (a.n - k) refl refl) (λ x q k. search (rules, tests)) (λ x q k. search (rules, tests)))

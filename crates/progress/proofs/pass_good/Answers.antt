@@ -1,22 +1,19 @@
--- `progress::pass_good` meets its contract. The loop's invariant: the nodes before `k` are good. Assumes nothing.
-use Rattle.std.proofs.Common.{arith, refl}
-use Rattle.chains.specs.Laws.{each_more}
+-- `progress::pass_good` meets its contract. Assumes nothing.
+use Rattle.std.proofs.Common.{◌≡◌, ◌%◌, true, refl, arith, rules}
+use Rattle.std.proofs.lemmas.Iterator.{first_from_Range}
+use borrow.Author.Tests.{tests}
 use Rattle.progress.specs.Progress.{good_node}
+use Rattle.progress.specs.Laws.{passed_good}
 use Rattle.progress.proofs.pass_good.Goals as goal
 
-pub loop-k-init : goal.loop-k-init
-loop-k-init c = (omega arith, refl)
+pub returns-then-nodes-border : goal.returns-then-nodes-border
+returns-then-nodes-border c = (omega arith, refl)
 
-pub loop-k-preserved : goal.loop-k-preserved
-loop-k-preserved c =
+pub returns : goal.returns
+returns c =
     let a = c.args in
-    (omega arith, each_more (good_node a.r a.nodes.now a.front.now) c.loop-k.k c.loop-k.invariant.1 (c.plain_node.ensures c.if-plain_node.true))
-
-pub returns-else-plain_node : goal.returns-else-plain_node
-returns-else-plain_node c = c.loop-k.invariant
-
-pub returns-after-loop-k : goal.returns-after-loop-k
-returns-after-loop-k c = c.loop-k.invariant
-
-pub returns-else-border-nodes : goal.returns-else-border-nodes
-returns-else-border-nodes c = (omega arith, refl)
+    let p = good_node a.r a.nodes.now a.front.now in
+    let b = a.n % 4294967296 in
+    let f = first_from_Range _ _ _ c.find.result (λ k. Unit {0}) (λ k. p k ≡ true) c.find.ensures.ran (λ x q k. tt) (λ x q k. search (rules, tests)) in
+    let h = passed_good p b c.find.result f in
+    rw c.unwrap_or.ensures (omega (arith, h.0), h.1)

@@ -1,5 +1,5 @@
 -- `progress::plain_node` meets its contract. Assumes nothing.
-use Rattle.std.proofs.Common.{◌*◌, add-zero, refl}
+use Rattle.std.proofs.Common.{add-zero, refl, ◌*◌}
 use Rattle.exploration.proofs.Laws.Lists.{true_false}
 use Rattle.rooms.specs.Records.{node_at, entry_at}
 use Rattle.progress.specs.Progress.{good_node}
@@ -13,4 +13,4 @@ unfolding good_node node_at entry_at
 returns c e =
     let a = c.args in
     rw (add-zero (64 * a.k))
-    (rw (c.finite-cost.ensures, c.float_of.ensures, c.in_range-near.ensures, c.float_of-z.ensures, c.float_of-y.ensures, c.float_of-x.ensures, c.u64_at-waiting.ensures, c.u32_at-closed.ensures, c.u64_at-spent.ensures, c.u64_at-movement.ensures, c.u64_at-w.ensures, c.u64_at-v.ensures, c.u64_at-u.ensures) at e)
+    (rw (c.words_good.ensures, c.u64_at-waiting.ensures, c.u32_at-closed.ensures, c.u64_at-cost.ensures, c.u64_at-movement.ensures, c.u64_at-z.ensures, c.u64_at-y.ensures, c.u64_at-x.ensures) at e)
