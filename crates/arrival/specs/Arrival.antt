@@ -1,6 +1,6 @@
 -- Where a point is the same as the goal, the goal is in range and a body may stand there, the connector passes: it is a Walk with lift 0, and its door is the one
 -- that the body stands in. So a search that is at such a point may end its list there.
-use Rattle.std.specs.Prelude.{◌≡◌, ℕ, Bool, eqb, Float}
+use Rattle.std.specs.Prelude.{◌≡◌, ℕ, Bool, eqb, Float, Some}
 use Rattle.std.proofs.Math.Path.{refl}
 use Rattle.std.proofs.Common.{sym, ◌∙◌}
 use Rattle.std.proofs.Math.Bool.{true, false, cond}
@@ -22,7 +22,6 @@ use Rattle.clear.specs.Corridors.{or_else, door_in}
 use Rattle.support.specs.Support.{supported}
 use Rattle.moves.specs.declared.answer.Movement.TheVariants.{Walk}
 use Rattle.moves.specs.declared.answer.Waypoint.{Waypoint}
-use Rattle.moves.specs.declared.answer.EdgeAnswer.TheVariants.{To}
 use Rattle.places.specs.Places.{in_range, standable, near}
 use Rattle.edges.specs.Edges.{raised, across, up, swept, way_clear, passable, way_door, edge, connector}
 use Rattle.rooms.specs.declared.Feet.{Feet}
@@ -118,18 +117,18 @@ module _ (sp : Space) (r : Request) (body : Body) (to : Point) (n : FinitePoint 
       same true = refl
       same false = refl
 
-  stays : in_range r to ≡ true → standable sp body to ≡ true → edge sp r body to to ≡ To (arrived sp body to)
+  stays : in_range r to ≡ true → standable sp body to ≡ true → edge sp r body to to ≡ Some (arrived sp body to)
   unfolding edge
   stays i s = rw (level_walk (sub binary64 to.y to.y) (no_difference to.y to.y refl n.y) r body, passes i s, door_there)
 
   -- and so from a point alike
-  pub edge_alike : (from : Point) → AlikePoint from to → in_range r to ≡ true → standable sp body to ≡ true → edge sp r body from to ≡ To (arrived sp body to)
+  pub edge_alike : (from : Point) → AlikePoint from to → in_range r to ≡ true → standable sp body to ≡ true → edge sp r body from to ≡ Some (arrived sp body to)
   edge_alike from h i s = edge_same sp r body from to h to ∙ stays i s
 
 -- ---- the connector from the goal to itself
 
 module _ (sp : Space) (r : Request) (body : Body) (n : FinitePoint r.goal) (l : Held r.goal) (i : in_range r r.goal ≡ true) (s : standable sp body r.goal ≡ true) where
-  pub connector_alike : (from : Point) → AlikePoint from r.goal → connector sp r body from ≡ To (arrived sp body r.goal)
+  pub connector_alike : (from : Point) → AlikePoint from r.goal → connector sp r body from ≡ Some (arrived sp body r.goal)
   unfolding connector
   connector_alike from h =
       rw (near_itself from.x r.goal.x h.x n.x, near_itself from.z r.goal.z h.z n.z) (edge_alike sp r body r.goal n l from h i s)

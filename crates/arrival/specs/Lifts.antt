@@ -1,6 +1,6 @@
 -- The words of two numbers are the same exactly where the numbers are equal (01, Modules 5: "lifts compare as numbers"): so a lift of a list is compared with
 -- an edge's, which is no NaN (`lift_number` of edges), as 01 says.
-use Rattle.std.specs.Prelude.{ℕ, zero, suc, ◌*◌, ◌^◌, ◌<◌, ◌≡◌, refl, Bool, true, false, not, ◌&&◌, ◌||◌, T, eqb, ℤ, pos, Float}
+use Rattle.std.specs.Prelude.{ℕ, zero, suc, ◌*◌, ◌^◌, ◌<◌, ◌≡◌, refl, Bool, true, false, not, ◌&&◌, ◌||◌, T, eqb, ℤ, pos, Float, Some}
 use Rattle.std.proofs.Common.{zero-mul, mul-pos, arith, sym, ap, ◌∙◌, eqb-true, eq-eqb}
 use Rattle.std.specs.Bool.{beq}
 use Rattle.std.proofs.lemmas.Bool.{eqb-false}
@@ -16,7 +16,6 @@ use Rattle.world.specs.declared.Body.{Body}
 use Rattle.world.specs.declared.Request.{Request}
 use Rattle.world.specs.Space.{Space}
 use Rattle.moves.specs.declared.answer.Waypoint.{Waypoint}
-use Rattle.moves.specs.declared.answer.EdgeAnswer.TheVariants.{To}
 use Rattle.moves.specs.Moves.{movement_number}
 use Rattle.edges.specs.Edges.{edge}
 use Rattle.edges.specs.Answers.{lift_number}
@@ -146,7 +145,7 @@ words_as_numbers x n f number h = go (eqb (word x) (canonical_word n)) refl (eq 
     go false e true g = absurd (eqb-false _ _ e (then_same g))
 
 -- "lifts compare as numbers": a label of a list is like an edge's where the movements are one, the lifts, as numbers, are equal, and the doors are one
-pub lifts_as_numbers : (sp : Space) (r : Request) (body : Body) → is_nan r.jump_height ≡ false → (from to : Point) (w : Waypoint) → edge sp r body from to ≡ To w →
+pub lifts_as_numbers : (sp : Space) (r : Request) (body : Body) → is_nan r.jump_height ≡ false → (from to : Point) (w : Waypoint) → edge sp r body from to ≡ Some w →
     T (fits binary64 w.lift) → (l : Label) → l.lift < 2 ^ 64 →
     alike (label_of w) l ≡ (eqb (movement_number w.movement) l.movement && (eq w.lift (of_bits binary64 l.lift) && eqb w.door l.door))
 unfolding alike label_of

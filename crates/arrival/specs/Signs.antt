@@ -1,7 +1,7 @@
 -- The sign of a zero makes no difference to where a body can go: from points that differ at most in signs of zeros go the same edges, the same connector and the
 -- same steps, and to such points lead the same edges, whatever the coordinates are, NaN and the infinities too. So a graph that reads a point with -0.0 as 0.0
 -- (`point_of` of words) has the steps and the connector that the point's own bits have, and points that 01 calls the same have one edge's label.
-use Rattle.std.specs.Prelude.{ℕ, zero, suc, ◌+◌, ◌≡◌, Bool, ◌&&◌, T, eqb, ◌+ℤ◌, ◌-ℤ◌, Float}
+use Rattle.std.specs.Prelude.{ℕ, zero, suc, ◌+◌, ◌≡◌, Bool, ◌&&◌, T, eqb, ◌+ℤ◌, ◌-ℤ◌, Float, Option, Some, None}
 use Rattle.std.proofs.Math.Path.{refl, sym, ap}
 use Rattle.std.proofs.Common.{◌∙◌, ⊎_elim, eqb-true}
 use Rattle.std.proofs.Math.Bool.{true, false, cond}
@@ -23,11 +23,7 @@ use Rattle.clear.specs.Clear.{clear}
 use Rattle.clear.specs.Corridors.{door_in}
 use Rattle.moves.specs.declared.answer.Movement.{Movement}
 use Rattle.moves.specs.declared.answer.Movement.TheVariants.{Walk}
-use Rattle.moves.specs.declared.answer.Moving.{Moving}
-use Rattle.moves.specs.declared.answer.Moving.TheVariants.{By, None}
 use Rattle.moves.specs.declared.answer.Waypoint.{Waypoint}
-use Rattle.moves.specs.declared.answer.EdgeAnswer.{EdgeAnswer}
-use Rattle.moves.specs.declared.answer.EdgeAnswer.TheVariants.{To, Nowhere}
 use Rattle.moves.specs.Moves.{step_height, moving}
 use Rattle.places.specs.Places.{in_range, standable, near}
 use Rattle.edges.specs.Edges.{raised, across, up, swept, way_clear, passable, way_door, edge_by, edge, connector}
@@ -57,7 +53,7 @@ module _ (dy : Float) (z : Zero dy) where
   no_rise : lt nought dy ≡ false
   no_rise = lt_alike nought dy nought nought refl (zero_alike dy z) ∙ (unfold lt of_bits in refl)
 
-  pub level_walk : (r : Request) (body : Body) → moving r body dy ≡ By Walk nought
+  pub level_walk : (r : Request) (body : Body) → moving r body dy ≡ Some (Walk, nought)
   unfolding moving larger
   level_walk r body = rw (not_above, not_below, no_rise)
 
@@ -84,9 +80,9 @@ standable_alike sp body p q h =
 -- ---- edges and the connector
 
 -- the same answer with another target
-abbrev pub towards : Point → EdgeAnswer → EdgeAnswer
-towards to Nowhere = Nowhere
-towards to (To w) = To (record { feet = to; lift = w.lift; movement = w.movement; door = w.door })
+abbrev pub towards : Point → Option Waypoint → Option Waypoint
+towards to None = None
+towards to (Some w) = Some (record { feet = to; lift = w.lift; movement = w.movement; door = w.door })
 
 module _ (sp : Space) (r : Request) (body : Body) (p q a b : Point) (h : AlikePoint p q) (k : AlikePoint a b) where
   raised_alike : (lift : Float) → AlikePoint (raised p lift) (raised q lift)
@@ -135,13 +131,13 @@ module _ (sp : Space) (r : Request) (body : Body) (p q a b : Point) (h : AlikePo
   edge_towards = rw (moving_alike r body (sub binary64 a.y p.y) (sub binary64 b.y q.y) (sub_alike a.y p.y b.y q.y k.y h.y)) (by (moving r body (sub binary64 b.y q.y)))
     where
       pick : (m : Movement) (lift : Float) (door : ℕ) (c : Bool) →
-          cond c (To (record { feet = a; lift = lift; movement = m; door = door })) Nowhere ≡ towards a (cond c (To (record { feet = b; lift = lift; movement = m; door = door })) Nowhere)
+          cond c (Some (record { feet = a; lift = lift; movement = m; door = door })) None ≡ towards a (cond c (Some (record { feet = b; lift = lift; movement = m; door = door })) None)
       pick m lift door true = refl
       pick m lift door false = refl
 
-      by : (m : Moving) → edge_by sp r body p a m ≡ towards a (edge_by sp r body q b m)
+      by : (m : Option (Movement × Float)) → edge_by sp r body p a m ≡ towards a (edge_by sp r body q b m)
       by None = refl
-      by (By m lift) = rw (passable_same lift, door_same lift) (pick m lift (way_door sp body q b lift) (passable sp r body q b lift))
+      by (Some (m, lift)) = rw (passable_same lift, door_same lift) (pick m lift (way_door sp body q b lift) (passable sp r body q b lift))
 
 module _ (sp : Space) (r : Request) (body : Body) (p q : Point) (h : AlikePoint p q) where
   pub edge_same : (to : Point) → edge sp r body p to ≡ edge sp r body q to
@@ -287,6 +283,6 @@ module _ (sp : Space) (r : Request) (body : Body) (from : Point) where
   pub same_label : (q : Feet) (to : Point) → Held to → same_point q (feet_of to) ≡ true → label_if (edge sp r body from (point_of q)) ≡ label_if (edge sp r body from to)
   same_label q to h e = ap label_if (edge_towards sp r body from from (point_of q) to (itself from) (point_same q to h e)) ∙ again (edge sp r body from to)
     where
-      again : (a : EdgeAnswer) → label_if (towards (point_of q) a) ≡ label_if a
-      again Nowhere = refl
-      again (To w) = unfold label_of in refl
+      again : (a : Option Waypoint) → label_if (towards (point_of q) a) ≡ label_if a
+      again None = refl
+      again (Some w) = unfold label_of in refl

@@ -1,8 +1,7 @@
 -- A segment is supported between two points where it is between any two alike.
-use Rattle.std.specs.Prelude.{ℕ, zero, suc, ◌≡◌, Bool, true, false, ◌||◌, cond, length, Float}
+use Rattle.std.specs.Prelude.{ℕ, zero, suc, ◌≡◌, Bool, true, false, ◌||◌, cond, length, Float, Option, Some, None}
 use Rattle.std.proofs.Math.Path.{refl}
 use Rattle.std.proofs.Common.{ap, ◌∙◌}
-use Rattle.std.proofs.Math.Option.{Option, none, some}
 use mathlib.Core.List.{List, [], ◌∷◌}
 use Rattle.std.proofs.Math.Logic.{⊎_elim}
 use Rattle.std.specs.Float.Ieee.{binary64, lt, le, eq, add, sub, div, of_bits}
@@ -56,8 +55,8 @@ pub record AlikeInterval (i j : Interval) : Type 0 where
 
 -- two of them, or none of both; and so many
 data AlikeOption : Option Interval → Option Interval → Type 0 where
-  neither : AlikeOption none none
-  both : {i j : Interval} → AlikeInterval i j → AlikeOption (some i) (some j)
+  neither : AlikeOption None None
+  both : {i j : Interval} → AlikeInterval i j → AlikeOption (Some i) (Some j)
 
 data AlikeList : List Interval → List Interval → Type 0 where
   no_more : AlikeList [] []
@@ -65,17 +64,17 @@ data AlikeList : List Interval → List Interval → Type 0 where
 
 -- an interval that does not begin behind its end
 abbrev proper : Interval → Option Interval
-proper i = cond (le i.begin i.end) (some i) none
+proper i = cond (le i.begin i.end) (Some i) None
 
 proper_alike : (i j : Interval) → AlikeInterval i j → AlikeOption (proper i) (proper j)
 proper_alike i j h = rw (le_alike i.begin i.end j.begin j.end h.begin h.end) (kept (le j.begin j.end))
   where
-    kept : (b : Bool) → AlikeOption (cond b (some i) none) (cond b (some j) none)
+    kept : (b : Bool) → AlikeOption (cond b (Some i) None) (cond b (Some j) None)
     kept true = both h
     kept false = neither
 
--- the same test leaves out both or none
-dropped : (b : Bool) {i j : Interval} → AlikeInterval i j → AlikeOption (cond b none (some i)) (cond b none (some j))
+-- the same test leaves out both or None
+dropped : (b : Bool) {i j : Interval} → AlikeInterval i j → AlikeOption (cond b None (Some i)) (cond b None (Some j))
 dropped true h = neither
 dropped false h = both h
 
@@ -125,7 +124,7 @@ module _ (s t least greatest : Float) (i j : Interval) (h : Alike s t) (k : Alik
       still z = rw (zero_equal d z.0, zero_equal e z.1, beside) (dropped (lt t least || lt greatest t) k)
 
       go : (b : Bool) →
-          AlikeOption (cond b (cond (lt s least || lt greatest s) none (some i)) (some (bounded e s i))) (cond b (cond (lt t least || lt greatest t) none (some j)) (some (bounded e t j)))
+          AlikeOption (cond b (cond (lt s least || lt greatest s) None (Some i)) (Some (bounded e s i))) (cond b (cond (lt t least || lt greatest t) None (Some j)) (Some (bounded e t j)))
       go true = rw beside (dropped (lt t least || lt greatest t) k)
       go false = both (bounded_alike e)
 

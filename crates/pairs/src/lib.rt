@@ -7,7 +7,7 @@
 ghost use Rattle.std.specs.Prelude.{◌≡◌, []};
 ghost use Rattle.exploration.specs.Lists.{has};
 ghost use Rattle.exploration.specs.WalkBack.{joined};
-ghost use Rattle.world.specs.Space.{space};
+ghost use Rattle.world.specs.Space.{space_of};
 ghost use Rattle.sides.specs.Sides.{looked_by};
 ghost use Rattle.steps.specs.Columns.{band_of, steps_from, column_if};
 ghost use Rattle.steps.specs.Expansion.{sides_before};
@@ -17,11 +17,11 @@ ghost use Rattle.listed.specs.Compared.{leads_to};
 ghost use Rattle.pairs.specs.Pairs.{pair_number, pair_fault};
 ghost use Rattle.pairs.specs.Laws.{Noted};
 
-use heights::{Band, Height};
-use moves::{EdgeAnswer, EdgeCheck, Reason};
+use heights::{Band, Shaft};
+use moves::Reason;
 use rooms::{Feet, WaypointRecord};
 use sides::Sides;
-use world::{Body, Point, Request, Window};
+use world::{Point, Query};
 
 // Why a pair is none of the graph's: it has no edge; its edge is no graph step nor, at the last pair, a connector; or the record's movement, lift or door is not
 // its edge's.
@@ -33,167 +33,96 @@ pub enum PairFault {
 }
 
 // The number of a pair's reason: that of its edge's, 117 or 118.
-pub fn pair_number(fault: PairFault) -> u64
-    ensures { result ≡ pair_number fault }
-{
-    match fault {
-        PairFault::NoEdge(why) => moves::reason_number(why),
-        PairFault::NotAStep => 117,
-        PairFault::WrongLabel => 118,
+impl From<PairFault> for u64 {
+    ghost from_gives = { λ fault n. n ≡ pair_number fault };
+
+    fn from(fault: PairFault) -> u64 {
+        match fault {
+            PairFault::NoEdge(why) => u64::from(why),
+            PairFault::NotAStep => 117,
+            PairFault::WrongLabel => 118,
+        }
     }
 }
 
-// What a column says: whether an edge of it leads to the record, and where none does whether one of them is level.
-#[derive(Clone, Copy)]
-struct Looked {
-    pub met: bool,
-    pub level: bool,
-}
-
-// What column n says; one that is not looked at has no edges.
+// What column n says: None where an edge of it leads to the record, and otherwise whether one of its edges is level. A column that is not looked at has no edges.
 fn look_column(
-    w: Window,
-    cells: &[u8],
-    perms: &[u8],
-    shapes: &[u8],
-    boxes: &[u8],
-    r: Request,
-    body: Body,
+    query: Query,
     from: Point,
     band: Band,
     looked: bool,
     n: usize,
     v: WaypointRecord,
-) -> Looked
-    requires band_value { band ≡ band_of r body from }
-    requires looked_value { looked ≡ looked_by (sides_before (space w cells.now perms.now shapes.now boxes.now) r body from n) n }
-    ensures { Noted v from (column_if (space w cells.now perms.now shapes.now boxes.now) r body from n) result.met result.level [] }
+) -> Option<bool>
+    requires band_value { band ≡ band_of query.entry.request query.entry.body from }
+    requires looked_value { looked ≡ looked_by (sides_before (space_of query.entry.world) query.entry.request query.entry.body from n) n }
+    ensures { Noted v from (column_if (space_of query.entry.world) query.entry.request query.entry.body from n) result [] }
 {
-    let centre = steps::column_centre(from, n);
-    let mut met = false;
     let mut level = false;
-    let mut after = Height::None;
-    while looked & !met {
-        let Height::At(y) = heights::next_height(
-            w, cells, perms, shapes, boxes, band, centre.x, centre.z, after,
-        ) else {
-            break;
-        };
+    if !looked {
+        return Some(level);
+    }
+    let centre = steps::column_centre(from, n);
+    let shaft = Shaft {
+        band,
+        x: centre.x,
+        z: centre.z,
+    };
+    let mut after = None;
+    while let Some(y) = heights::next_height(query.world, shaft, after) {
         let to = Point {
             x: centre.x,
             y,
             z: centre.z,
         };
-        if let EdgeAnswer::To(step) = edges::edge(
-            w, cells, perms, shapes, boxes, r, body, from, to,
-        ) {
-            met = listed::leads_to(v, step);
-            level = level | sides::is_level(from, step.feet);
+        if let Some(step) = edges::edge(query, from, to) {
+            if listed::leads_to(v, step) {
+                return None;
+            }
+            level |= sides::is_level(from, step.feet);
         }
-        after = Height::At(y);
+        after = Some(y);
     }
-    Looked { met, level }
+    Some(level)
 }
 
 // Whether a graph step leads from a point to a record.
-fn has_step(
-    w: Window,
-    cells: &[u8],
-    perms: &[u8],
-    shapes: &[u8],
-    boxes: &[u8],
-    r: Request,
-    body: Body,
-    from: Point,
-    v: WaypointRecord,
-) -> bool
-    ensures { result ≡ has (leads_to v) (steps_from (space w cells.now perms.now shapes.now boxes.now) r body from) }
+fn has_step(query: Query, from: Point, v: WaypointRecord) -> bool
+    ensures { result ≡ has (leads_to v) (steps_from (space_of query.entry.world) query.entry.request query.entry.body from) }
 {
-    let band = steps::band_of(r, body, from);
+    let band = steps::band_of(query.request, query.body, from);
     let mut sides = Sides::none();
-    let mut met = false;
-    let mut n: usize = 0;
-    while (n < 9) & !met {
-        let seen = look_column(
-            w,
-            cells,
-            perms,
-            shapes,
-            boxes,
-            r,
-            body,
-            from,
-            band,
-            sides.looked(n),
-            n,
-            v,
-        );
-        sides = sides.answered(n, seen.level);
-        met = seen.met;
-        n += 1;
+    for n in 0..9 {
+        let Some(level) = look_column(query, from, band, sides.looked(n), n, v) else {
+            return true;
+        };
+        sides = sides.answered(n, level);
     }
-    met
+    false
 }
 
 // Whether a pair is the graph's: a graph step leads from the feet to the record, or at the last pair a connector to the goal.
-pub fn is_joined(
-    w: Window,
-    cells: &[u8],
-    perms: &[u8],
-    shapes: &[u8],
-    boxes: &[u8],
-    r: Request,
-    body: Body,
-    from: Feet,
-    v: WaypointRecord,
-    last: bool,
-) -> bool
-    ensures { result ≡ joined (graph (space w cells.now perms.now shapes.now boxes.now) r body) last from (entry v) }
+pub fn is_joined(query: Query, from: Feet, v: WaypointRecord, last: bool) -> bool
+    ensures { result ≡ joined (graph (space_of query.entry.world) query.entry.request query.entry.body) last from (entry v) }
 {
     let point = words::point_of(from);
-    if has_step(w, cells, perms, shapes, boxes, r, body, point, v) {
-        return true;
-    }
-    (last & listed::same_feet(r.goal, v))
-        && listed::labelled_by(
-            edges::connector(w, cells, perms, shapes, boxes, r, body, point),
-            v,
-        )
+    has_step(query, point, v)
+        || (last & listed::same_feet(query.request.goal, v))
+            && listed::labelled_by(edges::connector(query, point), v)
 }
 
 // Why a pair is none of the graph's.
-pub fn fault_of(
-    w: Window,
-    cells: &[u8],
-    perms: &[u8],
-    shapes: &[u8],
-    boxes: &[u8],
-    r: Request,
-    body: Body,
-    from: Feet,
-    to: Feet,
-    last: bool,
-) -> PairFault
-    ensures { pair_number result ≡ pair_number (pair_fault (space w cells.now perms.now shapes.now boxes.now) r body last from to) }
+pub fn fault_of(query: Query, from: Feet, to: Feet, last: bool) -> PairFault
+    ensures { result ≡ pair_fault (space_of query.entry.world) query.entry.request query.entry.body last from to }
 {
-    match edges::edge_check(
-        w,
-        cells,
-        perms,
-        shapes,
-        boxes,
-        r,
-        body,
-        words::point_of(from),
-        words::point_of(to),
-    ) {
-        EdgeCheck::Fails(why) => PairFault::NoEdge(why),
-        EdgeCheck::Passes(step) => {
+    match edges::edge_check(query, words::point_of(from), words::point_of(to)) {
+        Err(why) => PairFault::NoEdge(why),
+        Ok(step) => {
             let own = WaypointRecord {
                 feet: to,
                 label: words::label_of(step),
             };
-            if is_joined(w, cells, perms, shapes, boxes, r, body, from, own, last) {
+            if is_joined(query, from, own, last) {
                 return PairFault::WrongLabel;
             }
             PairFault::NotAStep

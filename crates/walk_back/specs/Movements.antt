@@ -1,5 +1,5 @@
 -- Each point of a route carries one of 01's four movements: the start a Walk, and every other one an edge's. So no route is a bad list.
-use Rattle.std.specs.Prelude.{ℕ, zero, suc, ◌≤◌, ◌≡◌, Bool, true, false, ◌&&◌, ◌||◌, List, [], ◌∷◌, map}
+use Rattle.std.specs.Prelude.{ℕ, zero, suc, ◌≤◌, ◌≡◌, Bool, true, false, ◌&&◌, ◌||◌, List, [], ◌∷◌, map, Option, Some, None}
 use Rattle.std.proofs.Common.{arith, ⊎_elim, eqb-true, le-ltb, ltb-false}
 use Rattle.std.proofs.Math.Path.{refl}
 use Rattle.std.proofs.Math.Option.{some}
@@ -13,8 +13,6 @@ use Rattle.world.specs.Space.{Space}
 use Rattle.moves.specs.declared.answer.Movement.{Movement}
 use Rattle.moves.specs.declared.answer.Movement.TheVariants.{Walk, Step, Jump, Drop}
 use Rattle.moves.specs.declared.answer.Waypoint.{Waypoint}
-use Rattle.moves.specs.declared.answer.EdgeAnswer.{EdgeAnswer}
-use Rattle.moves.specs.declared.answer.EdgeAnswer.TheVariants.{To, Nowhere}
 use Rattle.moves.specs.Moves.{movement_number}
 use Rattle.edges.specs.Edges.{connector}
 use Rattle.rooms.specs.declared.Feet.{Feet}
@@ -65,10 +63,10 @@ at_place (u ∷ us) h (suc k) v e = at_place us (go (above3 u) h) k v e
     go false h = h
 
 module _ (sp : Space) (r : Request) (body : Body) where
-  by_connector : (a : EdgeAnswer) (l : Label) → labelled (graph sp r body) (label_if a) l ≡ true → l.movement ≤ 3
+  by_connector : (a : Option Waypoint) (l : Label) → labelled (graph sp r body) (label_if a) l ≡ true → l.movement ≤ 3
   unfolding graph
-  by_connector Nowhere l e = absurd (true_false e refl)
-  by_connector (To w) l e = like_an_edge w l e
+  by_connector None l e = absurd (true_false e refl)
+  by_connector (Some w) l e = like_an_edge w l e
 
   not_above : (v : Feet × Label) → v.1.movement ≤ 3 → above3 v ≡ false
   not_above v h = le-ltb 3 v.1.movement h

@@ -1,11 +1,7 @@
 -- `pairs::has_step` meets its contract. Assumes nothing.
-use Prim.Native.Nat.{◌-◌}
-use Rattle.world.specs.Space.{space}
+use Rattle.world.specs.Space.{space_of}
 use Rattle.pairs.specs.Laws.{Tried}
 use Rattle.pairs.proofs.has_step.Given as goal
 
 abbrev pub invariant-loop-n : goal.invariant-loop-n
-invariant-loop-n l = Tried (space l.w l.cells l.perms l.shapes l.boxes) l.r l.body l.from l.v l.met l.sides l.n
-
-abbrev pub decreases-loop-n : goal.decreases-loop-n
-decreases-loop-n l = 9 - l.n
+invariant-loop-n l = Tried (space_of l.query.world) l.query.request l.query.body l.from l.v l.sides l.n

@@ -1,43 +1,43 @@
 -- `pairs::look_column` meets its contract. Assumes nothing.
-use mathlib.Core.Path.{sym, ◌∙◌}
-use Rattle.world.specs.Space.{Space, space}
-use Rattle.moves.proofs.Unique.{one_edge}
+use Rattle.std.proofs.Common.{sym, ◌∙◌}
+use Rattle.world.specs.Space.{space_of}
 use Rattle.steps.specs.Columns.{column_if}
 use Rattle.steps.specs.Expansion.{none_left, next_ahead, fewer}
-use Rattle.pairs.specs.Laws.{noted_over, noted_all, noted_nowhere, noted_to, begun}
+use Rattle.pairs.specs.Laws.{noted_all, noted_nowhere, noted_met, noted_to, begun, begun_not}
 use Rattle.pairs.proofs.look_column.Goals as goal
-use Rattle.pairs.proofs.look_column.Goals.{Start}
 
-abbrev sp : Start → Space
-sp s = let a = s.args in space a.w a.cells.now a.perms.now a.shapes.now a.boxes.now
+pub returns-then-not-looked : goal.returns-then-not-looked
+returns-then-not-looked c = begun_not (space_of c.args.query.world) c.args.query.request c.args.query.body c.args.from c.args.n c.args.v c.requires.looked_value c.if-not-looked.true
 
-pub loop-met-init : goal.loop-met-init
-loop-met-init c = begun (sp (goal.at.loop-met-init c).Start) c.args.r c.args.body c.args.from c.args.n c.args.v c.args.looked c.requires.looked_value
+pub loop-y-init : goal.loop-y-init
+loop-y-init c = begun (space_of c.args.query.world) c.args.query.request c.args.query.body c.args.from c.args.n c.args.v c.requires.looked_value c.if-not-looked.false
 
 -- ---- a turn whose edge leads somewhere
-pub loop-met-smaller-in-To : goal.loop-met-smaller-in-To
-loop-met-smaller-in-To c = fewer (sp (goal.at.loop-met-smaller-in-To c).Start) c.args.r c.args.body c.args.from c.args.n c.loop-met.after c.requires.band_value c.column_centre-centre.ensures c.next_height.ensures _ c.in-At.is
+pub returns-then-leads_to : goal.returns-then-leads_to
+returns-then-leads_to c =
+    let next = next_ahead (space_of c.args.query.world) c.args.query.request c.args.query.body c.args.from c.args.n c.loop-y.after c.requires.band_value c.column_centre-centre.ensures c.next_height.ensures _ c.in-Some.is in
+    noted_met c.args.v c.args.from (column_if (space_of c.args.query.world) c.args.query.request c.args.query.body c.args.from c.args.n) c.loop-y.level c.loop-y.invariant _ _ next c.in-Some-2.step (sym c.edge.ensures ∙ c.in-Some-2.is) (sym c.leads_to.ensures ∙ c.if-leads_to.true)
 
-pub loop-met-preserved-in-To : goal.loop-met-preserved-in-To
-loop-met-preserved-in-To c =
-    let next = next_ahead (sp (goal.at.loop-met-preserved-in-To c).Start) c.args.r c.args.body c.args.from c.args.n c.loop-met.after c.requires.band_value c.column_centre-centre.ensures c.next_height.ensures _ c.in-At.is in
-    rw (c.leads_to-met.ensures, c.is_level-level.ensures)
-    (noted_to c.args.v c.args.from (column_if (sp (goal.at.loop-met-preserved-in-To c).Start) c.args.r c.args.body c.args.from c.args.n) c.args.looked c.loop-met.met c.loop-met.level _ c.loop-met.invariant c.loop-met-test.true _ _ next _ (sym (one_edge _ _ c.edge.ensures) ∙ c.in-To.is))
+pub loop-y-smaller-else-leads_to : goal.loop-y-smaller-else-leads_to
+loop-y-smaller-else-leads_to c = fewer (space_of c.args.query.world) c.args.query.request c.args.query.body c.args.from c.args.n c.loop-y.after c.requires.band_value c.column_centre-centre.ensures c.next_height.ensures _ c.in-Some.is
+
+pub loop-y-preserved-else-leads_to : goal.loop-y-preserved-else-leads_to
+loop-y-preserved-else-leads_to c =
+    let next = next_ahead (space_of c.args.query.world) c.args.query.request c.args.query.body c.args.from c.args.n c.loop-y.after c.requires.band_value c.column_centre-centre.ensures c.next_height.ensures _ c.in-Some.is in
+    rw c.is_level-level.ensures
+    (noted_to c.args.v c.args.from (column_if (space_of c.args.query.world) c.args.query.request c.args.query.body c.args.from c.args.n) c.loop-y.level c.loop-y.invariant _ _ next c.in-Some-2.step (sym c.edge.ensures ∙ c.in-Some-2.is) (sym c.leads_to.ensures ∙ c.if-leads_to.false))
 
 -- ---- a turn whose edge leads nowhere
-pub loop-met-smaller : goal.loop-met-smaller
-loop-met-smaller c = fewer (sp (goal.at.loop-met-smaller c).Start) c.args.r c.args.body c.args.from c.args.n c.loop-met.after c.requires.band_value c.column_centre-centre.ensures c.next_height.ensures _ c.in-At.is
+pub loop-y-smaller : goal.loop-y-smaller
+loop-y-smaller c = fewer (space_of c.args.query.world) c.args.query.request c.args.query.body c.args.from c.args.n c.loop-y.after c.requires.band_value c.column_centre-centre.ensures c.next_height.ensures _ c.in-Some.is
 
-pub loop-met-preserved : goal.loop-met-preserved
-loop-met-preserved c =
-    let next = next_ahead (sp (goal.at.loop-met-preserved c).Start) c.args.r c.args.body c.args.from c.args.n c.loop-met.after c.requires.band_value c.column_centre-centre.ensures c.next_height.ensures _ c.in-At.is in
-    noted_nowhere c.args.v c.args.from (column_if (sp (goal.at.loop-met-preserved c).Start) c.args.r c.args.body c.args.from c.args.n) c.args.looked c.loop-met.met c.loop-met.level _ c.loop-met.invariant c.loop-met-test.true _ _ next (sym (one_edge _ _ c.edge.ensures) ∙ c.in_default-edge.is)
+pub loop-y-preserved : goal.loop-y-preserved
+loop-y-preserved c =
+    let next = next_ahead (space_of c.args.query.world) c.args.query.request c.args.query.body c.args.from c.args.n c.loop-y.after c.requires.band_value c.column_centre-centre.ensures c.next_height.ensures _ c.in-Some.is in
+    noted_nowhere c.args.v c.args.from (column_if (space_of c.args.query.world) c.args.query.request c.args.query.body c.args.from c.args.n) c.loop-y.level c.loop-y.invariant _ _ next (sym c.edge.ensures ∙ c.in_default-edge.is)
 
--- ---- the ends of the loop
-pub returns-after-loop-met : goal.returns-after-loop-met
-returns-after-loop-met c = noted_over c.args.v c.args.from (column_if (sp (goal.at.returns-after-loop-met c).Start) c.args.r c.args.body c.args.from c.args.n) c.args.looked c.loop-met.met c.loop-met.level _ c.loop-met.invariant c.loop-met-test.false
-
-pub returns-in_default : goal.returns-in_default
-returns-in_default c =
-    noted_all c.args.v c.args.from (column_if (sp (goal.at.returns-in_default c).Start) c.args.r c.args.body c.args.from c.args.n) c.args.looked c.loop-met.met c.loop-met.level _ c.loop-met.invariant
-    (none_left (sp (goal.at.returns-in_default c).Start) c.args.r c.args.body c.args.from c.args.n c.loop-met.after c.requires.band_value c.column_centre-centre.ensures c.next_height.ensures c.in_default.is)
+-- ---- the end
+pub returns : goal.returns
+returns c =
+    noted_all c.args.v c.args.from (column_if (space_of c.args.query.world) c.args.query.request c.args.query.body c.args.from c.args.n) c.loop-y.level c.loop-y.invariant
+    (none_left (space_of c.args.query.world) c.args.query.request c.args.query.body c.args.from c.args.n c.loop-y.after c.requires.band_value c.column_centre-centre.ensures c.next_height.ensures c.in_default.is)
