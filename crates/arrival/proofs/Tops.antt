@@ -1,7 +1,7 @@
 -- No box top of a world is -0.0, whatever its tables hold, because a cell's position is never -0.0. So tops that are equal as numbers are one float, and it is
 -- all one whether they are sorted by number or by the total order of floats.
 use Rattle.std.proofs.Common.{ℕ, zero, suc, ◌+◌, ◌*◌, sym, ap, ◌∙◌, arith, List, [], ◌∷◌, ◌++◌, map}
-use Rattle.std.specs.Prelude.{◌≡◌, refl, Bool, cond, T, ℤ, drop, Float}
+use Rattle.std.specs.Prelude.{◌≡◌, refl, Bool, cond, T, ℤ, drop, Float, Option, Some, None}
 use Rattle.std.proofs.Math.Bool.{true, false}
 use mathlib.Core.List.{Memᴰ}
 use Rattle.std.specs.Float.{nan, inf, fin, binary64}
@@ -14,8 +14,6 @@ use Rattle.regions.specs.Ranges.{gather, along}
 use Rattle.world.specs.declared.Aabb.{Aabb}
 use Rattle.world.specs.declared.Window.{Window}
 use Rattle.world.specs.declared.Cell.{Cell}
-use Rattle.world.specs.declared.Cell.TheVariants.{Unknown, Known}
-use Rattle.world.specs.declared.Found.TheVariants.{Here, End}
 use Rattle.world.specs.Boxes.{plus, moved, corner, cube}
 use Rattle.world.specs.Space.{Space, Block, box_at, box_here, ahead, run, block_of, space}
 use Rattle.heights.specs.declared.Band.{Band}
@@ -87,7 +85,7 @@ unfolding run box_here
 run_held zero s at = tt
 run_held (suc n) s at = go (fits_at 48 s at) (run_held n s (at + 48))
   where
-    go : (b : Bool) → Each HeldTop (run n s (at + 48)) → Each HeldTop (ahead (cond b (Here (box_at s at)) End) (run n s (at + 48)))
+    go : (b : Bool) → Each HeldTop (run n s (at + 48)) → Each HeldTop (ahead (cond b (Some (box_at s at)) None) (run n s (at + 48)))
     go true rest = (box_held s at, rest)
     go false rest = tt
 
@@ -95,10 +93,10 @@ all_moved : (x y z : ℤ) (bs : List Aabb) → Each HeldTop bs → Each PlainTop
 all_moved x y z [] h = tt
 all_moved x y z (b ∷ bs) h = (moved_top b x y z h.0, all_moved x y z bs h.1)
 
-block_tops : (boxes : List ℕ) (c : Cell) (x y z : ℤ) → Each PlainTop (block_of boxes c (corner x y z)).boxes
+block_tops : (boxes : List ℕ) (c : Option Cell) (x y z : ℤ) → Each PlainTop (block_of boxes c (corner x y z)).boxes
 unfolding block_of cube
-block_tops boxes Unknown x y z = (moved_top cube x y z (of_bits-fits binary64 _), tt)
-block_tops boxes (Known o s first count through state) x y z = all_moved x y z (run count (drop (48 * first) boxes) 0) (run_held count (drop (48 * first) boxes) 0)
+block_tops boxes None x y z = (moved_top cube x y z (of_bits-fits binary64 _), tt)
+block_tops boxes (Some c) x y z = all_moved x y z (run c.count (drop (48 * c.first) boxes) 0) (run_held c.count (drop (48 * c.first) boxes) 0)
 
 -- ---- the theorems, of any tables
 

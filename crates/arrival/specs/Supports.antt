@@ -73,7 +73,7 @@ proper_alike i j h = rw (le_alike i.begin i.end j.begin j.end h.begin h.end) (ke
     kept true = both h
     kept false = neither
 
--- the same test leaves out both or None
+-- the same test leaves out both or none
 dropped : (b : Bool) {i j : Interval} → AlikeInterval i j → AlikeOption (cond b None (Some i)) (cond b None (Some j))
 dropped true h = neither
 dropped false h = both h

@@ -1,5 +1,5 @@
--- What the code goes by: a list, pair by pair, and the tests before the pairs.
-use Rattle.std.specs.Prelude.{ℕ, suc, ◌+◌, ◌-◌, ◌/◌, ◌≤◌, ◌<◌, ◌≡◌, refl, Bool, true, false, cond, List, [], ◌∷◌, eqb, length}
+-- What the code goes by: a list, pair by pair, and what is judged before it.
+use Rattle.std.specs.Prelude.{ℕ, suc, ◌+◌, ◌-◌, ◌/◌, ◌≤◌, ◌<◌, ◌≡◌, refl, Bool, true, false, cond, List, [], ◌∷◌, eqb, length, Result, Ok, Err}
 use Rattle.std.proofs.Common.{arith, sym, eqb-true}
 use Rattle.std.proofs.Math.Numerals.{add-one}
 use Rattle.std.proofs.lemmas.Bool.{eqb-false}
@@ -7,7 +7,8 @@ use Rattle.exploration.specs.Graph.{Graph}
 use Rattle.exploration.specs.WalkBack.{is_last, Going, Through, Astray, Broken, joined, going}
 use Rattle.world.specs.declared.Body.{Body}
 use Rattle.world.specs.declared.Request.{Request}
-use Rattle.world.specs.Space.{Space}
+use Rattle.world.specs.declared.Window.{Window}
+use Rattle.world.specs.Space.{Space, space}
 use Rattle.rooms.specs.declared.Feet.{Feet}
 use Rattle.rooms.specs.declared.Label.{Label}
 use Rattle.rooms.specs.declared.WaypointRecord.{WaypointRecord}
@@ -15,13 +16,16 @@ use Rattle.rooms.specs.Records.{waypoint_at}
 use Rattle.rooms.specs.Waypoints.{same_point}
 use Rattle.words.specs.Words.{feet_of}
 use Rattle.steps.specs.Graph.{graph}
-use Rattle.places.specs.Places.{in_range, standable}
-use Rattle.listed.specs.Listed.{entry, entries_from, bad_list}
-use Rattle.listed.specs.Compared.{starts}
+use Rattle.listed.specs.Listed.{entry, entries_from}
 use Rattle.pairs.specs.Laws.{turned}
-use Rattle.walk_back.specs.declared.Fault.TheVariants.{BadList, GoalOutOfRange, StartNotStandable, GoalNotStandable, WrongStart}
-use Rattle.walk_back.specs.declared.Walked.TheVariants.{No}
-use Rattle.walk_back.specs.WalkBack.{walked_by, going_on, walked_list}
+use Rattle.questions.specs.declared.Judgement.{Judgement}
+use Rattle.questions.specs.declared.Judgement.TheVariants as judgements
+use Rattle.questions.specs.Questions.{question}
+use Rattle.questions.proofs.Laws.{said_of, said}
+use Rattle.walk_back.specs.declared.Fault.TheVariants.{InvalidRequest}
+use Rattle.walk_back.specs.declared.Denied.{Denied}
+use Rattle.walk_back.specs.declared.Denied.TheVariants.{BadWorld, TooLarge, Fault as No}
+use Rattle.walk_back.specs.WalkBack.{walked_list, denied, denied_by, walked}
 
 -- the records from record k on
 abbrev pub rest : List ℕ → ℕ → List (Feet × Label)
@@ -68,33 +72,20 @@ module _ (sp : Space) (r : Request) (body : Body) (s : List ℕ) (p : Feet) (k :
       pub breaks : false ≡ joined (graph sp r body) (eqb (k + 1) (length s / 48)) p (entry v) → going_from ≡ Broken k p (entry v) (eqb (k + 1) (length s / 48))
       breaks e = rw (rest_on s k h, here, ← last_is) (pair_broken (graph sp r body) k p (entry (waypoint_at s k)) (rest s (k + 1)) (rw (last_is, ← here) (sym e)))
 
--- ---- the tests before the pairs: what is answered at the first that fails
+-- ---- what is judged first
 
-module _ (sp : Space) (r : Request) (body : Body) (s : List ℕ) where
-  pub bad_list_lem : bad_list s ≡ true → No BadList ≡ walked_list sp r body s
-  unfolding walked_list
-  bad_list_lem a = rw a
+-- what is answered of a list by what was judged of the request: the answer of its own where nothing was said
+module _ (w : Window) (cells perms shapes boxes : List ℕ) (r : Request) (body : Body) (list : List ℕ) where
+  abbrev answered : Result (Unit {0}) Judgement → Result (Unit {0}) Denied
+  answered (Err j) = Err (denied_by j)
+  answered (Ok _) = denied (walked_list (space w cells perms shapes boxes) r body list)
 
-  module _ (a : bad_list s ≡ false) where
-    pub goal_out : in_range r r.goal ≡ false → No GoalOutOfRange ≡ walked_list sp r body s
-    unfolding walked_list
-    goal_out b = rw (a, b)
-
-    module _ (b : in_range r r.goal ≡ true) where
-      pub start_falls : standable sp body r.start ≡ false → No StartNotStandable ≡ walked_list sp r body s
-      unfolding walked_list
-      start_falls c = rw (a, b, c)
-
-      module _ (c : standable sp body r.start ≡ true) where
-        pub goal_falls : standable sp body r.goal ≡ false → No GoalNotStandable ≡ walked_list sp r body s
-        unfolding walked_list
-        goal_falls d = rw (a, b, c, d)
-
-        module _ (d : standable sp body r.goal ≡ true) where
-          pub wrong_start : starts r.start (waypoint_at s 0) ≡ false → No WrongStart ≡ walked_list sp r body s
-          unfolding walked_list
-          wrong_start e = rw (a, b, c, d, e)
-
-          pub pairs_decide : starts r.start (waypoint_at s 0) ≡ true → walked_by sp r body (going_on sp r body s) ≡ walked_list sp r body s
-          unfolding walked_list
-          pairs_decide e = rw (a, b, c, d, e)
+  pub by_question : {q : Result (Unit {0}) Judgement} → question w cells shapes boxes r body ≡ q → answered q ≡ walked w cells perms shapes boxes r body list
+  unfolding walked
+  by_question {q} e = as_said q ∙ said (Err BadWorld) (Err (No InvalidRequest)) (Err TooLarge) (denied (walked_list (space w cells perms shapes boxes) r body list)) w cells shapes boxes r body e
+    where
+      as_said : (q : Result (Unit {0}) Judgement) → answered q ≡ said_of (Err BadWorld) (Err (No InvalidRequest)) (Err TooLarge) (denied (walked_list (space w cells perms shapes boxes) r body list)) q
+      as_said (Err judgements.BadWorld) = refl
+      as_said (Err judgements.Invalid) = refl
+      as_said (Err judgements.TooLarge) = refl
+      as_said (Ok _) = refl

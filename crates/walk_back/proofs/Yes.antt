@@ -1,5 +1,5 @@
 -- The walk-back says yes exactly where the test of a list is true.
-use Rattle.std.specs.Prelude.{ℕ, ◌-◌, ◌/◌, ◌%◌, ◌<◌, ◌≡◌, Bool, not, ◌&&◌, ◌||◌, cond, List, [], ◌∷◌, ltb}
+use Rattle.std.specs.Prelude.{ℕ, ◌-◌, ◌/◌, ◌%◌, ◌<◌, ◌≡◌, Bool, not, ◌&&◌, ◌||◌, cond, List, [], ◌∷◌, ltb, Result, Ok, Err}
 use Rattle.std.proofs.Common.{arith, ◌∙◌}
 use Rattle.std.proofs.Math.Path.{refl, sym, ap}
 use Rattle.std.proofs.Math.Bool.{true, false, and-false, and_assoc}
@@ -25,10 +25,9 @@ use Rattle.words.specs.Words.{feet_of}
 use Rattle.steps.specs.Graph.{graph}
 use Rattle.listed.specs.Listed.{entry, entries_from, waypoints, above3, bad_list}
 use Rattle.listed.specs.Compared.{starts}
-use Rattle.walk_back.specs.declared.Walked.{Walked}
-use Rattle.walk_back.specs.declared.Walked.TheVariants.{Yes, No, BadWorld, TooLarge}
+use Rattle.walk_back.specs.declared.Fault.{Fault}
 use Rattle.walk_back.specs.declared.Fault.TheVariants.{BadList, GoalOutOfRange, StartNotStandable, GoalNotStandable, WrongStart}
-use Rattle.walk_back.specs.WalkBack.{is_route_list, walked_by, walked_list}
+use Rattle.walk_back.specs.WalkBack.{is_route_list, walked_by, walked_list, denied}
 use Rattle.walk_back.proofs.Laws.{rest, rest_on}
 use Rattle.walk_back.specs.Movements.{movements_named}
 
@@ -85,17 +84,17 @@ module _ (sp : Space) (r : Request) (body : Body) (s : List ℕ) where
 
 -- ---- yes
 
-abbrev pub is_yes : Walked → Bool
-is_yes Yes = true
-is_yes (No fault) = false
-is_yes BadWorld = false
-is_yes TooLarge = false
+abbrev pub is_yes : {E : Type 0} → Result (Unit {0}) E → Bool
+is_yes (Ok _) = true
+is_yes (Err why) = false
 
-pub yes_only : (a : Walked) → is_yes a ≡ true → a ≡ Yes
-yes_only Yes e = refl
-yes_only (No fault) e = absurd (true_false e refl)
-yes_only BadWorld e = absurd (true_false e refl)
-yes_only TooLarge e = absurd (true_false e refl)
+pub yes_only : {E : Type 0} (a : Result (Unit {0}) E) → is_yes a ≡ true → a ≡ Ok tt
+yes_only (Ok _) e = refl
+yes_only (Err why) e = absurd (true_false e refl)
+
+pub denied_yes : (a : Result (Unit {0}) Fault) → is_yes (denied a) ≡ is_yes a
+denied_yes (Ok _) = refl
+denied_yes (Err fault) = refl
 
 module _ (sp : Space) (r : Request) (body : Body) (s : List ℕ) where
   by_going : (g : Going Feet Label) → is_yes (walked_by sp r body g) ≡ is_through g
@@ -104,8 +103,8 @@ module _ (sp : Space) (r : Request) (body : Body) (s : List ℕ) where
   by_going (Broken k p w last) = refl
 
   -- the checks one after the other
-  chain : (bad i a b st : Bool) (x : Walked) →
-      is_yes (cond bad (No BadList) (cond (not i) (No GoalOutOfRange) (cond (not a) (No StartNotStandable) (cond (not b) (No GoalNotStandable) (cond (not st) (No WrongStart) x)))))
+  chain : (bad i a b st : Bool) (x : Result (Unit {0}) Fault) →
+      is_yes (cond bad (Err BadList) (cond (not i) (Err GoalOutOfRange) (cond (not a) (Err StartNotStandable) (cond (not b) (Err GoalNotStandable) (cond (not st) (Err WrongStart) x)))))
       ≡ (not bad && i && a && b && st && is_yes x)
   chain true i a b st x = refl
   chain false false a b st x = refl

@@ -1,5 +1,5 @@
 -- The walk-back's answer (01, Modules 5, and The graph, "Route"; 02, No. 3). Definitions only.
-use Rattle.std.specs.Prelude.{ℕ, ◌-◌, ◌/◌, ◌%◌, ◌≡◌, Bool, true, not, ◌&&◌, cond, List, [], ◌∷◌, eqb, length}
+use Rattle.std.specs.Prelude.{ℕ, ◌-◌, ◌/◌, ◌%◌, ◌≡◌, Bool, true, not, ◌&&◌, cond, List, [], ◌∷◌, eqb, length, Result, Ok, Err}
 use Rattle.exploration.specs.Graph.{Route}
 use Rattle.exploration.specs.WalkBack.{is_route, Going, Through, Astray, Broken, going}
 use Rattle.world.specs.declared.Body.{Body}
@@ -8,6 +8,8 @@ use Rattle.world.specs.declared.Window.{Window}
 use Rattle.world.specs.Space.{Space, space}
 use Rattle.request.specs.Request.{valid_request}
 use Rattle.questions.specs.Questions.{judged}
+use Rattle.questions.specs.declared.Judgement.{Judgement}
+use Rattle.questions.specs.declared.Judgement.TheVariants as judgements
 use Rattle.places.specs.Places.{in_range, standable}
 use Rattle.ends.specs.Ends.{ends_good}
 use Rattle.rooms.specs.declared.Feet.{Feet}
@@ -19,8 +21,8 @@ use Rattle.listed.specs.Compared.{starts}
 use Rattle.pairs.specs.Pairs.{pair_number, pair_fault}
 use Rattle.walk_back.specs.declared.Fault.{Fault}
 use Rattle.walk_back.specs.declared.Fault.TheVariants.{InvalidRequest, BadList, GoalOutOfRange, StartNotStandable, GoalNotStandable, WrongStart, Pair, WrongEnd}
-use Rattle.walk_back.specs.declared.Walked.{Walked}
-use Rattle.walk_back.specs.declared.Walked.TheVariants.{Yes, No, BadWorld, TooLarge}
+use Rattle.walk_back.specs.declared.Denied.{Denied}
+use Rattle.walk_back.specs.declared.Denied.TheVariants.{BadWorld, TooLarge, Fault as No}
 
 -- 02, No. 3, "invalid request, bad list (judged after 4), goal out of range, start not standable, goal not standable, wrong start; then for each pair in order
 -- .., not a graph step .., wrong movement or lift; then wrong end": 111 to 119 in this order, of which 117 and 118 are a pair's; and a pair's edge has 101 to 109
@@ -35,11 +37,11 @@ fault_number (Pair fault place) = pair_number fault
 fault_number WrongEnd = 119
 
 -- 01's numbers; yes is 0, and no, for which 01 has none, has its reason's
-abbrev pub walked_number : Walked → ℕ
-walked_number BadWorld = 3
-walked_number TooLarge = 4
-walked_number Yes = 0
-walked_number (No fault) = fault_number fault
+abbrev pub walked_number : Result (Unit {0}) Denied → ℕ
+walked_number (Err BadWorld) = 3
+walked_number (Err TooLarge) = 4
+walked_number (Ok _) = 0
+walked_number (Err (No fault)) = fault_number fault
 
 -- "With a pair's reason goes its later point's place": counted from 0 in the list, and with no other answer
 abbrev pub fault_places : Fault → List ℕ
@@ -52,13 +54,13 @@ fault_places GoalNotStandable = []
 fault_places WrongStart = []
 fault_places WrongEnd = []
 
-abbrev pub walked_places : Walked → List ℕ
-walked_places (No fault) = fault_places fault
-walked_places Yes = []
-walked_places BadWorld = []
-walked_places TooLarge = []
+abbrev pub walked_places : Result (Unit {0}) Denied → List ℕ
+walked_places (Err (No fault)) = fault_places fault
+walked_places (Ok _) = []
+walked_places (Err BadWorld) = []
+walked_places (Err TooLarge) = []
 
-unfoldable pub walked_given : Walked → ℕ × List ℕ
+unfoldable pub walked_given : Result (Unit {0}) Denied → ℕ × List ℕ
 walked_given a = (walked_number a, walked_places a)
 
 module _ (sp : Space) (r : Request) (body : Body) where
@@ -86,26 +88,36 @@ module _ (sp : Space) (r : Request) (body : Body) where
 
   -- "then for each pair in order the edge's reason, not a graph step (nor, at the last pair, a connector), wrong movement or lift; then wrong end. With a pair's
   -- reason goes its later point's place.": of how a list goes on from its first point
-  abbrev pub walked_by : Going Feet Label → Walked
-  walked_by Through = Yes
-  walked_by Astray = No WrongEnd
-  walked_by (Broken place p w last) = No (Pair (pair_fault sp r body last p w.0) place)
+  abbrev pub walked_by : Going Feet Label → Result (Unit {0}) Fault
+  walked_by Through = Ok tt
+  walked_by Astray = Err WrongEnd
+  walked_by (Broken place p w last) = Err (Pair (pair_fault sp r body last p w.0) place)
 
   -- the records behind the first, from its point on
   abbrev pub going_on : List ℕ → Going Feet Label
   going_on list = going (graph sp r body) 1 (waypoint_at list 0).feet (entries_from list 1 (length list / 48 - 1))
 
   -- "bad list (judged after 4), goal out of range, start not standable, goal not standable, wrong start; then for each pair in order .."
-  unfoldable pub walked_list : List ℕ → Walked
+  unfoldable pub walked_list : List ℕ → Result (Unit {0}) Fault
   walked_list list =
-      cond (bad_list list) (No BadList)
-      (cond (not (in_range r r.goal)) (No GoalOutOfRange)
-      (cond (not (standable sp body r.start)) (No StartNotStandable)
-      (cond (not (standable sp body r.goal)) (No GoalNotStandable)
-      (cond (not (starts r.start (waypoint_at list 0))) (No WrongStart)
+      cond (bad_list list) (Err BadList)
+      (cond (not (in_range r r.goal)) (Err GoalOutOfRange)
+      (cond (not (standable sp body r.start)) (Err StartNotStandable)
+      (cond (not (standable sp body r.goal)) (Err GoalNotStandable)
+      (cond (not (starts r.start (waypoint_at list 0))) (Err WrongStart)
       (walked_by (going_on list))))))
 
+-- an answer with its reason, as one that may be a refusal of 01 too; and of what is judged first an invalid request is no route's
+abbrev pub denied : Result (Unit {0}) Fault → Result (Unit {0}) Denied
+denied (Ok _) = Ok tt
+denied (Err fault) = Err (No fault)
+
+abbrev pub denied_by : Judgement → Denied
+denied_by judgements.BadWorld = BadWorld
+denied_by judgements.Invalid = No InvalidRequest
+denied_by judgements.TooLarge = TooLarge
+
 -- "3; `valid_request` (else no); 4, the budget not read; then yes exactly for a list that is a route.": that the last part is so is `yes_exactly`.
-unfoldable pub walked : Window → List ℕ → List ℕ → List ℕ → List ℕ → Request → Body → List ℕ → Walked
+unfoldable pub walked : Window → List ℕ → List ℕ → List ℕ → List ℕ → Request → Body → List ℕ → Result (Unit {0}) Denied
 walked w cells perms shapes boxes r body list =
-    judged w cells shapes boxes r body BadWorld (No InvalidRequest) TooLarge (walked_list (space w cells perms shapes boxes) r body list)
+    judged w cells shapes boxes r body (Err BadWorld) (Err (No InvalidRequest)) (Err TooLarge) (denied (walked_list (space w cells perms shapes boxes) r body list))

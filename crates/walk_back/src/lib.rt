@@ -5,12 +5,13 @@
 #![tactic(auto)]
 
 ghost use Rattle.std.specs.Prelude.{◌≡◌};
-ghost use Rattle.world.specs.Space.{space};
-ghost use Rattle.walk_back.specs.WalkBack.{walked_given, walked_by, going_on, walked_list, walked};
+ghost use Rattle.world.specs.Space.{space_of};
+ghost use Rattle.walk_back.specs.declared.Denied.TheVariants.{Fault as No};
+ghost use Rattle.walk_back.specs.WalkBack.{walked_by, going_on, walked_list, denied_by, walked};
 
 use pairs::PairFault;
 use questions::Judgement;
-use world::{Body, Request, Window};
+use world::Query;
 
 // Why a list is no route. With a pair's reason goes its later point's place in the list, counted from 0.
 #[derive(Clone, Copy)]
@@ -25,98 +26,86 @@ pub enum Fault {
     WrongEnd,
 }
 
-// What a walk-back answers: the list is a route, it is none and why, or a refusal of 01.
+// Why a walk-back does not say yes: a refusal of 01, or the list is no route and why.
 #[derive(Clone, Copy)]
-pub enum Walked {
-    Yes,
-    No(Fault),
+pub enum Denied {
     BadWorld,
     TooLarge,
+    Fault(Fault),
+}
+
+impl From<Fault> for Denied {
+    ghost from_gives = { λ fault d. d ≡ No fault };
+
+    fn from(fault: Fault) -> Denied {
+        Denied::Fault(fault)
+    }
+}
+
+// An invalid request is no refusal here: its list is then no route.
+impl From<Judgement> for Denied {
+    ghost from_gives = { λ j d. d ≡ denied_by j };
+
+    fn from(j: Judgement) -> Denied {
+        match j {
+            Judgement::BadWorld => Denied::BadWorld,
+            Judgement::Invalid => Denied::Fault(Fault::InvalidRequest),
+            Judgement::TooLarge => Denied::TooLarge,
+        }
+    }
 }
 
 // How the records behind the first lead from it to the goal, or where they do not.
-fn leads(
-    w: Window,
-    cells: &[u8],
-    perms: &[u8],
-    shapes: &[u8],
-    boxes: &[u8],
-    r: Request,
-    body: Body,
-    list: &[u8],
-) -> Walked
-    ensures { result ≡ walked_by (space w cells.now perms.now shapes.now boxes.now) r body (going_on (space w cells.now perms.now shapes.now boxes.now) r body list.now) }
+fn leads(query: Query, list: &[u8]) -> Result<(), Fault>
+    ensures { result ≡ walked_by (space_of query.entry.world) query.entry.request query.entry.body (going_on (space_of query.entry.world) query.entry.request query.entry.body list.now) }
 {
     let n = list.len() / 48;
-    let first = rooms::get_waypoint(list, 0);
-    let mut from = first.feet;
-    let mut k: usize = 1;
-    while k < n {
+    let mut from = rooms::get_waypoint(list, 0).feet;
+    for k in 1..n {
         let v = rooms::get_waypoint(list, k);
         let last = k + 1 == n;
-        if !pairs::is_joined(w, cells, perms, shapes, boxes, r, body, from, v, last) {
-            let fault = pairs::fault_of(
-                w, cells, perms, shapes, boxes, r, body, from, v.feet, last,
-            );
-            return Walked::No(Fault::Pair(fault, k));
+        if !pairs::is_joined(query, from, v, last) {
+            let fault = pairs::fault_of(query, from, v.feet, last);
+            return Err(Fault::Pair(fault, k));
         }
         from = v.feet;
-        k += 1;
     }
-    if equal_points::same_point(words::feet_of(r.goal), from) {
-        return Walked::Yes;
+    if equal_points::same_point(words::feet_of(query.request.goal), from) {
+        return Ok(());
     }
-    Walked::No(Fault::WrongEnd)
+    Err(Fault::WrongEnd)
 }
 
 // What is answered of a list once nothing refuses: yes, or the first reason.
-fn walk_list(
-    w: Window,
-    cells: &[u8],
-    perms: &[u8],
-    shapes: &[u8],
-    boxes: &[u8],
-    r: Request,
-    body: Body,
-    list: &[u8],
-) -> Walked
-    ensures { result ≡ walked_list (space w cells.now perms.now shapes.now boxes.now) r body list.now }
+#[tactic(auto, unfolding(crate::specs::WalkBack::walked_list))]
+fn walk_list(query: Query, list: &[u8]) -> Result<(), Fault>
+    ensures { result ≡ walked_list (space_of query.entry.world) query.entry.request query.entry.body list.now }
 {
+    let start = query.request.start;
+    let goal = query.request.goal;
     if listed::is_bad(list) {
-        return Walked::No(Fault::BadList);
+        return Err(Fault::BadList);
     }
-    if !places::in_range(r, r.goal) {
-        return Walked::No(Fault::GoalOutOfRange);
+    if !places::in_range(query.request, goal) {
+        return Err(Fault::GoalOutOfRange);
     }
-    if !places::standable(w, cells, perms, shapes, boxes, body, r.start) {
-        return Walked::No(Fault::StartNotStandable);
+    if !places::standable(query.world, query.body, start) {
+        return Err(Fault::StartNotStandable);
     }
-    if !places::standable(w, cells, perms, shapes, boxes, body, r.goal) {
-        return Walked::No(Fault::GoalNotStandable);
+    if !places::standable(query.world, query.body, goal) {
+        return Err(Fault::GoalNotStandable);
     }
-    if !listed::begins_at(r.start, list) {
-        return Walked::No(Fault::WrongStart);
+    if !listed::begins_at(start, list) {
+        return Err(Fault::WrongStart);
     }
-    leads(w, cells, perms, shapes, boxes, r, body, list)
+    leads(query, list)
 }
 
 // Whether a list is a route: 3, an invalid request, 4 without the budget, then yes or the first reason.
-pub fn walk_back(
-    w: Window,
-    cells: &[u8],
-    perms: &[u8],
-    shapes: &[u8],
-    boxes: &[u8],
-    r: Request,
-    body: Body,
-    list: &[u8],
-) -> Walked
-    ensures { walked_given result ≡ walked_given (walked w cells.now perms.now shapes.now boxes.now r body list.now) }
+pub fn walk_back(query: Query, list: &[u8]) -> Result<(), Denied>
+    ensures { let t = query.entry in result ≡ walked t.world.window t.world.cells.now t.world.perms.now t.world.shapes.now t.world.boxes.now t.request t.body list.now }
 {
-    match questions::judge(w, cells, shapes, boxes, r, body) {
-        Judgement::BadWorld => Walked::BadWorld,
-        Judgement::Invalid => Walked::No(Fault::InvalidRequest),
-        Judgement::TooLarge => Walked::TooLarge,
-        Judgement::Good => walk_list(w, cells, perms, shapes, boxes, r, body, list),
-    }
+    questions::judge(query)?;
+    walk_list(query, list)?;
+    Ok(())
 }
