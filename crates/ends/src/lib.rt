@@ -3,24 +3,18 @@
 #![tactic(auto)]
 
 ghost use Rattle.std.specs.Prelude.{◌≡◌};
-ghost use Rattle.world.specs.Space.{space};
+ghost use Rattle.world.specs.Space.{space_of};
 ghost use Rattle.ends.specs.Ends.{ends_good};
 
-use world::{Body, Request, Window};
+use world::Query;
 
 // Whether the goal is in range and both ends are standable.
-pub fn ends_good(
-    w: Window,
-    cells: &[u8],
-    perms: &[u8],
-    shapes: &[u8],
-    boxes: &[u8],
-    r: Request,
-    body: Body,
-) -> bool
-    ensures { result ≡ ends_good (space w cells.now perms.now shapes.now boxes.now) r body }
+#[tactic(auto, unfolding(crate::specs::Ends::ends_good))]
+pub fn ends_good(query: Query) -> bool
+    ensures { result ≡ ends_good (space_of query.entry.world) query.entry.request query.entry.body }
 {
+    let r = query.request;
     places::in_range(r, r.goal)
-        && places::standable(w, cells, perms, shapes, boxes, body, r.start)
-        && places::standable(w, cells, perms, shapes, boxes, body, r.goal)
+        && places::standable(query.world, query.body, r.start)
+        && places::standable(query.world, query.body, r.goal)
 }

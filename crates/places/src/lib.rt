@@ -2,10 +2,10 @@
 #![tactic(auto)]
 
 ghost use Rattle.std.specs.Prelude.{◌≡◌};
-ghost use Rattle.world.specs.Space.{space};
+ghost use Rattle.world.specs.Space.{space_of};
 ghost use Rattle.places.specs.Places.{near, in_range, standable};
 
-use world::{Body, Point, Request, Window};
+use world::{Body, Point, Request, World};
 
 // Whether two coordinates differ by at most so much.
 pub fn near(most: f64, a: f64, b: f64) -> bool
@@ -15,6 +15,7 @@ pub fn near(most: f64, a: f64, b: f64) -> bool
 }
 
 // Whether a point is in range of the start.
+#[tactic(auto, unfolding(crate::specs::Places::in_range))]
 pub fn in_range(r: Request, p: Point) -> bool
     ensures { result ≡ in_range r p }
 {
@@ -23,18 +24,10 @@ pub fn in_range(r: Request, p: Point) -> bool
 }
 
 // Whether a body may stand at a point.
-pub fn standable(
-    w: Window,
-    cells: &[u8],
-    perms: &[u8],
-    shapes: &[u8],
-    boxes: &[u8],
-    body: Body,
-    p: Point,
-) -> bool
-    ensures { result ≡ standable (space w cells.now perms.now shapes.now boxes.now) body p }
+#[tactic(auto, unfolding(crate::specs::Places::standable))]
+pub fn standable(world: World, body: Body, p: Point) -> bool
+    ensures { result ≡ standable (space_of world.entry) body p }
 {
     let area = boxes::from_feet(p, body.width, body.height);
-    clear::clear_area(w, cells, perms, shapes, boxes, area)
-        && segments::supported_segment(w, cells, perms, shapes, boxes, body.width, p, p)
+    clear::clear_area(world, area) && segments::supported_segment(world, body.width, p, p)
 }
