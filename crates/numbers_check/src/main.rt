@@ -2,21 +2,18 @@
 // for. Rust's own arithmetic and the original say what it must print (oracle/README.md, `store`).
 #![tactic(auto)]
 
-mod digest;
 mod jumps;
 mod numbers;
 mod policies;
 
+use digest::Digest;
+
 // The digest of the next record, of 72 bytes: some numbers made by its rule, the policy of its place, and its jump.
-fn next(rt: &impl Input, place: u32, flags: &[u8; 256]) -> u64 {
+fn next(rt: &impl Input, place: u32, flags: &[u8; 256]) -> Digest {
     let mut record = [0u8; 72];
     input::take(rt, 72, &mut record);
     let d = policies::with_policy(numbers::made(&record), place % 256, flags);
     jumps::with_jump(d, &record)
-}
-
-fn print_line(rt: &impl Print, d: u64) {
-    let _ = println!(rt; "{d:016x}");
 }
 
 // The count of records, the flag bytes that every policy is asked about, and the records.
@@ -25,6 +22,7 @@ fn main(rt: HostRuntime) {
     let count = input::number(&rt, 2);
     input::take(&rt, 256, &mut flags);
     for place in 0..count {
-        print_line(&rt, next(&rt, place, &flags));
+        let d = next(&rt, place, &flags).value;
+        let _ = println!(&rt; "{d:016x}");
     }
 }

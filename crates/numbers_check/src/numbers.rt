@@ -1,12 +1,11 @@
 // Numbers made by a record's rule, and what the proved functions answer of each.
-use crate::digest::{stirred, with, with_float};
-use root::Root;
+use digest::Digest;
 use std::num::wrapping_add_u64;
 
 // The digest so far, the last word of the row, what is added to the next number's pattern, and the two numbers before it.
 #[derive(Clone, Copy)]
 struct Row {
-    digest: u64,
+    digest: Digest,
     word: u64,
     added: u64,
     last: f64,
@@ -27,25 +26,23 @@ fn raised(kind: u64, pattern: u64) -> u64 {
 // The root's pattern, or 9 where it is refused.
 fn root_of(x: f64) -> u64 {
     match root::root(x) {
-        Root::Of(r) => floats::bits_of(r),
-        Root::Refused => 9,
+        Some(r) => floats::bits_of(r),
+        None => 9,
     }
 }
 
 // Both roots of a number, the distance of three, the floor and the ceiling as cells, which as floats are exact.
-fn answered(d: u64, x: f64, y: f64, z: f64) -> u64 {
-    let floor = cells::float_cell(cells::floor_cell(x));
-    let ceil = cells::float_cell(cells::ceil_cell(x));
-    let roots = with_float(with(d, root_of(x)), root::square_root(x));
-    with_float(
-        with_float(with_float(roots, root::distance(x, y, z)), floor),
-        ceil,
-    )
+fn answered(d: Digest, x: f64, y: f64, z: f64) -> Digest {
+    d.with(root_of(x))
+        .with_float(root::square_root(x))
+        .with_float(root::distance(x, y, z))
+        .with_float(cells::float_cell(cells::floor_cell(x)))
+        .with_float(cells::float_cell(cells::ceil_cell(x)))
 }
 
 // One more number: the next word's bits under the rule's mask, its first pattern added, raised by its kind, and what is added grows by its step.
 fn turned(row: Row, rule: &[u8]) -> Row {
-    let word = stirred(row.word);
+    let word = digest::stirred(row.word);
     let pattern = wrapping_add_u64(word & fields::u64_at(rule, 16), fields::u64_at(rule, 24));
     let made = raised(fields::u64_at(rule, 32), pattern);
     let x = floats::float_of(wrapping_add_u64(made, row.added));
@@ -59,9 +56,9 @@ fn turned(row: Row, rule: &[u8]) -> Row {
 }
 
 // The digest of the answers to as many numbers as the rule says.
-pub(crate) fn made(rule: &[u8]) -> u64 {
+pub(crate) fn made(rule: &[u8]) -> Digest {
     let mut row = Row {
-        digest: 0,
+        digest: Digest::new(),
         word: fields::u64_at(rule, 8),
         added: fields::u64_at(rule, 40),
         last: 0.0,

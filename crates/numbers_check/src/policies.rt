@@ -1,5 +1,5 @@
 // A policy, asked about every flag byte.
-use crate::digest::with_byte;
+use digest::Digest;
 use policy::{Flags, Passage, WalkPolicy};
 
 // Whether the bit of this weight is set in a policy's number.
@@ -21,7 +21,8 @@ fn numbered(number: u32) -> WalkPolicy {
     }
 }
 
-fn passage_number(passage: Passage) -> u8 {
+// The number that the stored answers have for a passage. No call gives it, so `policy` has no `From` for it.
+fn passage_number(passage: Passage) -> u64 {
     match passage {
         Passage::Shape => 0,
         Passage::Through => 1,
@@ -30,15 +31,17 @@ fn passage_number(passage: Passage) -> u8 {
 }
 
 // How a combination, which is a policy's number, and in water from 128 on, meets each flag byte, and its permission byte.
-pub(crate) fn with_policy(d: u64, combination: u32, flags: &[u8; 256]) -> u64 {
+pub(crate) fn with_policy(d: Digest, combination: u32, flags: &[u8; 256]) -> Digest {
     let policy = numbered(combination);
     let mut table = [0u8; 256];
-    policy.fill_permissions(said(combination, 128), flags, &mut table);
+    // Both tables have 256 bytes, so there is no bad table.
+    let _ = policy.fill_permissions(said(combination, 128), flags, &mut table);
     let mut sum = d;
-    for i in 0..256usize {
-        let bits = flags[i];
-        let passage = policy.door_passage(Flags { bits });
-        sum = with_byte(with_byte(sum, passage_number(passage)), table[i]);
+    for (bits, permission) in flags.iter().zip(&table) {
+        let passage = policy.door_passage(Flags { bits: *bits });
+        sum = sum
+            .with(passage_number(passage))
+            .with(u64::from(*permission));
     }
     sum
 }
