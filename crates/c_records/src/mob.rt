@@ -8,6 +8,7 @@ use crate::wishes::{has_bit, policy_in};
 use mob_request::Mob;
 use scene_records::{body_at, window_at};
 
+#[tactic(auto, unfolding(crate::specs::Asked::mob_in))]
 pub fn mob_in(policy: u64, jump_height: f64, window: &[u8], ends: &[u8], body: &[u8]) -> Mob
     ensures { result ≡ mob_in policy jump_height window.now ends.now body.now }
 {

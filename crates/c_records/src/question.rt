@@ -16,6 +16,7 @@ pub struct Question {
 }
 
 // The request of a whole record.
+#[tactic(auto, unfolding(crate::specs::Records::request_in, world::specs::Space::point_at))]
 fn request_in(request: &[u8]) -> Request
     ensures { result ≡ request_in request.now }
 {
@@ -46,6 +47,7 @@ fn no_request() -> Request
     }
 }
 
+#[tactic(auto, unfolding(crate::specs::Asked::asked, crate::specs::Asked::question_in))]
 pub fn question_in(window: &[u8], request: &[u8], body: &[u8]) -> Question
     ensures { result ≡ question_in window.now request.now body.now }
 {

@@ -13,6 +13,7 @@ pub(crate) fn has_bit(bits: u64, weight: u64) -> bool
     bits / weight % 2 == 1
 }
 
+#[tactic(auto, unfolding(crate::specs::Records::policy_in))]
 pub(crate) fn policy_in(bits: u64, jump_height: f64) -> WalkPolicy
     ensures { result ≡ policy_in bits jump_height }
 {
