@@ -4,8 +4,9 @@ ghost use Rattle.std.specs.Prelude.{◌≡◌};
 ghost use Rattle.c_records.specs.Asked.{mob_in};
 
 use crate::whole::{all_whole, end_in};
-use crate::wishes::{has_bit, policy_in};
+use crate::wishes::policy_in;
 use mob_request::Mob;
+use policy::has_bit;
 use scene_records::{body_at, window_at};
 
 #[tactic(auto, unfolding(crate::specs::Asked::mob_in))]

@@ -1,17 +1,8 @@
 // A mob's policy (01, Policy) as one number: a bit for each wish, and one, of weight 128, for a body in water.
-ghost use Rattle.std.specs.Prelude.{◌≡◌, ◌<◌};
-ghost use Rattle.policy.specs.Flags.{has};
+ghost use Rattle.std.specs.Prelude.{◌≡◌};
 ghost use Rattle.c_records.specs.Records.{policy_in};
 
-use policy::WalkPolicy;
-
-// Whether a number has the bit of a weight.
-pub(crate) fn has_bit(bits: u64, weight: u64) -> bool
-    requires { 0 < weight }
-    ensures { result ≡ has weight bits }
-{
-    bits / weight % 2 == 1
-}
+use policy::{WalkPolicy, has_bit};
 
 #[tactic(auto, unfolding(crate::specs::Records::policy_in))]
 pub(crate) fn policy_in(bits: u64, jump_height: f64) -> WalkPolicy

@@ -8,6 +8,14 @@ pub struct Flags {
     pub bits: u8,
 }
 
+// Whether a number has the bit of a weight.
+pub fn has_bit(bits: u64, weight: u64) -> bool
+    requires { 0 < weight }
+    ensures { result ≡ has weight bits }
+{
+    bits / weight % 2 == 1
+}
+
 impl Flags {
     pub const WATER: u8 = 1;
 
@@ -27,6 +35,6 @@ impl Flags {
         requires { 0 < flag }
         ensures { result ≡ has flag self.bits }
     {
-        self.bits / flag % 2 == 1
+        has_bit(u64::from(self.bits), u64::from(flag))
     }
 }

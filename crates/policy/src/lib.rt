@@ -7,5 +7,5 @@ pub mod flags;
 pub mod policy;
 
 pub use doors::Passage;
-pub use flags::Flags;
+pub use flags::{Flags, has_bit};
 pub use policy::{BadTable, WalkPolicy};

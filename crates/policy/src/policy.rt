@@ -84,13 +84,19 @@ impl WalkPolicy {
     }
 
     // The permission byte of each flag byte, in a table of the same length; else nothing is written.
-    pub fn fill_permissions(self, in_water: bool, flags: &[u8], permissions: &mut [u8]) -> Result<(), BadTable>
+    pub fn fill_permissions(
+        self,
+        in_water: bool,
+        flags: &[u8],
+        permissions: &mut [u8],
+    ) -> Result<(), BadTable>
         ensures answer { filled_number result ≡ filled flags.now permissions.old }
         ensures written { permissions.new ≡ permission_table self in_water flags.now permissions.old }
     {
         if flags.len() != permissions.len() {
             return Err(BadTable);
         }
+        // By index: what a loop writes through `iter_mut().zip(..)` is not told to its proof.
         for i in 0..flags.len() {
             let bits = flags[i];
             permissions[i] = self.permission(in_water, Flags { bits });

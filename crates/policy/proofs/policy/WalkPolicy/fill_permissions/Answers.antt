@@ -1,8 +1,5 @@
 -- `policy::policy::WalkPolicy::fill_permissions` meets its contract. The invariant: the first i bytes are those of the first i flag bytes, the rest as it came. Assumes nothing.
-use mathlib.Core.Path.{refl, ◌∙◌}
-use native.Mathlib.Omega.{arith}
-use borrow.Author.Tests.{eq-eqb, ne_eqb}
-use lib.ListN.{length, length-set}
+use Rattle.std.proofs.Common.{◌∙◌, arith, length, eq-eqb, ne_eqb}
 use Rattle.policy.specs.Permission.{permission}
 use Rattle.policy.specs.PermissionLaws.{maps_more, maps_all}
 use Rattle.policy.proofs.policy.WalkPolicy.fill_permissions.Goals as goal
@@ -10,21 +7,14 @@ use Rattle.policy.proofs.policy.WalkPolicy.fill_permissions.Goals as goal
 pub returns-then-flags-permissions : goal.returns-then-flags-permissions
 returns-then-flags-permissions c = let e = ne_eqb _ _ c.if-flags-permissions.true in record { answer = rw e; written = rw e }
 
-pub loop-i-init : goal.loop-i-init
-loop-i-init c = (omega arith, refl, omega arith, refl)
-
 pub loop-i-preserved : goal.loop-i-preserved
 loop-i-preserved c =
-    let at = c.loop-i in (
-      omega arith,
-      at.invariant.1,
-      rw length-set at.invariant.2,
-      rw (c.permission.ensures, at.invariant.3) (maps_more (permission c.args.self c.args.in_water) at.i c.args.flags.now c.args.permissions.now (omega arith) (omega arith)),
-    )
+    let at = c.loop-i in
+    rw (c.permission.ensures, at.invariant) (maps_more (permission c.args.self c.args.in_water) at.i c.args.flags.now c.args.permissions.now (omega arith) (omega arith))
 
 pub returns : goal.returns
 returns c =
     let e = eq-eqb (length c.args.flags.now) (length c.args.permissions.now) (omega arith) in record {
       answer = rw e;
-      written = rw e (c.loop-i.invariant.3 ∙ maps_all (permission c.args.self c.args.in_water) c.loop-i.i c.args.flags.now c.args.permissions.now (omega arith) (omega arith));
+      written = rw e (c.loop-i.invariant ∙ maps_all (permission c.args.self c.args.in_water) c.loop-i.i c.args.flags.now c.args.permissions.now (omega arith) (omega arith));
     }
