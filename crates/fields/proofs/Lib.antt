@@ -2,4 +2,3 @@
 pub mod Laws
 pub mod Pieces
 pub mod RecordLaws
-pub mod Signed

@@ -1,13 +1,14 @@
 -- Fields of a piece of a table: behind an offset, before one, behind other bytes; and a table with a field set, piece by piece.
 pub use Rattle.fields.specs.Bytes.{Bytes}
 use Rattle.std.specs.Prelude.{ℕ, zero, suc, ◌+◌, ◌*◌, ◌/◌, ◌%◌, ◌^◌, ◌<◌, ◌≤◌, ◌≡◌, refl, Bool, true, false, cond, List, [], ◌∷◌, ◌++◌, length, get_or, set, take, drop}
-use Rattle.std.proofs.Common.{arith, pow-suc, mod-eq_of_lt, sym, ap, ◌∙◌, append_assoc, length-append, length-take, length-drop, drop-cons, get_or-drop, get_or-take, drop-set-lt}
+use Rattle.std.specs.Int.{sum_through, byte_worth}
+use Rattle.std.proofs.Common.{arith, mul_comm, pow-suc, mod-eq_of_lt, sym, ap, ◌∙◌, append_assoc, length-append, length-take, length-drop, drop-cons, get_or-drop, get_or-take, drop-set-lt}
 use Rattle.std.proofs.Math.Nat.{mod-one, pow-zero, div-eq_of_lt, add-mul-mod_self_left, add-mul-div_left, min-le_right, le-min}
 use Rattle.std.proofs.lemmas.List.Edits.{sets, sets-eq}
 use Rattle.std.proofs.Math.Seq.{drop-append_seam}
 use Rattle.std.proofs.Math.Arith.{mod-mul}
 use Rattle.fields.specs.Little.{le_at, bytes_of, fits_at, field, with_field}
-use Rattle.fields.proofs.Laws.{field_in, field_parts, with_in, length_bytes, le_same, leb_same, positive}
+use Rattle.fields.proofs.Laws.{le_parts, field_in, field_parts, with_in, length_bytes, le_same, leb_same, positive}
 
 -- ---- reading
 
@@ -46,6 +47,25 @@ field_take n k s at h =
     (λ l. omega (arith, length-take k s, le-min {k = at + n} {a = k} {b = length s} h l)) in
     let bytes : le_at n (take k s) at ≡ le_at n s at = le_same n (take k s) s at (λ j a b. get_or-take k s j 0 (omega arith)) in
     rw (test, bytes)
+
+-- what std reads of bytes: a sum of what each one is worth
+through : (n : ℕ) (b : List ℕ) → sum_through (λ i. byte_worth i (get_or b i 0)) n ≡ le_at (suc n) b 0
+through zero b = omega arith
+through (suc n) b =
+    let parts : le_at (suc n + 1) b 0 ≡ le_at (suc n) b 0 + 256 ^ suc n * le_at 1 b (0 + suc n) = le_parts (suc n) 1 b 0 in
+    let width : suc n + 1 ≡ suc (suc n) = omega arith in
+    let there : 0 + suc n ≡ suc n = omega arith in
+    let last : le_at 1 b (suc n) ≡ get_or b (suc n) 0 = omega arith in
+    let turned : 256 ^ suc n * get_or b (suc n) 0 ≡ get_or b (suc n) 0 * 256 ^ suc n = mul_comm (256 ^ suc n) (get_or b (suc n) 0) in
+    rw (through n b) (sym (rw (width, there, last, turned) at parts))
+
+-- so of a field's bytes it reads the field
+pub whole_bytes : (n : ℕ) (s : List ℕ) (at : ℕ) (b : List ℕ) → at + suc n ≤ length s → b ≡ take (suc n) (drop at s) → sum_through (λ i. byte_worth i (get_or b i 0)) n ≡ field (suc n) s at
+whole_bytes n s at b h e =
+    let long : length (take (suc n) (drop at s)) ≡ suc n = omega (arith, length-take (suc n) (drop at s), length-drop at s) in
+    let here : at + 0 ≡ at = omega arith in
+    through n b ∙ rw e (sym (field_in (suc n) (take (suc n) (drop at s)) 0 (omega arith)))
+    ∙ field_take (suc n) (suc n) (drop at s) 0 (omega arith) ∙ field_drop (suc n) at s 0 ∙ rw here
 
 -- a field behind another table
 pub field_second : (n : ℕ) (s t : List ℕ) (at : ℕ) → field n (s ++ t) (length s + at) ≡ field n t at

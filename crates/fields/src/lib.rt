@@ -2,7 +2,7 @@
 // `stores`; the definitions and the laws of both stand here.
 #![tactic(auto)]
 
-ghost use Rattle.std.specs.Prelude.{◌≡◌, ◌+◌, ◌≤◌, leb, length};
+ghost use Rattle.std.specs.Prelude.{◌≡◌, ◌+◌, ◌<◌, ◌≤◌, leb, length, take, drop, MatchOption};
 ghost use Rattle.fields.specs.Little.{field, signed_field, float_field};
 
 // Whether so many bytes at an offset lie within a table of n bytes.
@@ -12,45 +12,38 @@ pub fn fits(n: usize, at: usize, bytes: usize) -> bool
     (bytes <= n) && (at <= n - bytes)
 }
 
-// The two bytes at an offset that has them, the lower first.
-fn two_at(s: &[u8], at: usize) -> u16
-    requires { at + 2 ≤ length s.now }
-    ensures { result ≡ field 2 s.now at }
+// The N bytes at an offset, where the table has them. They are cut out first: the compiler sees that such a part has N bytes, and no second test is left.
+fn bytes_at<const N: usize>(s: &[u8], at: usize) -> Option<&[u8; N]>
+    ensures { MatchOption result (length s.now < at + N) (λ b. (at + N ≤ length s.now) × (b.now ≡ take N (drop at s.now))) }
 {
-    (s[at] as u16) + 256 * (s[at + 1] as u16)
-}
-
-// The four bytes at an offset that has them.
-fn four_at(s: &[u8], at: usize) -> u32
-    requires { at + 4 ≤ length s.now }
-    ensures { result ≡ field 4 s.now at }
-{
-    (two_at(s, at) as u32) + 65536 * (two_at(s, at + 2) as u32)
+    if !fits(s.len(), at, N) {
+        return None;
+    }
+    s[at..at + N].first_chunk()
 }
 
 // The u32 at an offset.
 pub fn u32_at(s: &[u8], at: usize) -> u32
     ensures { result ≡ field 4 s.now at }
 {
-    if fits(s.len(), at, 4) {
-        four_at(s, at)
-    } else {
-        0
+    match bytes_at(s, at) {
+        Some(bytes) => u32::from_le_bytes(*bytes),
+        None => 0,
     }
 }
 
-// The u64 at an offset: two numbers of four bytes, the lower first.
+// The u64 at an offset.
 pub fn u64_at(s: &[u8], at: usize) -> u64
     ensures { result ≡ field 8 s.now at }
 {
-    if fits(s.len(), at, 8) {
-        (four_at(s, at) as u64) + 4294967296 * (four_at(s, at + 4) as u64)
-    } else {
-        0
+    match bytes_at(s, at) {
+        Some(bytes) => u64::from_le_bytes(*bytes),
+        None => 0,
     }
 }
 
 // The f64 at an offset: 0.0 where it does not fit, and every NaN pattern the one NaN.
+#[tactic(auto, unfolding(crate::specs::Little::float_field))]
 pub fn f64_at(s: &[u8], at: usize) -> f64
     ensures { result ≡ float_field s.now at }
 {
@@ -58,13 +51,9 @@ pub fn f64_at(s: &[u8], at: usize) -> f64
 }
 
 // The i32 at an offset: 32 bits in two's complement.
+#[tactic(auto, unfolding(crate::specs::Little::signed_field))]
 pub fn i32_at(s: &[u8], at: usize) -> i32
     ensures { result ≡ signed_field s.now at }
 {
-    let n = u32_at(s, at);
-    if n < 2147483648 {
-        n as i32
-    } else {
-        -1 - ((4294967295 - n) as i32)
-    }
+    u32_at(s, at).cast_signed()
 }

@@ -1,6 +1,6 @@
 -- No expansion has more than 9 * 256 * 16 = 36,864 steps in a world that is not bad (01, "Graph step", "Tables"): nine columns of at most 256 cells with
 -- at most 16 boxes each, and at most one step to a top. So the counts of a search cannot wrap.
-use Rattle.std.specs.Prelude.{ℕ, suc, ◌≤◌, ◌≡◌, refl, Bool, true, false, cond, List, [], ◌∷◌, length, Float}
+use Rattle.std.specs.Prelude.{Option, Some, None, ℕ, suc, ◌≤◌, ◌≡◌, refl, Bool, true, false, cond, List, [], ◌∷◌, length, Float}
 use Rattle.std.proofs.Common.{arith}
 use Rattle.std.proofs.lemmas.List.{length-map}
 use Rattle.std.specs.Float.Ieee.{le}
@@ -13,8 +13,7 @@ use Rattle.tables.specs.BadWorld.{bad_world}
 use Rattle.tables.specs.Good.{GoodWorld, not_bad_is_good}
 use Rattle.heights.specs.declared.Band.{Band}
 use Rattle.heights.specs.Heights.{tops, insert, sorted, within, thinned_after, thinned, heights}
-use Rattle.moves.specs.declared.answer.EdgeAnswer.{EdgeAnswer}
-use Rattle.moves.specs.declared.answer.EdgeAnswer.TheVariants.{To, Nowhere}
+use Rattle.moves.specs.declared.answer.Waypoint.{Waypoint}
 use Rattle.edges.specs.Edges.{edge}
 use Rattle.rooms.specs.declared.Feet.{Feet}
 use Rattle.words.specs.Words.{point_of, step_of}
@@ -67,9 +66,9 @@ unfolding edges_at
 edges_short sp r body from c [] = omega arith
 edges_short sp r body from c (y ∷ ys) = go (edge sp r body from (target c y)) (edges_short sp r body from c ys)
   where
-    go : (a : EdgeAnswer) → length (edges_at sp r body from c ys) ≤ length ys → length (ahead a (edges_at sp r body from c ys)) ≤ suc (length ys)
-    go Nowhere h = omega arith
-    go (To s) h = omega arith
+    go : (a : Option Waypoint) → length (edges_at sp r body from c ys) ≤ length ys → length (ahead a (edges_at sp r body from c ys)) ≤ suc (length ys)
+    go None h = omega arith
+    go (Some s) h = omega arith
 
 -- ---- nine columns: none has more than 256 * 16 steps
 

@@ -1,5 +1,5 @@
 -- 01, The graph, "Graph step": the columns around a point, their heights, and the edges to them. Definitions only.
-use Rattle.std.specs.Prelude.{ℕ, ◌+◌, Bool, false, ◌||◌, cond, List, [], ◌∷◌, ℤ, pos, negsuc, ◌+ℤ◌, get_or, Float}
+use Rattle.std.specs.Prelude.{Option, Some, None, ℕ, ◌+◌, Bool, false, ◌||◌, cond, List, [], ◌∷◌, ℤ, pos, negsuc, ◌+ℤ◌, get_or, Float}
 use Rattle.std.specs.Float.{binary64}
 use Rattle.std.specs.Float.Ieee.{add, sub, of_int}
 use Rattle.floats.specs.Floats.{smaller, larger}
@@ -13,8 +13,6 @@ use Rattle.support.specs.Support.{half_one}
 use Rattle.heights.specs.declared.Band.{Band}
 use Rattle.heights.specs.Heights.{heights}
 use Rattle.moves.specs.declared.answer.Waypoint.{Waypoint}
-use Rattle.moves.specs.declared.answer.EdgeAnswer.{EdgeAnswer}
-use Rattle.moves.specs.declared.answer.EdgeAnswer.TheVariants.{To, Nowhere}
 use Rattle.moves.specs.Moves.{step_height}
 use Rattle.edges.specs.Edges.{edge}
 use Rattle.sides.specs.declared.Sides.{Sides}
@@ -57,9 +55,9 @@ band_of r body from = record {
 abbrev pub target : Centre → Float → Point
 target c y = record { x = c.x; y = y; z = c.z }
 
-abbrev pub ahead : EdgeAnswer → List Waypoint → List Waypoint
-ahead Nowhere ws = ws
-ahead (To w) ws = w ∷ ws
+abbrev pub ahead : Option Waypoint → List Waypoint → List Waypoint
+ahead None ws = ws
+ahead (Some w) ws = w ∷ ws
 
 -- whether one of the edges does not climb
 unfoldable pub level : Point → List Waypoint → Bool

@@ -2,7 +2,7 @@
 use Prim.Native.Nat.{ℕ, zero, suc, ◌+◌, ◌-◌, ◌≤◌, ◌<◌}
 use native.Mathlib.Omega.{arith}
 use Rattle.std.proofs.Math.Numerals.{add-one}
-use Rattle.std.specs.Prelude.{◌≡◌, Bool, true, false, ◌||◌, List, [], ◌∷◌, ◌++◌, ltb, Float}
+use Rattle.std.specs.Prelude.{Option, Some, None, ◌≡◌, Bool, true, false, ◌||◌, List, [], ◌∷◌, ◌++◌, ltb, Float}
 use Rattle.std.proofs.Math.Path.{refl, ap}
 use Rattle.std.proofs.Common.{sym, ◌∙◌, ltb-true, ltb-false}
 use Rattle.std.proofs.Math.ListN.{length}
@@ -12,9 +12,7 @@ use Rattle.world.specs.declared.Body.{Body}
 use Rattle.world.specs.declared.Request.{Request}
 use Rattle.world.specs.Space.{Space}
 use Rattle.heights.specs.declared.Band.{Band}
-use Rattle.heights.specs.declared.Height.{Height}
-use Rattle.heights.specs.declared.Height.TheVariants.{At, None}
-use Rattle.heights.specs.Heights.{tops, sorted, heights, kept_after, next_after}
+use Rattle.heights.specs.Option Floats.{tops, sorted, heights, kept_after, next_after}
 use Rattle.heights.proofs.Next.{kept_next, kept_end}
 use Rattle.heights.proofs.Laws.{numbers}
 use Rattle.moves.specs.declared.answer.Waypoint.{Waypoint}
@@ -92,41 +90,41 @@ module _ (sp : Space) (r : Request) (body : Body) (from : Point) where
     -- ---- the heights of a column that is
 
     -- the steps of column n behind a height
-    unfoldable pub steps_after : Height → List Waypoint
+    unfoldable pub steps_after : Option Float → List Waypoint
     steps_after after = edges_at sp r body from (centre_of from n) (kept_after after (sorted (tops sp (band_of r body from) (centre_of from n).x (centre_of from n).z)))
 
     pub column_begins : looked_by (sides_before n) n ≡ true → column_if sp r body from n ≡ steps_after None
     unfolding column_if column_steps heights kept_after steps_after
     column_begins e = rw (sym (looked_before n) ∙ e)
 
-    module _ (after : Height) where
+    module _ (after : Option Float) where
       pub column_ends : next_after sp (band_of r body from) (centre_of from n).x (centre_of from n).z after ≡ None → steps_after after ≡ []
       unfolding next_after steps_after edges_at
       column_ends e = ap (edges_at sp r body from (centre_of from n)) (kept_end _ (numbers (band_of r body from) (centre_of from n).x (centre_of from n).z sp) after e)
 
-      pub column_on : (y : Float) → next_after sp (band_of r body from) (centre_of from n).x (centre_of from n).z after ≡ At y →
-          steps_after after ≡ ahead (edge sp r body from (target (centre_of from n) y)) (steps_after (At y))
+      pub column_on : (y : Float) → next_after sp (band_of r body from) (centre_of from n).x (centre_of from n).z after ≡ Some y →
+          steps_after after ≡ ahead (edge sp r body from (target (centre_of from n) y)) (steps_after (Some y))
       unfolding next_after steps_after edges_at
       column_on y e = ap (edges_at sp r body from (centre_of from n)) (kept_next _ (numbers (band_of r body from) (centre_of from n).x (centre_of from n).z sp) after y e)
 
     -- how many heights are left behind one
-    unfoldable pub heights_left : Height → ℕ
+    unfoldable pub heights_left : Option Float → ℕ
     heights_left after = length (kept_after after (sorted (tops sp (band_of r body from) (centre_of from n).x (centre_of from n).z)))
 
     -- what the code asked for and what it was told: the next height after one
-    module _ {band : Band} {centre : Centre} {next : Height} (after : Height) (b : band ≡ band_of r body from) (m : centre ≡ centre_of from n) (e : next ≡ next_after sp band centre.x centre.z after) where
-      told : (h : Height) → next ≡ h → next_after sp (band_of r body from) (centre_of from n).x (centre_of from n).z after ≡ h
+    module _ {band : Band} {centre : Centre} {next : Option Float} (after : Option Float) (b : band ≡ band_of r body from) (m : centre ≡ centre_of from n) (e : next ≡ next_after sp band centre.x centre.z after) where
+      told : (h : Option Float) → next ≡ h → next_after sp (band_of r body from) (centre_of from n).x (centre_of from n).z after ≡ h
       told h i = rw (← b, ← m) (sym e ∙ i)
 
       pub none_left : next ≡ None → steps_after after ≡ []
       none_left i = column_ends after (told None i)
 
-      pub next_ahead : (y : Float) → next ≡ At y → steps_after after ≡ ahead (edge sp r body from (target centre y)) (steps_after (At y))
-      next_ahead y i = rw m (column_on after y (told (At y) i))
+      pub next_ahead : (y : Float) → next ≡ Some y → steps_after after ≡ ahead (edge sp r body from (target centre y)) (steps_after (Some y))
+      next_ahead y i = rw m (column_on after y (told (Some y) i))
 
-      pub fewer : (y : Float) → next ≡ At y → heights_left (At y) < heights_left after
+      pub fewer : (y : Float) → next ≡ Some y → heights_left (Some y) < heights_left after
       unfolding heights_left next_after
-      fewer y i = omega (arith, ap length (kept_next _ (numbers (band_of r body from) (centre_of from n).x (centre_of from n).z sp) after y (told (At y) i)))
+      fewer y i = omega (arith, ap length (kept_next _ (numbers (band_of r body from) (centre_of from n).x (centre_of from n).z sp) after y (told (Some y) i)))
 
 -- ---- whether a column is level, noted edge by edge
 

@@ -1,6 +1,6 @@
 -- The tops of one column: a cell has at most as many as its shape has boxes, one outside the window has none, and a column of the window has at most
 -- 256 cells. So they are at most 256 * 16, however many layers are looked at.
-use Rattle.std.specs.Prelude.{ℕ, zero, suc, ◌+◌, ◌-◌, ◌*◌, ◌≤◌, ◌≡◌, Bool, ◌&&◌, List, [], ◌∷◌, map, ltb, leb, negsuc, ◌+ℤ◌, ◌-ℤ◌, length, get_or, drop, Float}
+use Rattle.std.specs.Prelude.{Option, Some, None, ℕ, zero, suc, ◌+◌, ◌-◌, ◌*◌, ◌≤◌, ◌≡◌, Bool, ◌&&◌, List, [], ◌∷◌, map, ltb, leb, negsuc, ◌+ℤ◌, ◌-ℤ◌, length, get_or, drop, Float}
 use native.Mathlib.Omega.{arith}
 use Rattle.std.proofs.Math.Path.{refl}
 use Rattle.std.proofs.Math.Bool.{true, false, cond}
@@ -13,12 +13,7 @@ use Rattle.regions.specs.Ranges.{count, along}
 use Rattle.world.specs.declared.Point.{Point}
 use Rattle.world.specs.declared.Aabb.{Aabb}
 use Rattle.world.specs.declared.Window.{Window}
-use Rattle.world.specs.declared.Entry.{Entry}
-use Rattle.world.specs.declared.Entry.TheVariants.{Of, Missing}
 use Rattle.world.specs.declared.Cell.{Cell}
-use Rattle.world.specs.declared.Cell.TheVariants.{Unknown, Known}
-use Rattle.world.specs.declared.Found.{Found}
-use Rattle.world.specs.declared.Found.TheVariants.{Here, End}
 use Rattle.world.specs.Boxes.{moved, corner}
 use Rattle.world.specs.Space.{Space, Place, At, Out, place, onward, record_of, entry_at, collides, of_parts, known_by, known, cell_in, cell_at, ahead, box_here, run, block_of, space}
 use Rattle.world.specs.Laws.{entry_is}
@@ -34,9 +29,9 @@ unfolding run
 run_short zero s at = omega arith
 run_short (suc n) s at = go (box_here s at) (run_short n s (at + 48))
   where
-    go : (b : Found) → length (run n s (at + 48)) ≤ n → length (ahead b (run n s (at + 48))) ≤ suc n
-    go (Here b) h = omega arith
-    go End h = omega arith
+    go : (b : Option Aabb) → length (run n s (at + 48)) ≤ n → length (ahead b (run n s (at + 48))) ≤ suc n
+    go (Some b) h = omega arith
+    go None h = omega arith
 
 tops_short : (band : Band) (x z : Float) (bs : List Aabb) → length (tops_of band x z bs) ≤ length bs
 unfolding tops_of
@@ -49,34 +44,34 @@ tops_short band x z (b ∷ bs) = go (reaches band x z b) (tops_short band x z bs
     go false h = omega arith
 
 -- how many tops a cell has at most: an unknown one is no support
-abbrev most : Cell → ℕ
-most Unknown = 0
-most (Known o s first count through state) = count
+abbrev most : Option Cell → ℕ
+most None = 0
+most (Some c) = c.count
 
-cell_tops : (band : Band) (x z : Float) (boxes : List ℕ) (c : Cell) (p : Point) → length (tops_in band x z (block_of boxes c p)) ≤ most c
+cell_tops : (band : Band) (x z : Float) (boxes : List ℕ) (c : Option Cell) (p : Point) → length (tops_in band x z (block_of boxes c p)) ≤ most c
 unfolding tops_in block_of
-cell_tops band x z boxes Unknown p = omega arith
-cell_tops band x z boxes (Known o s first count through state) p = go s
+cell_tops band x z boxes None p = omega arith
+cell_tops band x z boxes (Some c) p = go c.support
   where
     read : List Aabb
-    read = run count (drop (48 * first) boxes) 0
+    read = run c.count (drop (48 * c.first) boxes) 0
 
     own : List Aabb
     own = map (λ (b : Aabb). moved b p) read
 
-    go : (t : Bool) → length (cond t (tops_of band x z own) []) ≤ count
-    go true = omega (arith, tops_short band x z own, length-map read (λ (b : Aabb). moved b p), run_short count (drop (48 * first) boxes) 0)
+    go : (t : Bool) → length (cond t (tops_of band x z own) []) ≤ c.count
+    go true = omega (arith, tops_short band x z own, length-map read (λ (b : Aabb). moved b p), run_short c.count (drop (48 * c.first) boxes) 0)
     go false = omega arith
 
 -- ---- a cell of a world that is not bad: at most 16, and none outside the window
 
 module _ (w : Window) (cells perms shapes boxes : List ℕ) (good : GoodWorld w cells shapes boxes) where
-  shape_most : (p shape state : ℕ) (e : Entry) → entry_at shapes shape ≡ e → most (known_by e (λ first count. of_parts p first count state)) ≤ 16
+  shape_most : (p shape state : ℕ) (e : Option (ℕ × ℕ)) → entry_at shapes shape ≡ e → most (known_by e (λ first count. Some (of_parts p first count state))) ≤ 16
   unfolding of_parts
-  shape_most p shape state Missing q = omega arith
-  shape_most p shape state (Of first count) q = let h = entry_is shapes shape first count q in go (collides p) (omega (arith, h.2, good.counts shape h.0))
+  shape_most p shape state None q = omega arith
+  shape_most p shape state (Some e) q = let h = entry_is shapes shape e.0 e.1 q in go (collides p) (omega (arith, h.2, good.counts shape h.0))
     where
-      go : (t : Bool) → count ≤ 16 → cond t count 0 ≤ 16
+      go : (t : Bool) → e.1 ≤ 16 → cond t e.1 0 ≤ 16
       go true h = h
       go false h = omega arith
 
@@ -84,7 +79,7 @@ module _ (w : Window) (cells perms shapes boxes : List ℕ) (good : GoodWorld w 
   unfolding known
   known_most state shape = go (ltb state (length perms))
     where
-      go : (t : Bool) → most (cond t (known_by (entry_at shapes shape) (λ first count. of_parts (get_or perms state 0) first count state)) Unknown) ≤ 16
+      go : (t : Bool) → most (cond t (known_by (entry_at shapes shape) (λ first count. Some (of_parts (get_or perms state 0) first count state))) None) ≤ 16
       go true = shape_most (get_or perms state 0) shape state (entry_at shapes shape) refl
       go false = omega arith
 
@@ -93,9 +88,9 @@ module _ (w : Window) (cells perms shapes boxes : List ℕ) (good : GoodWorld w 
   cell_most Out = omega arith
   cell_most (At i) = go (entry_at cells i)
     where
-      go : (e : Entry) → most (known_by e (λ state shape. known perms shapes state shape)) ≤ 16
-      go (Of state shape) = known_most state shape
-      go Missing = omega arith
+      go : (e : Option (ℕ × ℕ)) → most (known_by e (λ state shape. known perms shapes state shape)) ≤ 16
+      go (Some e) = known_most e.0 e.1
+      go None = omega arith
 
   outside : (x y z : ℤ) → place (y -ℤ w.y) w.sy ≡ Out → record_of w x y z ≡ Out
   unfolding record_of
@@ -135,7 +130,7 @@ module _ (w : Window) (cells perms shapes boxes : List ℕ) (good : GoodWorld w 
 
   cell_none : (cx y cz : ℤ) → place (y -ℤ w.y) w.sy ≡ Out → length (tops_in band x z (sp cx y cz)) ≡ 0
   unfolding space cell_at cell_in
-  cell_none cx y cz e = rw (outside w cells perms shapes boxes good cx y cz e) (omega (arith, cell_tops band x z boxes Unknown (corner cx y cz)))
+  cell_none cx y cz e = rw (outside w cells perms shapes boxes good cx y cz e) (omega (arith, cell_tops band x z boxes None (corner cx y cz)))
 
   pub column_tops : length (tops sp band x z) ≤ 4096
   unfolding tops along

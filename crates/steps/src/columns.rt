@@ -32,18 +32,14 @@ pub struct Centre {
 fn offset_at(n: usize) -> Offset
     ensures { result ≡ offset_at n }
 {
-    if n < 9 {
-        return NEIGHBOURS[n];
-    }
-    Offset(0, 0)
+    NEIGHBOURS.get(n).copied().unwrap_or(Offset(0, 0))
 }
 
 // The centre of a column along one axis.
 fn centre_along(x: f64, d: i32) -> f64
     ensures { result ≡ centre x d }
 {
-    let own = cells::floor_cell(x);
-    let column = own + (d as i64);
+    let column = cells::floor_cell(x) + i64::from(d);
     cells::float_cell(column) + 0.5
 }
 

@@ -1,10 +1,11 @@
 -- `fields::u32_at` meets its contract. Assumes nothing.
-use Rattle.std.proofs.Common.{sym, ◌∙◌, leb-true, leb-false}
+use Rattle.std.proofs.Common.{sym, ◌∙◌}
 use Rattle.fields.proofs.Laws.{field_out}
+use Rattle.fields.proofs.Pieces.{whole_bytes}
 use Rattle.fields.proofs.u32_at.Goals as goal
 
-pub four_at-requires : goal.four_at-requires
-four_at-requires c = leb-true _ _ (sym c.fits.ensures ∙ c.if-fits.true)
+pub returns-in-Some : goal.returns-in-Some
+returns-in-Some c = c.from_le_bytes.ensures ∙ whole_bytes 3 c.args.s.now c.args.at _ c.in-Some.ensures.0 c.in-Some.ensures.1
 
-pub returns-else-fits : goal.returns-else-fits
-returns-else-fits c = sym (field_out 4 _ _ (leb-false _ _ (sym c.fits.ensures ∙ c.if-fits.false)))
+pub returns-in-None : goal.returns-in-None
+returns-in-None c = sym (field_out 4 _ _ c.in-None.ensures)

@@ -1,0 +1,2 @@
+-- Theorems on the bytes of numbers.
+pub mod Low
