@@ -1,5 +1,5 @@
 -- What filling the permission table says of its length, and so of the answer.
-use Rattle.std.specs.Prelude.{ℕ, ◌≡◌, refl, Bool, true, false, cond, List, eqb, length}
+use Rattle.std.specs.Prelude.{ℕ, ◌≡◌, refl, Bool, true, false, cond, List, eqb, length, Ok, Err}
 use Rattle.std.proofs.Common.{arith, ap}
 use Rattle.policy.specs.declared.policy.WalkPolicy.{WalkPolicy}
 use Rattle.policy.specs.Permission.{filled, permission_table}
@@ -10,8 +10,7 @@ use Rattle.world.specs.declared.Window.{Window}
 use Rattle.mob_request.specs.Asked.{request_of}
 use Rattle.search.specs.FindWalkPath.{found, nodes_after, front_after, index_after, out_after}
 use Rattle.outcomes.specs.declared.Answer.{Answer}
-use Rattle.outcomes.specs.declared.Path.TheVariants.{Searched, BadTable}
-use Rattle.outcomes.specs.Outcomes.{path_given}
+use Rattle.outcomes.specs.Outcomes.{Path}
 use Rattle.find_path.specs.FindPath.{unless_bad, path, nodes_after_path, front_after_path, index_after_path, out_after_path}
 
 -- it is filled where the tables agree in length
@@ -46,21 +45,21 @@ module _ (p : WalkPolicy) (in_water : Bool) (flags : List ℕ) (w : Window) (cel
       → (a ≡ found w cells table shapes boxes r body (length nodes) (length front) (length index) (length out)) × ((b ≡ nodes_after w cells table shapes boxes r body nodes front index out)
       × ((g ≡ front_after w cells table shapes boxes r body nodes front index out) × ((y ≡ index_after w cells table shapes boxes r body nodes front index out)
       × (x ≡ out_after w cells table shapes boxes r body nodes front index out))))
-      → (path_given (Searched a) ≡ path_given (path p in_water flags w cells perms shapes boxes start goal body (length nodes) (length front) (length index) (length out)))
+      → (◌≡◌ {A = Path} (Ok a) (path p in_water flags w cells perms shapes boxes start goal body (length nodes) (length front) (length index) (length out)))
       × ((table ≡ permission_table p in_water flags perms) × ((b ≡ nodes_after_path p in_water flags w cells perms shapes boxes start goal body nodes front index out)
       × ((g ≡ front_after_path p in_water flags w cells perms shapes boxes start goal body nodes front index out)
       × ((y ≡ index_after_path p in_water flags w cells perms shapes boxes start goal body nodes front index out)
       × (x ≡ out_after_path p in_water flags w cells perms shapes boxes start goal body nodes front index out)))))
   unfolding path nodes_after_path front_after_path index_after_path out_after_path
   searched e i j s = let h = rw (i, j) at s in
-      (ap path_given (alike flags perms _ e (ap Searched h.0)), (i, (alike flags perms _ e h.1.0, (alike flags perms _ e h.1.1.0, (alike flags perms _ e h.1.1.1.0, alike flags perms _ e h.1.1.1.1)))))
+      (alike flags perms _ e (let x : ◌≡◌ {A = Path} (Ok a) (Ok (found w cells (permission_table p in_water flags perms) shapes boxes (request_of p start goal body) body (length nodes) (length front) (length index) (length out))) = ap Ok h.0 in x), (i, (alike flags perms _ e h.1.0, (alike flags perms _ e h.1.1.0, (alike flags perms _ e h.1.1.1.0, alike flags perms _ e h.1.1.1.1)))))
 
   -- nothing but the table is written, and that as its own definition says
   pub unsearched : {table : List ℕ} → eqb (length flags) (length perms) ≡ false → table ≡ permission_table p in_water flags perms
-      → (path_given BadTable ≡ path_given (path p in_water flags w cells perms shapes boxes start goal body (length nodes) (length front) (length index) (length out)))
+      → (◌≡◌ {A = Path} (Err (record {})) (path p in_water flags w cells perms shapes boxes start goal body (length nodes) (length front) (length index) (length out)))
       × ((table ≡ permission_table p in_water flags perms) × ((nodes ≡ nodes_after_path p in_water flags w cells perms shapes boxes start goal body nodes front index out)
       × ((front ≡ front_after_path p in_water flags w cells perms shapes boxes start goal body nodes front index out)
       × ((index ≡ index_after_path p in_water flags w cells perms shapes boxes start goal body nodes front index out)
       × (out ≡ out_after_path p in_water flags w cells perms shapes boxes start goal body nodes front index out)))))
   unfolding path nodes_after_path front_after_path index_after_path out_after_path
-  unsearched e i = (ap path_given (unlike flags perms _ e), (i, (unlike flags perms _ e, (unlike flags perms _ e, (unlike flags perms _ e, unlike flags perms _ e)))))
+  unsearched e i = (unlike flags perms _ e, (i, (unlike flags perms _ e, (unlike flags perms _ e, (unlike flags perms _ e, unlike flags perms _ e)))))
