@@ -10,16 +10,15 @@ use std::io::Read;
 pub fn take(rt: &impl Input, n: usize, buffer: &mut [u8]) -> usize
     ensures { (result ≤ n) × IsPrefixLen result buffer.new }
 {
-    if n < buffer.len() {
-        return read_full(rt, &mut buffer[..n]);
-    }
-    read_full(rt, buffer)
+    let most = n.min(buffer.len());
+    read_full(rt, &mut buffer[..most])
 }
 
 // Reads until the buffer is full or the input ends, where an error ends it too; how many bytes came.
 fn read_full(rt: &impl Input, buffer: &mut [u8]) -> usize
     ensures { IsPrefixLen result buffer.new }
 {
+    // `read_exact` would not say how many bytes came before the end.
     let mut reader = rt.reader();
     let mut done = 0;
     while done < buffer.len() {
