@@ -1,9 +1,10 @@
 -- The walk back on the node room is the theory's trace.
-use Rattle.std.specs.Prelude.{◌≡◌, Bool, ◌⊎◌, eqb, length}
+use Rattle.std.specs.Prelude.{◌≡◌, Bool, eqb, length}
 use Rattle.std.proofs.Math.Path.{refl, sym, ap}
-use Rattle.std.proofs.Common.{◌∙◌, inl, inr, arith, lt-ltb, le-ltb, ne_eqb, le-leb, List, [], ◌∷◌, ℕ, zero, suc, ◌*◌, ◌/◌, ◌≤◌, ◌<◌}
+use Rattle.std.proofs.Common.{◌∙◌, arith, lt-ltb, le-ltb, ne_eqb, le-leb, List, [], ◌∷◌, ℕ, zero, suc, ◌*◌, ◌/◌, ◌≤◌, ◌<◌}
 use Rattle.std.proofs.Math.Bool.{true, false}
 use Rattle.std.proofs.Math.Option.{none, some}
+pub use Rattle.std.proofs.lemmas.Bool.{cases_lt as in_or_out}
 use mathlib.Core.List.{reverse_aux}
 use Rattle.std.proofs.Math.Logic.{⊎_elim}
 use Rattle.exploration.specs.Lists.{nth}
@@ -25,11 +26,6 @@ walk_on f g a n k e h = ap (λ (i : ℕ). walk i a n k) e ∙ (let t = lt-ltb k 
 pub walk_off : (f : ℕ) (a : List ℕ) (n k : ℕ) → n ≤ k → walk f a n k ≡ []
 walk_off zero a n k h = refl
 walk_off (suc f) a n k h = let t = le-ltb k n h in rw t
-
-pub in_or_out : (k n : ℕ) → (k < n) ⊎ (n ≤ k)
-in_or_out k zero = inr (omega arith)
-in_or_out zero (suc n) = inl (omega arith)
-in_or_out (suc k) (suc n) = ⊎_elim (λ h. inl (omega arith)) (λ h. inr (omega arith)) (in_or_out k n)
 
 -- ---- it is the theory's trace
 
