@@ -1,6 +1,6 @@
 -- The way of an edge (01, The graph, "Edge"), its checks, the first that fails told (02, No. 3), and its door (02, No. 5), over a space, a request and a body.
 -- Definitions only.
-use Rattle.std.specs.Prelude.{ℕ, cond, Float}
+use Rattle.std.specs.Prelude.{ℕ, cond, Float, Result, Ok, Err}
 use Rattle.std.specs.Float.{binary64}
 use Rattle.std.specs.Float.Ieee.{add}
 use Rattle.floats.specs.Floats.{nought}
@@ -16,9 +16,8 @@ use Rattle.support.specs.Support.{supported}
 use Rattle.places.specs.Places.{in_range, standable}
 use Rattle.moves.specs.declared.answer.Movement.{Movement}
 use Rattle.moves.specs.declared.answer.Waypoint.{Waypoint}
+use Rattle.moves.specs.declared.answer.Reason.{Reason}
 use Rattle.moves.specs.declared.answer.Reason.TheVariants.{TargetOutOfRange, RaisedOutOfRange, TargetNotStandable, LiftBlocked, CrossingBlocked, SettleBlocked, Unsupported}
-use Rattle.moves.specs.declared.answer.EdgeCheck.{EdgeCheck}
-use Rattle.moves.specs.declared.answer.EdgeCheck.TheVariants.{Passes, Fails}
 
 -- the corners of the way: up by the lift, across, and down or up to the target
 abbrev pub raised : Point → Float → Point
@@ -56,7 +55,7 @@ waypoint_by sp body from to lift movement = record { feet = to; lift = lift; mov
 -- "Then target and raised point in range, target standable, the lift, crossing and settle areas clear, the segment supported.": 02, No. 3, tells the first of
 -- these that is not so, "target out of range, raised point out of range, target not standable, lift blocked, crossing blocked, settle blocked, segment
 -- unsupported, in 01's order"; and where all are so, the way leads to its waypoint.
-unfoldable pub way_check : Space → Request → Body → Point → Point → Float → Movement → EdgeCheck
+unfoldable pub way_check : Space → Request → Body → Point → Point → Float → Movement → Result Waypoint Reason
 way_check sp r body from to lift movement =
     cond (in_range r to)
     (cond (in_range r (raised from lift))
@@ -65,11 +64,11 @@ way_check sp r body from to lift movement =
     (cond (clear sp (crossing_area body from to lift))
     (cond (clear sp (settle_area body from to lift))
     (cond (supported sp body.width from to)
-    (Passes (waypoint_by sp body from to lift movement))
-    (Fails Unsupported))
-    (Fails SettleBlocked))
-    (Fails CrossingBlocked))
-    (Fails LiftBlocked))
-    (Fails TargetNotStandable))
-    (Fails RaisedOutOfRange))
-    (Fails TargetOutOfRange)
+    (Ok (waypoint_by sp body from to lift movement))
+    (Err Unsupported))
+    (Err SettleBlocked))
+    (Err CrossingBlocked))
+    (Err LiftBlocked))
+    (Err TargetNotStandable))
+    (Err RaisedOutOfRange))
+    (Err TargetOutOfRange)

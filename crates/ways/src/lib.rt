@@ -3,109 +3,67 @@
 #![tactic(auto)]
 
 ghost use Rattle.std.specs.Prelude.{◌≡◌};
-ghost use Rattle.world.specs.Space.{space};
+ghost use Rattle.world.specs.Space.{space_of};
 ghost use Rattle.clear.specs.Corridors.{corridor};
-ghost use Rattle.moves.specs.Moves.{check_given};
 ghost use Rattle.ways.specs.Ways.{swept, way_check};
 
-use clear::{Corridor, or_else};
-use moves::{EdgeCheck, Movement, Reason, Waypoint};
+use clear::or_else;
+use moves::{Movement, Reason, Waypoint};
 use points::difference;
-use world::{Body, Point, Request, Window};
+use world::{Body, Point, Query, World};
 
-// Whether the area that a body sweeps from a point on is clear, and its door.
-fn sweep(
-    w: Window,
-    cells: &[u8],
-    perms: &[u8],
-    shapes: &[u8],
-    boxes: &[u8],
-    body: Body,
-    feet: Point,
-    by: Point,
-) -> Corridor
-    ensures { result ≡ corridor (space w cells.now perms.now shapes.now boxes.now) (swept body feet by) }
+// The door of the area that a body sweeps from a point on, where that area is clear.
+#[tactic(auto, unfolding(crate::specs::Ways::swept))]
+fn sweep(world: World, body: Body, feet: Point, by: Point) -> Option<u32>
+    ensures { result ≡ corridor (space_of world.entry) (swept body feet by) }
 {
     let area = boxes::expand_towards(boxes::from_feet(feet, body.width, body.height), by);
-    clear::corridor_of(w, cells, perms, shapes, boxes, area)
+    clear::corridor_of(world, area)
 }
 
 // What a way comes to: the checks of an edge in order, up to the first that fails. Where none does, the waypoint is made.
+#[tactic(auto, unfolding(crate::specs::Ways::way_check))]
 pub fn way_check(
-    w: Window,
-    cells: &[u8],
-    perms: &[u8],
-    shapes: &[u8],
-    boxes: &[u8],
-    r: Request,
-    body: Body,
+    query: Query,
     from: Point,
     to: Point,
     lift: f64,
     movement: Movement,
-) -> EdgeCheck
-    ensures { check_given result ≡ check_given (way_check (space w cells.now perms.now shapes.now boxes.now) r body from to lift movement) }
+) -> Result<Waypoint, Reason>
+    ensures { result ≡ way_check (space_of query.entry.world) query.entry.request query.entry.body from to lift movement }
 {
+    let Query {
+        world,
+        request: r,
+        body,
+    } = query;
     let y = from.y + lift;
-    let raised = Point {
-        x: from.x,
-        y,
-        z: from.z,
-    };
-    let across = Point {
-        x: to.x,
-        y,
-        z: to.z,
-    };
+    let raised = Point { y, ..from };
+    let across = Point { y, ..to };
     let up = Point {
         x: 0.0,
         y: lift,
         z: 0.0,
     };
     if !places::in_range(r, to) {
-        return EdgeCheck::Fails(Reason::TargetOutOfRange);
+        return Err(Reason::TargetOutOfRange);
     }
     if !places::in_range(r, raised) {
-        return EdgeCheck::Fails(Reason::RaisedOutOfRange);
+        return Err(Reason::RaisedOutOfRange);
     }
-    if !places::standable(w, cells, perms, shapes, boxes, body, to) {
-        return EdgeCheck::Fails(Reason::TargetNotStandable);
+    if !places::standable(world, body, to) {
+        return Err(Reason::TargetNotStandable);
     }
-    let lifting = sweep(w, cells, perms, shapes, boxes, body, from, up);
-    if !lifting.clear {
-        return EdgeCheck::Fails(Reason::LiftBlocked);
+    let lifting = sweep(world, body, from, up).ok_or(Reason::LiftBlocked)?;
+    let over = difference(across, raised);
+    let crossing = sweep(world, body, raised, over).ok_or(Reason::CrossingBlocked)?;
+    let down = difference(to, across);
+    let settling = sweep(world, body, across, down).ok_or(Reason::SettleBlocked)?;
+    if !segments::supported_segment(world, body.width, from, to) {
+        return Err(Reason::Unsupported);
     }
-    let crossing = sweep(
-        w,
-        cells,
-        perms,
-        shapes,
-        boxes,
-        body,
-        raised,
-        difference(across, raised),
-    );
-    if !crossing.clear {
-        return EdgeCheck::Fails(Reason::CrossingBlocked);
-    }
-    let settling = sweep(
-        w,
-        cells,
-        perms,
-        shapes,
-        boxes,
-        body,
-        across,
-        difference(to, across),
-    );
-    if !settling.clear {
-        return EdgeCheck::Fails(Reason::SettleBlocked);
-    }
-    if !segments::supported_segment(w, cells, perms, shapes, boxes, body.width, from, to) {
-        return EdgeCheck::Fails(Reason::Unsupported);
-    }
-    let door = or_else(lifting.door, or_else(crossing.door, settling.door)) as u64;
-    EdgeCheck::Passes(Waypoint {
+    let door = u64::from(or_else(lifting, or_else(crossing, settling)));
+    Ok(Waypoint {
         feet: to,
         lift,
         movement,

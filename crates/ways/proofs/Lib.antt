@@ -1,2 +1,0 @@
--- Theorems on the definitions of specs/.
-pub mod Laws
