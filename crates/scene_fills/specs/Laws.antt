@@ -9,7 +9,7 @@ use Rattle.fields.specs.Little.{signed_field}
 use Rattle.regions.specs.declared.Range.{Range}
 use Rattle.regions.specs.declared.Region.{Region}
 use Rattle.regions.specs.declared.Spot.{Spot}
-use Rattle.regions.specs.RegionLaws.{Within, Inside}
+use Rattle.regions.specs.Regions.{Within, Inside}
 use Rattle.world.specs.declared.Window.{Window}
 use Rattle.world.specs.Sizes.{Sizes}
 use Rattle.scene_fills.specs.Fills.{clipped, axis_of, region_of}

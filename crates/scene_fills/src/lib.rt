@@ -38,11 +38,8 @@ fn fill_region(w: Window, region: Region, state: u32, shape: u32, cells: &mut [u
     requires { Clipped w region }
     ensures { cells.new ≡ foldl (with_cell w.sx w.sz state shape) cells.old (cells_of region) }
 {
-    let mut cursor = regions::first_in(region);
-    while cursor.more {
-        let at = cursor.at;
+    for at in region.cells() {
         scene_tables::put_entry(cells, number(w.sx, w.sz, at), state, shape);
-        cursor = regions::next_in(region, at);
     }
 }
 

@@ -14,6 +14,6 @@ unfolding joins
 loop-part-preserved c =
     let i = c.loop-part.invariant in
     record {
-      joined = rw c.max-so_far.ensures (joined_on c.in-Some.part.now (λ is o. (All-pop (λ i. Memᴰ i is) _ _ (Some c.in-Some.part.now) c.in-Some.ensures.steps (i.left is o)).1) c.if-part-so_far.true i.joined);
+      joined = rw c.max-so_far.ensures (joined_on c.in-Some.part.now (λ is o. (All-pop (λ i. Memᴰ i is) _ _ (Some c.in-Some.part.now) c.in-Some.ensures.steps (i.left is o)).1) (cc) i.joined);
       left = λ is o. (All-pop (λ i. Memᴰ i is) _ _ (Some c.in-Some.part.now) c.in-Some.ensures.steps (i.left is o)).0;
     }
