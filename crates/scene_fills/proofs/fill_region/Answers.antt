@@ -1,6 +1,5 @@
 -- `scene_fills::fill_region` meets its contract. Assumes nothing.
-use Rattle.std.proofs.Common.{arith, refl, sym, ap, ◌∙◌}
-use Rattle.std.proofs.lemmas.Grind.{common_steps}
+use Rattle.std.proofs.Common.{refl, sym, ap, ◌∙◌}
 use Rattle.std.proofs.lemmas.List.Elements.{All-head, All-same, All-rest}
 use mathlib.Core.List.{foldl}
 use Rattle.regions.specs.Regions.{Inside}
