@@ -1,5 +1,5 @@
 -- What the code goes by: a list, pair by pair, and what is judged before it.
-use Rattle.std.specs.Prelude.{ℕ, suc, ◌+◌, ◌-◌, ◌/◌, ◌≤◌, ◌<◌, ◌≡◌, refl, Bool, true, false, cond, List, [], ◌∷◌, eqb, length, Result, Ok, Err}
+use Rattle.std.specs.Prelude.{ℕ, suc, ◌+◌, ◌-◌, ◌/◌, ◌≤◌, ◌<◌, ◌≡◌, refl, Bool, true, false, not, cond, List, [], ◌∷◌, eqb, length, Result, Ok, Err}
 use Rattle.std.proofs.Common.{arith, sym, eqb-true}
 use Rattle.std.proofs.Math.Numerals.{add-one}
 use Rattle.std.proofs.lemmas.Bool.{eqb-false}
@@ -18,10 +18,11 @@ use Rattle.words.specs.Words.{feet_of}
 use Rattle.steps.specs.Graph.{graph}
 use Rattle.listed.specs.Listed.{entry, entries_from}
 use Rattle.pairs.specs.Laws.{turned}
+use Rattle.tables.specs.BadWorld.{bad_world}
+use Rattle.request.specs.Request.{valid_request, sizes_too_large}
 use Rattle.questions.specs.declared.Judgement.{Judgement}
 use Rattle.questions.specs.declared.Judgement.TheVariants as judgements
 use Rattle.questions.specs.Questions.{question}
-use Rattle.questions.proofs.Laws.{said_of, said}
 use Rattle.walk_back.specs.declared.Fault.TheVariants.{InvalidRequest}
 use Rattle.walk_back.specs.declared.Denied.{Denied}
 use Rattle.walk_back.specs.declared.Denied.TheVariants.{BadWorld, TooLarge, Fault as No}
@@ -74,18 +75,20 @@ module _ (sp : Space) (r : Request) (body : Body) (s : List ℕ) (p : Feet) (k :
 
 -- ---- what is judged first
 
--- what is answered of a list by what was judged of the request: the answer of its own where nothing was said
+-- what is answered of a list by what was judged of the request: its own answer where nothing was said
 module _ (w : Window) (cells perms shapes boxes : List ℕ) (r : Request) (body : Body) (list : List ℕ) where
-  abbrev answered : Result (Unit {0}) Judgement → Result (Unit {0}) Denied
+  abbrev pub answered : Result (Unit {0}) Judgement → Result (Unit {0}) Denied
   answered (Err j) = Err (denied_by j)
   answered (Ok _) = denied (walked_list (space w cells perms shapes boxes) r body list)
 
-  pub by_question : {q : Result (Unit {0}) Judgement} → question w cells shapes boxes r body ≡ q → answered q ≡ walked w cells perms shapes boxes r body list
+  pub by_question : answered (question w cells shapes boxes r body) ≡ walked w cells perms shapes boxes r body list
   unfolding walked
-  by_question {q} e = as_said q ∙ said (Err BadWorld) (Err (No InvalidRequest)) (Err TooLarge) (denied (walked_list (space w cells perms shapes boxes) r body list)) w cells shapes boxes r body e
+  by_question = go (bad_world w cells shapes boxes) (valid_request r body) (sizes_too_large r body)
     where
-      as_said : (q : Result (Unit {0}) Judgement) → answered q ≡ said_of (Err BadWorld) (Err (No InvalidRequest)) (Err TooLarge) (denied (walked_list (space w cells perms shapes boxes) r body list)) q
-      as_said (Err judgements.BadWorld) = refl
-      as_said (Err judgements.Invalid) = refl
-      as_said (Err judgements.TooLarge) = refl
-      as_said (Ok _) = refl
+      go : (a b c : Bool) →
+          answered (cond a (Err judgements.BadWorld) (cond (not b) (Err judgements.Invalid) (cond c (Err judgements.TooLarge) (Ok tt))))
+          ≡ cond a (Err BadWorld) (cond (not b) (Err (No InvalidRequest)) (cond c (Err TooLarge) (denied (walked_list (space w cells perms shapes boxes) r body list))))
+      go true b c = refl
+      go false false c = refl
+      go false true true = refl
+      go false true false = refl
