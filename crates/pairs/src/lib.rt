@@ -54,9 +54,9 @@ fn look_column(
     n: usize,
     v: WaypointRecord,
 ) -> Option<bool>
-    requires band_value { band ≡ band_of query.entry.request query.entry.body from }
-    requires looked_value { looked ≡ looked_by (sides_before (space_of query.entry.world) query.entry.request query.entry.body from n) n }
-    ensures { Noted v from (column_if (space_of query.entry.world) query.entry.request query.entry.body from n) result [] }
+    requires band_value { let t = query.entry in band ≡ band_of t.request t.body from }
+    requires looked_value { let t = query.entry in looked ≡ looked_by (sides_before (space_of t.world) t.request t.body from n) n }
+    ensures { let t = query.entry in Noted v from (column_if (space_of t.world) t.request t.body from n) result [] }
 {
     let mut level = false;
     if !looked {
@@ -88,7 +88,7 @@ fn look_column(
 
 // Whether a graph step leads from a point to a record.
 fn has_step(query: Query, from: Point, v: WaypointRecord) -> bool
-    ensures { result ≡ has (leads_to v) (steps_from (space_of query.entry.world) query.entry.request query.entry.body from) }
+    ensures { let t = query.entry in result ≡ has (leads_to v) (steps_from (space_of t.world) t.request t.body from) }
 {
     let band = steps::band_of(query.request, query.body, from);
     let mut sides = Sides::none();
@@ -103,7 +103,7 @@ fn has_step(query: Query, from: Point, v: WaypointRecord) -> bool
 
 // Whether a pair is the graph's: a graph step leads from the feet to the record, or at the last pair a connector to the goal.
 pub fn is_joined(query: Query, from: Feet, v: WaypointRecord, last: bool) -> bool
-    ensures { result ≡ joined (graph (space_of query.entry.world) query.entry.request query.entry.body) last from (entry v) }
+    ensures { let t = query.entry in result ≡ joined (graph (space_of t.world) t.request t.body) last from (entry v) }
 {
     let point = words::point_of(from);
     has_step(query, point, v)
@@ -113,7 +113,7 @@ pub fn is_joined(query: Query, from: Feet, v: WaypointRecord, last: bool) -> boo
 
 // Why a pair is none of the graph's.
 pub fn fault_of(query: Query, from: Feet, to: Feet, last: bool) -> PairFault
-    ensures { result ≡ pair_fault (space_of query.entry.world) query.entry.request query.entry.body last from to }
+    ensures { let t = query.entry in result ≡ pair_fault (space_of t.world) t.request t.body last from to }
 {
     match edges::edge_check(query, words::point_of(from), words::point_of(to)) {
         Err(why) => PairFault::NoEdge(why),

@@ -57,7 +57,7 @@ impl From<Judgement> for Denied {
 
 // How the records behind the first lead from it to the goal, or where they do not.
 fn leads(query: Query, list: &[u8]) -> Result<(), Fault>
-    ensures { result ≡ walked_by (space_of query.entry.world) query.entry.request query.entry.body (going_on (space_of query.entry.world) query.entry.request query.entry.body list.now) }
+    ensures { let t = query.entry in result ≡ walked_by (space_of t.world) t.request t.body (going_on (space_of t.world) t.request t.body list.now) }
 {
     let n = list.len() / 48;
     let mut from = rooms::get_waypoint(list, 0).feet;
@@ -79,7 +79,7 @@ fn leads(query: Query, list: &[u8]) -> Result<(), Fault>
 // What is answered of a list once nothing refuses: yes, or the first reason.
 #[tactic(auto, unfolding(crate::specs::WalkBack::walked_list))]
 fn walk_list(query: Query, list: &[u8]) -> Result<(), Fault>
-    ensures { result ≡ walked_list (space_of query.entry.world) query.entry.request query.entry.body list.now }
+    ensures { let t = query.entry in result ≡ walked_list (space_of t.world) t.request t.body list.now }
 {
     let start = query.request.start;
     let goal = query.request.goal;
