@@ -1,7 +1,8 @@
 -- What is answered without a search (01, "Numbers given back"). Definitions only.
-use Rattle.std.specs.Prelude.{ℕ, ◌+◌, ◌*◌, Bool, not, ◌||◌, cond, List, eqb, ltb}
+use Rattle.std.specs.Prelude.{ℕ, ◌+◌, ◌*◌, Bool, not, ◌||◌, cond, List, eqb, ltb, Result, Ok, Err}
 use Rattle.std.proofs.Math.Option.{Option, none, some}
 use Rattle.world.specs.declared.Body.{Body}
+use Rattle.world.specs.declared.Query.{Query}
 use Rattle.world.specs.declared.Request.{Request}
 use Rattle.world.specs.declared.Window.{Window}
 use Rattle.world.specs.Space.{space}
@@ -10,9 +11,6 @@ use Rattle.request.specs.Request.{valid_request, too_large}
 use Rattle.ends.specs.Ends.{ends_good}
 use Rattle.outcomes.specs.declared.Outcome.{Outcome}
 use Rattle.outcomes.specs.declared.Outcome.TheVariants.{Unreachable, BudgetExceeded, BadWorld, TooLarge, NoRoom}
-use Rattle.outcomes.specs.Outcomes.{outcome_number}
-use Rattle.refusals.specs.declared.Judged.{Judged}
-use Rattle.refusals.specs.declared.Judged.TheVariants.{Refused, Begins}
 
 -- "5 NoRoom: node or frontier room under node_budget records, output under node_budget + 1"; 02, No. 5: "Rooms are counted in the new sizes". Of
 -- rooms of so many bytes.
@@ -43,12 +41,16 @@ without_search w cells perms shapes boxes r body nodes front out wrong_index =
     (cond (eqb r.node_budget 0) (some BudgetExceeded)
     none))
 
--- its number by 01's table; a search that begins has none yet
-abbrev pub number_if : Option Outcome → Option ℕ
-number_if (some o) = some (outcome_number o)
-number_if none = none
+-- ---- what the code answers of a query: nothing where there is no such answer, else that answer as its refusal
 
--- the number of what the code answers; its cases have no other values
-abbrev pub judged_number : Judged → Option ℕ
-judged_number (Refused o) = some (outcome_number o)
-judged_number Begins = none
+abbrev pub refused_with : Option Outcome → Result (Unit {0}) Outcome
+refused_with (some o) = Err o
+refused_with none = Ok tt
+
+abbrev pub call_answer : Query → ℕ → ℕ → ℕ → Bool → Result (Unit {0}) Outcome
+call_answer q nodes front out wrong_index =
+    refused_with (without_call q.world.window q.world.cells.now q.world.shapes.now q.world.boxes.now q.request q.body nodes front out wrong_index)
+
+abbrev pub search_answer : Query → ℕ → ℕ → ℕ → Bool → Result (Unit {0}) Outcome
+search_answer q nodes front out wrong_index =
+    refused_with (without_search q.world.window q.world.cells.now q.world.perms.now q.world.shapes.now q.world.boxes.now q.request q.body nodes front out wrong_index)

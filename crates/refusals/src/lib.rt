@@ -3,86 +3,55 @@
 #![tactic(auto)]
 
 ghost use Rattle.std.specs.Prelude.{◌≡◌};
-ghost use Rattle.refusals.specs.Refusals.{without_call, without_search, number_if, judged_number};
+ghost use Rattle.refusals.specs.Refusals.{call_answer, search_answer};
 
 use outcomes::Outcome;
-use world::{Body, Request, Window};
+use world::Query;
 
-// The answer without a search, or that the search begins.
-#[derive(Clone, Copy)]
-pub enum Judged {
-    Refused(Outcome),
-    Begins,
-}
-
-// A call judged as far as its rooms, in 01's order; of the three rooms only their lengths count, and of an index whether its size is wrong.
+// A call judged as far as its rooms, in 01's order: refused with an outcome, or passed. Of the three rooms only their lengths count, and of an index whether its
+// size is wrong.
 pub fn judge_call(
-    w: Window,
-    cells: &[u8],
-    shapes: &[u8],
-    boxes: &[u8],
-    r: Request,
-    body: Body,
+    query: Query,
     nodes: usize,
     front: usize,
     out: usize,
     wrong_index: bool,
-) -> Judged
-    ensures { judged_number result ≡ number_if (without_call w cells.now shapes.now boxes.now r body nodes front out wrong_index) }
+) -> Result<(), Outcome>
+    ensures { result ≡ call_answer query.entry nodes front out wrong_index }
 {
-    if tables::bad_world(w, cells, shapes, boxes) {
-        return Judged::Refused(Outcome::BadWorld);
+    let r = query.request;
+    if tables::bad_world(query.world) {
+        return Err(Outcome::BadWorld);
     }
-    if !request::valid_request(r, body) {
-        return Judged::Refused(Outcome::Unreachable);
+    if !request::valid_request(r, query.body) {
+        return Err(Outcome::Unreachable);
     }
-    if request::too_large(r, body) {
-        return Judged::Refused(Outcome::TooLarge);
+    if request::too_large(r, query.body) {
+        return Err(Outcome::TooLarge);
     }
     let n = r.node_budget as usize;
     if (nodes / 64 < n) | (front / 24 < n) | (out / 48 <= n) | wrong_index {
-        return Judged::Refused(Outcome::NoRoom);
+        return Err(Outcome::NoRoom);
     }
-    Judged::Begins
+    Ok(())
 }
 
 // A search judged: the call, then its ends and its budget.
 pub fn judge(
-    w: Window,
-    cells: &[u8],
-    perms: &[u8],
-    shapes: &[u8],
-    boxes: &[u8],
-    r: Request,
-    body: Body,
+    query: Query,
     nodes: usize,
     front: usize,
     out: usize,
     wrong_index: bool,
-) -> Judged
-    ensures { judged_number result ≡ number_if (without_search w cells.now perms.now shapes.now boxes.now r body nodes front out wrong_index) }
+) -> Result<(), Outcome>
+    ensures { result ≡ search_answer query.entry nodes front out wrong_index }
 {
-    let judged = judge_call(
-        w,
-        cells,
-        shapes,
-        boxes,
-        r,
-        body,
-        nodes,
-        front,
-        out,
-        wrong_index,
-    );
-    if let Judged::Refused(outcome) = judged {
-        return Judged::Refused(outcome);
+    judge_call(query, nodes, front, out, wrong_index)?;
+    if !ends::ends_good(query) {
+        return Err(Outcome::Unreachable);
     }
-    if !ends::ends_good(w, cells, perms, shapes, boxes, r, body) {
-        return Judged::Refused(Outcome::Unreachable);
+    if query.request.node_budget == 0 {
+        return Err(Outcome::BudgetExceeded);
     }
-    if r.node_budget == 0 {
-        Judged::Refused(Outcome::BudgetExceeded)
-    } else {
-        Judged::Begins
-    }
+    Ok(())
 }
