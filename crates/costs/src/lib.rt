@@ -7,6 +7,7 @@ ghost use Rattle.costs.specs.Costs.{apart, cost_by, estimate_by, cheaper, pushed
 use rooms::{Entry, Feet};
 
 // How far apart two points are.
+#[tactic(auto, unfolding(crate::specs::Costs::apart))]
 fn apart(p: Feet, q: Feet) -> f64
     ensures { result ≡ apart p q }
 {
@@ -17,6 +18,7 @@ fn apart(p: Feet, q: Feet) -> f64
 }
 
 // The cost of a point that is reached from another.
+#[tactic(auto, unfolding(crate::specs::Costs::cost_by))]
 pub fn cost_by(walked: u64, from: Feet, to: Feet) -> u64
     ensures { result ≡ cost_by walked from to }
 {
@@ -25,6 +27,7 @@ pub fn cost_by(walked: u64, from: Feet, to: Feet) -> u64
 }
 
 // The estimate of a point of a cost.
+#[tactic(auto, unfolding(crate::specs::Costs::estimate_by))]
 pub fn estimate(goal: Feet, cost: u64, to: Feet) -> u64
     ensures { result ≡ estimate_by goal cost to }
 {
@@ -33,6 +36,7 @@ pub fn estimate(goal: Feet, cost: u64, to: Feet) -> u64
 }
 
 // Whether a new cost re-parents a node of an old one.
+#[tactic(auto, unfolding(crate::specs::Costs::cheaper))]
 pub fn cheaper(new: u64, old: u64) -> bool
     ensures { result ≡ cheaper new old }
 {
@@ -51,6 +55,7 @@ pub fn pushed_as(estimate: u64, order: u64) -> Entry
 }
 
 // The entry of a node that is pushed again. One that does not wait has no entry to keep: only rooms that another hand changed have such an open node.
+#[tactic(auto, unfolding(crate::specs::Costs::lowered))]
 pub fn lowered(e: u64, old: Entry, order: u64) -> Entry
     ensures { result ≡ lowered e old order }
 {

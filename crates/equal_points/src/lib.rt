@@ -15,6 +15,7 @@ pub fn canonical_word(n: u64) -> u64
 }
 
 // Whether two coordinates, or two lifts, are the same.
+#[tactic(auto, unfolding(rooms::specs::Waypoints::same_word))]
 pub fn same_word(a: u64, b: u64) -> bool
     ensures { result ≡ same_word a b }
 {
@@ -22,6 +23,7 @@ pub fn same_word(a: u64, b: u64) -> bool
 }
 
 // Whether two points are the same.
+#[tactic(auto, unfolding(rooms::specs::Waypoints::same_point))]
 pub fn same_point(p: Feet, q: Feet) -> bool
     ensures { result ≡ same_point p q }
 {

@@ -5,7 +5,7 @@ use Rattle.std.proofs.Common.{le-div_iff_mul-le, div-lt_iff_lt-mul, mul-suc, mul
 use Rattle.std.specs.Prelude.{◌≡◌, Bool, get_or, drop, replicate}
 use Rattle.std.proofs.Math.Path.{refl, ap}
 use Rattle.std.proofs.Math.Bool.{true, false, cond}
-use mathlib.Core.List.{List}
+use mathlib.Core.List.{List, [], ◌∷◌}
 use borrow.Author.Tests.{le-leb, lt-leb}
 use Rattle.std.proofs.Math.ListN.{length}
 use Rattle.fields.specs.Little.{fits_at, with_field}
@@ -77,3 +77,8 @@ module _ (old : List ℕ) (k : ℕ) (words : List ℕ) where
   pub rest_out : (i : ℕ) (s : List ℕ) → i < length words → length old / (8 * length words) ≤ k → rest old k words i s ≡ s
   unfolding rest
   rest_out i s h l = rw (lt-leb (8 * length words * k + 8 * length words) (length old) (outside (length words) k (length old) (omega arith) l))
+
+-- nothing is written where the record is none of the table
+pub none_out : (old : List ℕ) (k : ℕ) (words : List ℕ) → (0 < 8 * length words → length old / (8 * length words) ≤ k) → rest old k words 0 old ≡ old
+none_out old k [] h = rest_none old k [] 0 old (omega arith)
+none_out old k (w ∷ words) h = rest_out old k (w ∷ words) 0 old (omega arith) (h (omega arith))

@@ -8,10 +8,11 @@ ghost use Rattle.fields.specs.Records.{with_words};
 pub fn put_record(s: &mut [u8], k: usize, words: &[u64])
     ensures { s.new ≡ with_words s.old k words.now }
 {
-    let n = words.len();
-    let mut i: usize = 0;
-    while (i < n) && (k < s.len() / (8 * n)) {
-        stores::put_u64(s, 8 * n * k + 8 * i, words[i]);
-        i += 1;
+    let size = 8 * words.len();
+    let inside = k < s.len().checked_div(size).unwrap_or(0);
+    if inside {
+        for (i, word) in words.iter().enumerate() {
+            stores::put_u64(s, size * k + 8 * i, *word);
+        }
     }
 }

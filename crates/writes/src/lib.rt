@@ -35,7 +35,7 @@ pub fn put_node(nodes: &mut [u8], k: usize, r: NodeRecord)
         r.label.movement,
         r.label.door,
         r.cost,
-        (r.parent as u64) + 4294967296 * (r.closed as u64),
+        u64::from(r.parent) + 4294967296 * u64::from(r.closed),
     ];
     records::put_record(nodes, k, &words);
 }
@@ -51,9 +51,5 @@ pub fn put_entry(front: &mut [u8], k: usize, e: Entry)
 pub fn zero(room: &mut [u8])
     ensures { room.new ≡ replicate (length room.old) 0 }
 {
-    let mut i = 0;
-    while i < room.len() {
-        room[i] = 0;
-        i += 1;
-    }
+    room.fill(0);
 }

@@ -9,4 +9,4 @@ pub returns : goal.returns
 returns c =
     let a = c.args in
     let fill : Fill node_layout (node_words a.r) = search rules in
-    put_node a.nodes.now a.k a.r fill c.put_record.ensures
+    put_node a.nodes.now a.k a.r fill (rw (c.from.ensures, c.from-2.ensures) at c.put_record.ensures)

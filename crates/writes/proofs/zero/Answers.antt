@@ -1,21 +1,28 @@
 -- `writes::zero` meets its contract. Assumes nothing.
-use Rattle.std.proofs.Common.{arith, ◌≡◌, refl, ap, ◌∙◌, ℕ, List, ◌++◌, append-nil, length, length-set, set, drop, replicate}
-use lib.Seq.{drop-length}
-use borrow.Author.Fill.{fill_none, fill_more}
+use Rattle.std.specs.Prelude.{◌≡◌, refl, Bool, true, false, ltb, ◌-◌, zero, suc, ◌<◌, List, [], ◌∷◌, length, get_or, replicate}
+use Rattle.std.proofs.Common.{arith, ℕ, ltb-true, ltb-false}
 use Rattle.writes.proofs.zero.Goals as goal
 
-pub loop-i-init : goal.loop-i-init
-loop-i-init c = (omega arith, refl, fill_none _ 0)
+-- a list that has one number everywhere
+filled : (v n : ℕ) (s : List ℕ) → length s ≡ n → ((k : ℕ) → k < n → get_or s k v ≡ v) → s ≡ replicate n v
+filled v zero [] e h = cc
+filled v zero (x ∷ s) e h = absurd (omega arith)
+filled v (suc n) [] e h = absurd (omega arith)
+filled v (suc n) (x ∷ s) e h =
+    let first : x ≡ v = h 0 (omega arith) in
+    let rest : s ≡ replicate n v = filled v n s (omega arith) (λ k l. h (suc k) (omega arith)) in
+    cc
 
-pub loop-i-preserved : goal.loop-i-preserved
-loop-i-preserved c = (omega arith, simp length-set c.loop-i.invariant.1, ap (λ (x : List ℕ). set x c.loop-i.i 0) c.loop-i.invariant.2 ∙ fill_more c.loop-i.i 0 c.args.room.now (omega arith))
-
-pub shape_of-room : goal.shape_of-room
-shape_of-room c = c.loop-i.invariant.1
+-- before its last place and at it
+each : (n : ℕ) (s : List ℕ) → ((j : ℕ) → j < n - 1 → get_or s j 0 ≡ 0) → (0 < n → get_or s (n - 1) 0 ≡ 0) → (k : ℕ) → k < n → get_or s k 0 ≡ 0
+each n s h l k m = go (ltb k (n - 1)) refl
+  where
+    go : (b : Bool) → ltb k (n - 1) ≡ b → get_or s k 0 ≡ 0
+    go true e = h k (ltb-true k (n - 1) e)
+    go false e = let z : k ≡ n - 1 = omega (arith, ltb-false k (n - 1) e) in rw z (l (omega arith))
 
 pub returns : goal.returns
 returns c =
-    let a = c.args in
-    let e : c.loop-i.i ≡ length a.room.now = omega arith in
-    c.loop-i.invariant.2 ∙ ap (λ (i : ℕ). replicate i 0 ++ drop i a.room.now) e
-    ∙ ap (λ (x : List ℕ). replicate (length a.room.now) 0 ++ x) (drop-length a.room.now) ∙ append-nil (replicate (length a.room.now) 0)
+    let n : ℕ = length c.args.room.now in
+    let f = c.fill.ensures in
+    filled 0 n c.fill.new.self f.len (λ k l. each n c.fill.new.self (λ j m. f.clones_before_last j 0 (omega arith) m) (λ p. f.last p 0) k l)
