@@ -1,6 +1,6 @@
 -- What the edge check says, one theorem: its reason is the first in 02's order, of a difference in height that no movement takes which of the two, and of a way the first
 -- test that fails.
-use Rattle.std.specs.Prelude.{ℕ, ◌+◌, ◌≡◌, Bool, not, List, [], ◌∷◌, Float}
+use Rattle.std.specs.Prelude.{ℕ, ◌+◌, ◌≡◌, Bool, not, List, [], ◌∷◌, Float, Option, Some, None, Ok, Err}
 use Rattle.std.proofs.Common.{arith, sym}
 use Rattle.std.proofs.Math.Path.{refl}
 use Rattle.std.proofs.Math.Bool.{true, false, cond}
@@ -15,17 +15,15 @@ use Rattle.clear.specs.Clear.{clear}
 use Rattle.support.specs.Support.{supported}
 use Rattle.places.specs.Places.{in_range, standable}
 use Rattle.moves.specs.declared.answer.Movement.TheVariants.{Walk, Step, Jump, Drop}
-use Rattle.moves.specs.declared.answer.Moving.{Moving}
-use Rattle.moves.specs.declared.answer.Moving.TheVariants.{By, None}
+use Rattle.moves.specs.declared.answer.Movement.{Movement}
 use Rattle.moves.specs.declared.answer.Waypoint.{Waypoint}
 use Rattle.moves.specs.declared.answer.Reason.{Reason}
 use Rattle.moves.specs.declared.answer.Reason.TheVariants.{TooHigh, TooDeep, TargetOutOfRange, RaisedOutOfRange, TargetNotStandable, LiftBlocked, CrossingBlocked, SettleBlocked, Unsupported}
-use Rattle.moves.specs.declared.answer.EdgeCheck.TheVariants.{Passes, Fails}
 use Rattle.moves.specs.Moves.{reason_number, step_height, rising, falling, moving}
 use Rattle.ways.specs.Ways.{raised, lift_area, crossing_area, settle_area, waypoint_by, way_check}
 use Rattle.edges.specs.Reasons.{check_by, edge_check}
 
-none_by : {A : Type 0} {m : _} {l : Float} → By m l ≡ None → A
+none_by : {A : Type 0} {m : Movement} {l : Float} → ◌≡◌ {A = Option (Movement × Float)} (Some (m, l)) None → A
 none_by e = absurd (let z : ◌≡◌ {A = ℕ} 0 1 = cc in omega arith)
 
 -- ---- heights
@@ -44,7 +42,7 @@ module _ (r : Request) (body : Body) (dy : Float) where
   too_far e = go (lt E dy) (le dy (add binary64 (step_height r body) E)) (le dy (add binary64 r.jump_height E)) (lt dy (neg E)) (le (neg dy) (add binary64 r.max_drop E)) e
     where
       go : {why : Reason} (rise step jump fall drop : Bool) →
-          cond rise (cond step (By Step dy) (cond jump (By Jump r.jump_height) None)) (cond fall (cond drop (By Drop nought) None) (By Walk (larger dy nought))) ≡ None →
+          cond {A = Option (Movement × Float)} rise (cond step (Some (Step, dy)) (cond jump (Some (Jump, r.jump_height)) None)) (cond fall (cond drop (Some (Drop, nought)) None) (Some (Walk, larger dy nought))) ≡ None →
           cond rise TooHigh TooDeep ≡ why → Untaken rise step jump fall drop why
       go true true jump fall drop e w = none_by e
       go true false true fall drop e w = none_by e
@@ -57,7 +55,7 @@ module _ (r : Request) (body : Body) (dy : Float) where
 
 -- the seven tests one after the other
 in_turn_lem : {why : Reason} (w : Waypoint) (a b c d e f g : Bool) →
-    cond a (cond b (cond c (cond d (cond e (cond f (cond g (Passes w) (Fails Unsupported)) (Fails SettleBlocked)) (Fails CrossingBlocked)) (Fails LiftBlocked)) (Fails TargetNotStandable)) (Fails RaisedOutOfRange)) (Fails TargetOutOfRange) ≡ Fails why →
+    cond a (cond b (cond c (cond d (cond e (cond f (cond g (Ok w) (Err Unsupported)) (Err SettleBlocked)) (Err CrossingBlocked)) (Err LiftBlocked)) (Err TargetNotStandable)) (Err RaisedOutOfRange)) (Err TargetOutOfRange) ≡ Err why →
     reason_number why ≡ 103 + first_failing (not a ∷ not b ∷ not c ∷ not d ∷ not e ∷ not f ∷ not g ∷ [])
 in_turn_lem {why} w false b c d e f g h = let z : TargetOutOfRange ≡ why = cc in rw (← z)
 in_turn_lem {why} w true false c d e f g h = let z : RaisedOutOfRange ≡ why = cc in rw (← z)
@@ -76,18 +74,18 @@ module _ (sp : Space) (r : Request) (body : Body) (from to : Point) where
       ∷ not (clear sp (settle_area body from to lift)) ∷ not (supported sp body.width from to) ∷ []
 
   -- what a reason says: where no movement takes the difference in height, how far it goes; else it is that of the first test that fails
-  abbrev pub ReasonTold : Moving → Reason → Type 0
+  abbrev pub ReasonTold : Option (Movement × Float) → Reason → Type 0
   ReasonTold None why = TooFar r body (sub binary64 to.y from.y) why
-  ReasonTold (By movement lift) why = reason_number why ≡ 103 + first_failing (way_failures lift)
+  ReasonTold (Some (movement, lift)) why = reason_number why ≡ 103 + first_failing (way_failures lift)
 
-  by_moving : {why : Reason} (m : Moving) → moving r body (sub binary64 to.y from.y) ≡ m → check_by sp r body from to m ≡ Fails why → ReasonTold m why
+  by_moving : {why : Reason} (m : Option (Movement × Float)) → moving r body (sub binary64 to.y from.y) ≡ m → check_by sp r body from to m ≡ Err why → ReasonTold m why
   unfolding way_check
   by_moving {why} None n e = too_far r body (sub binary64 to.y from.y) n (let z : cond (lt E (sub binary64 to.y from.y)) TooHigh TooDeep ≡ why = cc in z)
-  by_moving (By movement lift) n e =
+  by_moving (Some (movement, lift)) n e =
       in_turn_lem (waypoint_by sp body from to lift movement) (in_range r to) (in_range r (raised from lift)) (standable sp body to) (clear sp (lift_area body from lift))
       (clear sp (crossing_area body from to lift)) (clear sp (settle_area body from to lift)) (supported sp body.width from to) e
 
   -- "The edge check should answer its first reason: .. in 01's order."
-  pub first_reason_of_an_edge : {why : Reason} → edge_check sp r body from to ≡ Fails why → ReasonTold (moving r body (sub binary64 to.y from.y)) why
+  pub first_reason_of_an_edge : {why : Reason} → edge_check sp r body from to ≡ Err why → ReasonTold (moving r body (sub binary64 to.y from.y)) why
   unfolding edge_check
   first_reason_of_an_edge e = by_moving (moving r body (sub binary64 to.y from.y)) refl e

@@ -1,5 +1,5 @@
 -- 01, The graph, "Edge" and "Connector", over a space, a request and a body. Definitions only.
-use Rattle.std.specs.Prelude.{Bool, ◌&&◌, cond, Float}
+use Rattle.std.specs.Prelude.{Bool, ◌&&◌, cond, Float, Option, Some, None}
 use Rattle.std.specs.Float.{binary64}
 use Rattle.std.specs.Float.Ieee.{sub, of_bits}
 use Rattle.world.specs.declared.Point.{Point}
@@ -10,10 +10,8 @@ use Rattle.world.specs.Space.{Space}
 use Rattle.clear.specs.Clear.{clear}
 use Rattle.support.specs.Support.{supported}
 use Rattle.places.specs.Places.{near, in_range, standable}
-use Rattle.moves.specs.declared.answer.Moving.{Moving}
-use Rattle.moves.specs.declared.answer.Moving.TheVariants.{By, None}
-use Rattle.moves.specs.declared.answer.EdgeAnswer.{EdgeAnswer}
-use Rattle.moves.specs.declared.answer.EdgeAnswer.TheVariants.{To, Nowhere}
+use Rattle.moves.specs.declared.answer.Movement.{Movement}
+use Rattle.moves.specs.declared.answer.Waypoint.{Waypoint}
 use Rattle.moves.specs.Moves.{moving}
 -- the corners of the way, and the area that a body sweeps from a point on
 pub use Rattle.ways.specs.Ways.{raised, across, up}
@@ -33,13 +31,13 @@ passable sp r body from to lift =
     in_range r to && in_range r (raised from lift) && standable sp body to && way_clear sp body from to lift && supported sp body.width from to
 
 -- the waypoint that a movement leads to, where there is one and the way is passable; it carries the way's door (02, No. 5)
-abbrev pub edge_by : Space → Request → Body → Point → Point → Moving → EdgeAnswer
-edge_by sp r body from to None = Nowhere
-edge_by sp r body from to (By movement lift) =
-    cond (passable sp r body from to lift) (To (waypoint_by sp body from to lift movement)) Nowhere
+abbrev pub edge_by : Space → Request → Body → Point → Point → Option (Movement × Float) → Option Waypoint
+edge_by sp r body from to None = None
+edge_by sp r body from to (Some (movement, lift)) =
+    cond (passable sp r body from to lift) (Some (waypoint_by sp body from to lift movement)) None
 
 -- 01, The graph, "Edge": the movement by dy, and then the checks
-unfoldable pub edge : Space → Request → Body → Point → Point → EdgeAnswer
+unfoldable pub edge : Space → Request → Body → Point → Point → Option Waypoint
 edge sp r body from to = edge_by sp r body from to (moving r body (sub binary64 to.y from.y))
 
 -- "Connector: an edge to the goal with both horizontal differences at most 1.5."
@@ -49,5 +47,5 @@ near_goal r from =
     near most from.x r.goal.x && near most from.z r.goal.z
 
 -- 01, The graph: "Connector: an edge to the goal with both horizontal differences at most 1.5."
-unfoldable pub connector : Space → Request → Body → Point → EdgeAnswer
-connector sp r body from = cond (near_goal r from) (edge sp r body from r.goal) Nowhere
+unfoldable pub connector : Space → Request → Body → Point → Option Waypoint
+connector sp r body from = cond (near_goal r from) (edge sp r body from r.goal) None

@@ -4,76 +4,43 @@
 #![tactic(auto)]
 
 ghost use Rattle.std.specs.Prelude.{◌≡◌};
-ghost use Rattle.world.specs.Space.{space};
-ghost use Rattle.moves.specs.Moves.{edge_given, check_given};
+ghost use Rattle.world.specs.Space.{space_of};
 ghost use Rattle.edges.specs.Edges.{edge, connector};
 ghost use Rattle.edges.specs.Reasons.{edge_check};
 
-use moves::{EdgeAnswer, EdgeCheck, Moving, Reason};
-use world::{Body, Point, Request, Window};
+use moves::{Reason, Waypoint};
+use world::{Point, Query};
 
 // The edge check from one point to another: the waypoint that the edge leads to, or the first reason why there is none.
-pub fn edge_check(
-    w: Window,
-    cells: &[u8],
-    perms: &[u8],
-    shapes: &[u8],
-    boxes: &[u8],
-    r: Request,
-    body: Body,
-    from: Point,
-    to: Point,
-) -> EdgeCheck
-    ensures { check_given result ≡ check_given (edge_check (space w cells.now perms.now shapes.now boxes.now) r body from to) }
+#[tactic(auto, unfolding(crate::specs::Reasons::edge_check))]
+pub fn edge_check(query: Query, from: Point, to: Point) -> Result<Waypoint, Reason>
+    ensures { result ≡ edge_check (space_of query.entry.world) query.entry.request query.entry.body from to }
 {
     let dy = to.y - from.y;
-    let Moving::By(movement, lift) = moves::moving(r, body, dy) else {
+    let Some((movement, lift)) = moves::moving(query.request, query.body, dy) else {
         if floats::E < dy {
-            return EdgeCheck::Fails(Reason::TooHigh);
+            return Err(Reason::TooHigh);
         }
-        return EdgeCheck::Fails(Reason::TooDeep);
+        return Err(Reason::TooDeep);
     };
-    ways::way_check(
-        w, cells, perms, shapes, boxes, r, body, from, to, lift, movement,
-    )
+    ways::way_check(query, from, to, lift, movement)
 }
 
 // The edge from one point to another.
-pub fn edge(
-    w: Window,
-    cells: &[u8],
-    perms: &[u8],
-    shapes: &[u8],
-    boxes: &[u8],
-    r: Request,
-    body: Body,
-    from: Point,
-    to: Point,
-) -> EdgeAnswer
-    ensures { edge_given result ≡ edge_given (edge (space w cells.now perms.now shapes.now boxes.now) r body from to) }
+pub fn edge(query: Query, from: Point, to: Point) -> Option<Waypoint>
+    ensures { result ≡ edge (space_of query.entry.world) query.entry.request query.entry.body from to }
 {
-    let EdgeCheck::Passes(step) = edge_check(w, cells, perms, shapes, boxes, r, body, from, to)
-    else {
-        return EdgeAnswer::Nowhere;
-    };
-    EdgeAnswer::To(step)
+    edge_check(query, from, to).ok()
 }
 
 // The edge to the goal, from a point that is near enough.
-pub fn connector(
-    w: Window,
-    cells: &[u8],
-    perms: &[u8],
-    shapes: &[u8],
-    boxes: &[u8],
-    r: Request,
-    body: Body,
-    from: Point,
-) -> EdgeAnswer
-    ensures { edge_given result ≡ edge_given (connector (space w cells.now perms.now shapes.now boxes.now) r body from) }
+#[tactic(auto, unfolding(crate::specs::Edges::connector))]
+pub fn connector(query: Query, from: Point) -> Option<Waypoint>
+    ensures { result ≡ connector (space_of query.entry.world) query.entry.request query.entry.body from }
 {
+    let r = query.request;
     if places::near(1.5, from.x, r.goal.x) & places::near(1.5, from.z, r.goal.z) {
-        return edge(w, cells, perms, shapes, boxes, r, body, from, r.goal);
+        return edge(query, from, r.goal);
     }
-    EdgeAnswer::Nowhere
+    None
 }
