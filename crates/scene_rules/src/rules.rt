@@ -57,8 +57,8 @@ fn rule_kept(counts: Counts, bytes: &[u8], kind: u8) -> bool
     }
 }
 
-// Whether the record is good. Its first four bytes are its kind alone where the three behind the kind are zero.
-#[tactic(auto, using(crate::specs::Laws::head_is), unfolding(crate::specs::Rules::good))]
+// Whether the record is good.
+#[tactic(auto, unfolding(crate::specs::Rules::good, scene_records::specs::Layout::three_zeros))]
 pub fn good_record(last: u8, counts: Counts, bytes: &[u8]) -> bool
     ensures { result ≡ good last counts bytes.now }
 {
@@ -67,7 +67,7 @@ pub fn good_record(last: u8, counts: Counts, bytes: &[u8]) -> bool
     }
     let kind = byte_at(bytes, 0);
     let ordered = in_order(last, kind);
-    let head = fields::u32_at(bytes, 0);
+    let padded = (byte_at(bytes, 1) == 0) & (byte_at(bytes, 2) == 0) & (byte_at(bytes, 3) == 0);
     let rest = zeros::zeros_from(bytes, zeros::unused_from(kind));
-    ordered & (head == (kind as u32)) & rest & rule_kept(counts, bytes, kind)
+    ordered & padded & rest & rule_kept(counts, bytes, kind)
 }
