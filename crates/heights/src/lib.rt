@@ -44,6 +44,7 @@ fn reaches_to(shaft: Shaft, b: Aabb) -> bool
 }
 
 // Whether a top is not within E of the last kept; where none is kept yet, every top is.
+#[tactic(auto, unfolding(crate::specs::Lowest::beyond, crate::specs::Heights::within))]
 fn is_beyond(after: Option<f64>, top: f64) -> bool
     ensures { result ≡ beyond after top }
 {

@@ -24,6 +24,7 @@ pub struct Sides {
 }
 
 // Whether an edge from one point to another does not climb.
+#[tactic(auto, unfolding(crate::specs::Sides::level_to))]
 pub fn is_level(from: Point, to: Point) -> bool
     ensures { result ≡ level_to from to }
 {
@@ -38,17 +39,16 @@ pub fn is_side(n: usize) -> bool
 }
 
 // The sides of diagonal d; past the last twice the first side.
+#[tactic(auto, unfolding(crate::specs::Sides::pair_at))]
 fn pair_at(d: usize) -> SidePair
     ensures { result ≡ pair_at d }
 {
-    if d < 4 {
-        return DIAGONAL_SIDES[d];
-    }
-    SidePair(0, 0)
+    DIAGONAL_SIDES.get(d).copied().unwrap_or(SidePair(0, 0))
 }
 
 impl Sides {
     // Before any side has answered.
+    #[tactic(auto, unfolding(crate::specs::Sides::no_sides))]
     pub fn none() -> Self
         ensures { result ≡ no_sides }
     {
@@ -62,9 +62,7 @@ impl Sides {
         if n < 5 {
             return true;
         }
-        let p = pair_at(n - 5);
-        let a = p.0;
-        let b = p.1;
+        let SidePair(a, b) = pair_at(n - 5);
         self.level[a] & self.level[b]
     }
 

@@ -29,6 +29,7 @@ pub struct Centre {
 }
 
 // The offset of column n; past the last that of the point's own column.
+#[tactic(auto, unfolding(crate::specs::Columns::offset_at))]
 fn offset_at(n: usize) -> Offset
     ensures { result ≡ offset_at n }
 {
@@ -55,6 +56,7 @@ pub fn column_centre(from: Point, n: usize) -> Centre
 }
 
 // The band of heights around a point.
+#[tactic(auto, unfolding(crate::specs::Columns::band_of))]
 pub fn band_of(r: Request, body: Body, from: Point) -> Band
     ensures { result ≡ band_of r body from }
 {

@@ -38,6 +38,7 @@ pub struct Place {
 const FAR: u64 = 0x8000_0000_0000_0000;
 
 // Whether the rooms are large enough for the budget, and the counts are such that node k is there and all can grow by one.
+#[tactic(auto, unfolding(crate::specs::Visits::ready))]
 pub fn is_ready(nodes: usize, front: usize, budget: usize, k: usize, c: Counts) -> bool
     ensures { result ≡ ready nodes front budget k c }
 {
@@ -48,6 +49,7 @@ pub fn is_ready(nodes: usize, front: usize, budget: usize, k: usize, c: Counts) 
 }
 
 // Whether a lookup found a closed node: j is one of the n nodes, and closed.
+#[tactic(auto, unfolding(crate::specs::Visits::shut_at))]
 pub fn is_shut(nodes: &[u8], n: usize, j: usize) -> bool
     ensures { result ≡ shut_at nodes.now n j }
 {

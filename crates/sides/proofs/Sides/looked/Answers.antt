@@ -7,10 +7,10 @@ pub returns-then-n-lt5 : goal.returns-then-n-lt5
 returns-then-n-lt5 c = sym (always _ _ c.if-n-lt5.true)
 
 pub bounds-self-a : goal.bounds-self-a
-bounds-self-a c = let h : c.pair_at-p.result.0 < 4 = rw c.pair_at-p.ensures (pair_sides _).0 in h
+bounds-self-a c = let h : c.pair_at-a.result.0 < 4 = rw c.pair_at-a.ensures (pair_sides _).0 in h
 
 pub bounds-self-b : goal.bounds-self-b
-bounds-self-b c = let h : c.pair_at-p.result.1 < 4 = rw c.pair_at-p.ensures (pair_sides _).1 in h
+bounds-self-b c = let h : c.pair_at-a.result.1 < 4 = rw c.pair_at-a.ensures (pair_sides _).1 in h
 
 pub returns : goal.returns
-returns c = rw c.pair_at-p.ensures (sym (between _ _ c.if-n-lt5.false))
+returns c = rw c.pair_at-a.ensures (sym (between _ _ c.if-n-lt5.false))
