@@ -1,7 +1,7 @@
 // Moves the bytes (01, "Scenes and walkprint"): a scene from standard input, record by record, and its lines to standard output.
 use crate::telling;
 use print_lines::Told;
-use scene_state::SceneAnswer;
+use scene_state::{Scene, SceneError};
 
 fn write_line(rt: &impl Print, told: Told, list: &[u8], k: usize) {
     let mut buffer = [0u8; 128];
@@ -9,12 +9,9 @@ fn write_line(rt: &impl Print, told: Told, list: &[u8], k: usize) {
     let _ = rt.write_all(&buffer[..n]);
 }
 
-// The first line, and one for each of n waypoints.
-fn write_lines(rt: &impl Print, told: Told, list: &[u8], n: usize) {
-    write_line(rt, told, list, 0);
-    let mut k: usize = 0;
-    while k < n {
-        k += 1;
+// The first line, and one for each waypoint.
+fn write_lines(rt: &impl Print, told: Told, list: &[u8]) {
+    for k in 0..=told.waypoints {
         write_line(rt, told, list, k);
     }
 }
@@ -22,7 +19,7 @@ fn write_lines(rt: &impl Print, told: Told, list: &[u8], n: usize) {
 // Searches the scene that was read, or not, and prints what there is to tell. The rooms are those of a budget of 512.
 fn print_told(
     rt: &impl Print,
-    answer: SceneAnswer,
+    answer: Result<Scene, SceneError>,
     cells: &[u8],
     perms: &[u8],
     shapes: &[u8],
@@ -35,7 +32,7 @@ fn print_told(
     let told = telling::tell(
         answer, cells, perms, shapes, boxes, &mut nodes, &mut front, &mut index, &mut out,
     );
-    write_lines(rt, told, &out, told.waypoints);
+    write_lines(rt, told, &out);
 }
 
 // Reads a scene of at most so many bytes and prints it: it ends there, or where the input ends. The tables are those of the largest scene: 4,096 cells, 256

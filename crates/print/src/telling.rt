@@ -5,8 +5,17 @@ ghost use Rattle.print.specs.Print.{refusal, told_of, nodes_of, front_of, index_
 
 use outcomes::Answer;
 use print_lines::Told;
-use scene_state::SceneAnswer;
+use scene_state::{Scene, SceneError};
+use world::{Query, World};
 
+// The first n bytes of a table, or all.
+fn front_of(s: &[u8], n: usize) -> &[u8]
+    ensures { result.now ≡ take n s.now }
+{
+    &s[..n.min(s.len())]
+}
+
+#[tactic(auto, unfolding(crate::specs::Print::refusal))]
 fn refusal(number: u64, bad: u64) -> Told
     ensures { result ≡ refusal number bad }
 {
@@ -20,47 +29,24 @@ fn refusal(number: u64, bad: u64) -> Told
     }
 }
 
-// The first n bytes of a table, or all.
-fn front_of(s: &[u8], n: usize) -> &[u8]
-    ensures { result.now ≡ take n s.now }
-{
-    if s.len() < n {
-        return s;
-    }
-    &s[..n]
-}
-
-// The bytes of the first n waypoint records, or all.
-fn list_of(out: &[u8], n: usize) -> &[u8]
-    ensures { result.now ≡ take (48 * n) out.now }
-{
-    if out.len() / 48 < n {
-        return out;
-    }
-    let bytes = 48 * n;
-    &out[..bytes]
-}
-
-// A search's answer, with its list.
+// A search's answer, with its list, of 48 bytes a record.
 fn told_of(a: Answer, out: &[u8]) -> Told
     ensures { result ≡ told_of a out.now }
 {
-    let outcome = a.outcome;
-    let n = a.count;
-    let total = lengths::length_of(list_of(out, n));
+    let list = front_of(out, a.count.saturating_mul(48));
     Told {
-        number: outcomes::number_of(outcome),
+        number: u64::from(a.outcome),
         bad: 0,
-        waypoints: n,
+        waypoints: a.count,
         retained: a.retained as u64,
         closed: a.closed,
-        total,
+        total: lengths::length_of(list),
     }
 }
 
 // The end of the input: a whole scene is searched, with tables of exactly the sizes in use, and its list written to `out`.
 pub fn tell(
-    answer: SceneAnswer,
+    answer: Result<Scene, SceneError>,
     cells: &[u8],
     perms: &[u8],
     shapes: &[u8],
@@ -77,17 +63,23 @@ pub fn tell(
     ensures out { out.new ≡ out_of cells.now perms.now shapes.now boxes.now (scene_answer answer) nodes.old front.old index.old out.old }
 {
     match answer {
-        SceneAnswer::NoRoom => refusal(5, 0),
-        SceneAnswer::BadScene(k) => refusal(7, k),
-        SceneAnswer::Whole(s) => {
+        Err(SceneError::NoRoom) => refusal(5, 0),
+        Err(SceneError::BadScene(k)) => refusal(7, k),
+        Ok(s) => {
             let used = s.in_use;
-            let c = front_of(cells, used.cells);
-            let p = front_of(perms, used.perms);
-            let h = front_of(shapes, used.shapes);
-            let b = front_of(boxes, used.boxes);
-            let a = search::find_walk_path(
-                s.window, c, p, h, b, s.request, s.body, nodes, front, index, out,
-            );
+            let world = World {
+                window: s.window,
+                cells: front_of(cells, used.cells),
+                perms: front_of(perms, used.perms),
+                shapes: front_of(shapes, used.shapes),
+                boxes: front_of(boxes, used.boxes),
+            };
+            let query = Query {
+                world,
+                request: s.request,
+                body: s.body,
+            };
+            let a = search::find_walk_path(query, nodes, front, index, out);
             told_of(a, out)
         }
     }
