@@ -1,5 +1,5 @@
 -- The ways out of `begin_search`, as its proof cites them; and the counts that it gives.
-use Rattle.std.specs.Prelude.{◌≡◌, List, [], ◌∷◌, ℕ, ◌≤◌, length, replicate}
+use Rattle.std.specs.Prelude.{◌≡◌, List, [], ◌∷◌, ℕ, ◌≤◌, length, replicate, Ok, Err}
 use Rattle.std.proofs.Math.Path.{refl, ap}
 use Rattle.std.proofs.Common.{sym, subst, ◌∙◌, arith, lt-ltb}
 use Rattle.std.proofs.Math.Bool.{true, false}
@@ -23,7 +23,8 @@ use Rattle.visits.specs.Best.{best}
 use Rattle.visits.specs.Visits.{Started, Begun}
 use Rattle.visits.proofs.Laws.Visits.{begun as started_begun}
 use Rattle.outcomes.specs.declared.Outcome.{Outcome}
-use Rattle.outcomes.specs.declared.Tick.TheVariants.{Refused, Searching}
+use Rattle.outcomes.specs.declared.Refusal.TheVariants.{Judged}
+use Rattle.outcomes.specs.declared.Slice.TheVariants.{Searching}
 use Rattle.outcomes.specs.Ticks.{tick_given, Ticked, Gives}
 use Rattle.refusals.specs.Refusals.{without_search}
 use Rattle.refusals.proofs.Laws.{Passed, some_budget}
@@ -40,8 +41,8 @@ module _ (w : Window) (cells perms shapes boxes : List ℕ) (r : Request) (body 
   unfolding begun_search
   by_way x e = ap (begun_by w cells perms shapes boxes r body a f o) e
 
-  pub holds_refused : (p : Outcome) → some p ≡ way → Gives whole (Refused p) a f o
-  holds_refused p e = subst (λ (h : Ticked). Gives h (Refused p) a f o) (by_way (some p) e) (record { answer = refl; node_room_lem = refl; front_room_lem = refl; output = refl })
+  pub holds_refused : (p : Outcome) → some p ≡ way → Gives whole (Err (Judged p)) a f o
+  holds_refused p e = subst (λ (h : Ticked). Gives h (Err (Judged p)) a f o) (by_way (some p) e) (record { answer = refl; node_room_lem = refl; front_room_lem = refl; output = refl })
 
   -- "retains the start": one node is retained, none is closed, one push was made and none was dropped
   pub begin_counts : way ≡ none → tick_given whole.tick ≡ (100, 0 ∷ 1 ∷ 0 ∷ 1 ∷ 0 ∷ [])
@@ -72,9 +73,9 @@ module _ (w : Window) (cells perms shapes boxes : List ℕ) (r : Request) (body 
     few : c.retained ≤ r.node_budget
     few = start.near.few
 
-    pub holds_begun : none ≡ way → Gives whole (Searching c) b g o
-    holds_begun e = subst (λ (h : Ticked). Gives h (Searching c) b g o) (by_way none e) (record {
-      answer = ap (λ (d : Counts). tick_given (Searching d)) (sym (counts_back b g c) ∙ ap counts_in state_is);
+    pub holds_begun : none ≡ way → Gives whole (Ok (Searching c)) b g o
+    holds_begun e = subst (λ (h : Ticked). Gives h (Ok (Searching c)) b g o) (by_way none e) (record {
+      answer = ap (λ (d : Counts). tick_given (Ok (Searching d))) (sym (counts_back b g c) ∙ ap counts_in state_is);
       node_room_lem = node_room_lem a b g c.retained nodes_bytes (omega (arith, few, passed.node_room_lem)) (start.kept.nodes c.retained (omega arith)) ∙ ap (node_room a) nodes_are;
       front_room_lem = front_room_lem z b g c.retained front_bytes (omega (arith, few, passed.front_room_lem, front_length)) (start.kept.front c.retained (omega arith)) ∙ ap (λ (x : List ℕ). front_room x (nodes_of c.retained b g)) zeroed ∙ ap (front_room (replicate (length f) 0)) nodes_are;
       output = refl;

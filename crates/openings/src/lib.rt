@@ -2,47 +2,25 @@
 // goes on from there. It needs no expansion, so it stands apart from that crate, whose checks are long.
 #![tactic(auto)]
 
-ghost use Rattle.std.specs.Prelude.{◌≡◌};
-ghost use Rattle.world.specs.Space.{space};
+ghost use Rattle.world.specs.Space.{space_of};
 ghost use Rattle.outcomes.specs.Ticks.{Gives, GoesFrom};
-ghost use Rattle.openings.specs.Openings.{start_state, begun_search};
+ghost use Rattle.openings.specs.Openings.{start_state, begun_for};
 
-use outcomes::Tick;
-use refusals::Judged;
-use world::{Body, Request, Window};
+use outcomes::{Refusal, Slice};
+use world::Query;
 
 // The start retained, in rooms for a search; of the output only the length counts.
 pub fn begin_search(
-    w: Window,
-    cells: &[u8],
-    perms: &[u8],
-    shapes: &[u8],
-    boxes: &[u8],
-    r: Request,
-    body: Body,
+    query: Query,
     nodes: &mut [u8],
     front: &mut [u8],
     out: &[u8],
-) -> Tick
-    ensures gives { Gives (begun_search w cells.now perms.now shapes.now boxes.now r body nodes.old front.old out.now) result nodes.new front.new out.now }
-    ensures goes_from { GoesFrom (start_state (space w cells.now perms.now shapes.now boxes.now) r body) result nodes.new front.new }
+) -> Result<Slice, Refusal>
+    ensures gives { Gives (begun_for query.entry nodes.old front.old out.now) result nodes.new front.new out.now }
+    ensures goes_from { GoesFrom (start_state (space_of query.entry.world) query.entry.request query.entry.body) result nodes.new front.new }
 {
-    let judged = refusals::judge(
-        w,
-        cells,
-        perms,
-        shapes,
-        boxes,
-        r,
-        body,
-        nodes.len(),
-        front.len(),
-        out.len(),
-        false,
-    );
-    if let Judged::Refused(outcome) = judged {
-        return Tick::Refused(outcome);
-    }
+    refusals::judge(query, nodes.len(), front.len(), out.len(), false)?;
+    let r = query.request;
     writes::zero(front); // all of it: stale records past the budget would wait
     let counts = visits::begin(
         nodes,
@@ -50,5 +28,5 @@ pub fn begin_search(
         r.node_budget as usize,
         words::feet_of(r.start),
     );
-    Tick::Searching(counts)
+    Ok(Slice::Searching(counts))
 }
