@@ -12,7 +12,7 @@ use Rattle.world.specs.declared.Body.{Body}
 use Rattle.world.specs.declared.Request.{Request}
 use Rattle.world.specs.Space.{Space}
 use Rattle.heights.specs.declared.Band.{Band}
-use Rattle.heights.specs.Option Floats.{tops, sorted, heights, kept_after, next_after}
+use Rattle.heights.specs.Heights.{tops, sorted, heights, kept_after, next_after}
 use Rattle.heights.proofs.Next.{kept_next, kept_end}
 use Rattle.heights.proofs.Laws.{numbers}
 use Rattle.moves.specs.declared.answer.Waypoint.{Waypoint}
