@@ -1,4 +1,4 @@
-// Costs and estimates, as the patterns of f64 (01: "Estimate = cost + 1.5 × distance to goal"; "sums run in the source's order").
+// Costs and estimates, as the patterns of f64 that the records hold (01: "Estimate = cost + 1.5 × distance to goal"; "sums run in the source's order").
 #![tactic(auto)]
 
 ghost use Rattle.std.specs.Prelude.{◌≡◌};

@@ -1,4 +1,4 @@
-// Which points are the same (01: "Same point: equal bits, with -0.0 as 0."), on the words of records.
+// Which points are the same (01: "Same point: equal bits, with -0.0 as 0."), on the words of records. So a derived `==` would not do.
 #![tactic(auto)]
 
 ghost use Rattle.std.specs.Prelude.{◌≡◌};

@@ -1,5 +1,6 @@
 // The lowest tops of a column, in one pass over its cells (01, The graph, "Graph step"): as many as a room has places for. A room for one gives the next
-// height; with more, a column of many heights is not passed over once for each.
+// height; with more, a column of many heights is not passed over once for each. A room and how many of its places are filled go side by side, since the room is a
+// caller's slice, lent anew at each call.
 ghost use Rattle.std.specs.Prelude.{◌≡◌, ◌≤◌, length};
 ghost use mathlib.Core.List.{map, foldl};
 ghost use Rattle.regions.specs.Ranges.{along};
@@ -17,6 +18,7 @@ use regions::Range;
 use world::{Aabb, Point, Run, World};
 
 // The place of a top among the first so many of a room: behind all that are not above it. It is sought from behind, since tops come upwards for the most part.
+// (`rposition` would give the one before that place, and None for the first: no plainer.)
 fn place_of(room: &[f64], count: usize, top: f64) -> usize
     requires { count ≤ length room.now }
     ensures { result ≡ place_of top room.now count }

@@ -2,6 +2,8 @@
 // itself is the crate `reach`, and answers an `Option<Counts>`: None where its point is that of a closed node, and nothing changes; else the counts after.
 // `is_shut` tells beforehand that a visit would change nothing.
 //
+// The two rooms, nodes and front, are two slices all the way, as C lends them (walk_c).
+//
 // `close` and `begin` answer for every input. Where the rooms are too small for the budget, or the counts are no counts of such a search, `close` leaves all
 // as it is.
 #![tactic(auto)]

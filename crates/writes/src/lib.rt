@@ -8,7 +8,7 @@ ghost use Rattle.rooms.specs.Writes.{PutNode, PutEntry};
 
 use rooms::{Entry, Feet, Label, NodeRecord};
 
-// Waypoint k of a list written.
+// Waypoint k of a list written. Its words stand in the order of the record (`with_waypoint`), as those of the records below do.
 pub fn put_waypoint(out: &mut [u8], k: usize, feet: Feet, label: Label)
     ensures { out.new ≡ with_waypoint out.old k feet label }
 {
