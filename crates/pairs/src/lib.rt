@@ -54,8 +54,8 @@ fn look_column(
     n: usize,
     v: WaypointRecord,
 ) -> Option<bool>
-    requires band_value { let t = query.entry in band ≡ band_of t.request t.body from }
-    requires looked_value { let t = query.entry in looked ≡ looked_by (sides_before (space_of t.world) t.request t.body from n) n }
+    requires band_value { let t = query in band ≡ band_of t.request t.body from }
+    requires looked_value { let t = query in looked ≡ looked_by (sides_before (space_of t.world) t.request t.body from n) n }
     ensures { let t = query.entry in Noted v from (column_if (space_of t.world) t.request t.body from n) result [] }
 {
     let mut level = false;

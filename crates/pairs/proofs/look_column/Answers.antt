@@ -16,7 +16,7 @@ loop-y-init c = begun (space_of c.args.query.world) c.args.query.request c.args.
 pub returns-then-leads_to : goal.returns-then-leads_to
 returns-then-leads_to c =
     let next = next_ahead (space_of c.args.query.world) c.args.query.request c.args.query.body c.args.from c.args.n c.loop-y.after c.requires.band_value c.column_centre-centre.ensures c.next_height.ensures _ c.in-Some.is in
-    noted_met c.args.v c.args.from (column_if (space_of c.args.query.world) c.args.query.request c.args.query.body c.args.from c.args.n) c.loop-y.level c.loop-y.invariant _ _ next c.in-Some-2.step (sym c.edge.ensures ∙ c.in-Some-2.is) (sym c.leads_to.ensures ∙ c.if-leads_to.true)
+    noted_met c.args.v c.args.from (column_if (space_of c.args.query.world) c.args.query.request c.args.query.body c.args.from c.args.n) c.loop-y.level c.loop-y.invariant _ _ next c.in-Some-edge.step (sym c.edge.ensures ∙ c.in-Some-edge.is) (sym c.leads_to.ensures ∙ c.if-leads_to.true)
 
 pub loop-y-smaller-else-leads_to : goal.loop-y-smaller-else-leads_to
 loop-y-smaller-else-leads_to c = fewer (space_of c.args.query.world) c.args.query.request c.args.query.body c.args.from c.args.n c.loop-y.after c.requires.band_value c.column_centre-centre.ensures c.next_height.ensures _ c.in-Some.is
@@ -25,7 +25,7 @@ pub loop-y-preserved-else-leads_to : goal.loop-y-preserved-else-leads_to
 loop-y-preserved-else-leads_to c =
     let next = next_ahead (space_of c.args.query.world) c.args.query.request c.args.query.body c.args.from c.args.n c.loop-y.after c.requires.band_value c.column_centre-centre.ensures c.next_height.ensures _ c.in-Some.is in
     rw c.is_level-level.ensures
-    (noted_to c.args.v c.args.from (column_if (space_of c.args.query.world) c.args.query.request c.args.query.body c.args.from c.args.n) c.loop-y.level c.loop-y.invariant _ _ next c.in-Some-2.step (sym c.edge.ensures ∙ c.in-Some-2.is) (sym c.leads_to.ensures ∙ c.if-leads_to.false))
+    (noted_to c.args.v c.args.from (column_if (space_of c.args.query.world) c.args.query.request c.args.query.body c.args.from c.args.n) c.loop-y.level c.loop-y.invariant _ _ next c.in-Some-edge.step (sym c.edge.ensures ∙ c.in-Some-edge.is) (sym c.leads_to.ensures ∙ c.if-leads_to.false))
 
 -- ---- a turn whose edge leads nowhere
 pub loop-y-smaller : goal.loop-y-smaller
