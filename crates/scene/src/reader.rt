@@ -10,12 +10,15 @@ use scene_state::{Reading, SceneError};
 fn put_permission(perms: &mut [u8], n: u32, permission: u8)
     ensures { perms.new ≡ set perms.old n permission }
 {
+    // By index: where `get_mut` has no such place, its proof does not know that the table stays.
     let at = n as usize;
     if at < perms.len() {
         perms[at] = permission;
     }
 }
 
+// The four tables are lent one by one, as `begin` and the C call have them: a struct of four `&mut` would have to be lent anew for each record.
+//
 // One record more: kind 3 makes all cells unfilled, kind 4 adds a box and counts it for its shape, kind 5 sets a permission, kind 6 fills. A bad record
 // writes nothing, and after a refusal nothing is read or written.
 pub fn take_record(

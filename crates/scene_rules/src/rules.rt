@@ -7,7 +7,8 @@ use crate::{Counts, zeros};
 use scene_records::{byte_at, cell_count, number_of, window_at};
 use world::{Aabb, point_at, size_above};
 
-// Whether a kind may come after the last one, of which 0 is none.
+// Whether a kind may come after the last one, of which 0 is none. A kind is the record's byte and no enum: the order goes by its number, and 01 names
+// the kinds 1 to 6 by it.
 #[tactic(auto, unfolding(crate::specs::Rules::in_order))]
 fn in_order(last: u8, kind: u8) -> bool
     ensures { result ≡ in_order last kind }
