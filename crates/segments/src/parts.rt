@@ -59,10 +59,12 @@ impl Parts {
     {
         self.make_room();
         let n = self.count;
-        let mut k = n;
-        while k > 0 && self.places[k - 1].begin < i.begin {
-            k -= 1;
-        }
+        let nearer = self.places[..n]
+            .iter()
+            .rev()
+            .take_while(|part| part.begin < i.begin)
+            .count();
+        let k = n - nearer;
         self.places.copy_within(k..n, k + 1);
         self.places[k] = i;
         self.count = n + 1;

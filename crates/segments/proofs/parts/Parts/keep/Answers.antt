@@ -16,7 +16,7 @@ module _ (places new : List Interval) (k n : ℕ) (i : Interval) (h : k ≤ n) (
   placed =
       let whole : n + 1 ≡ k + 1 + (n - k) = omega arith in
       let moved : take (n + 1) new ≡ take (k + 1) places ++ take (n - k) (drop k places) =
-          rw (e, whole) (take-paste places (k + 1) (drop k places) (n - k) (omega arith) (omega (arith, length-drop k places))) in
+      rw (e, whole) (take-paste places (k + 1) (drop k places) (n - k) (omega arith) (omega (arith, length-drop k places))) in
       take-set-lt (n + 1) new k i (omega arith)
       ∙ ap (λ (xs : List Interval). set xs k i) moved
       ∙ set-append_left (take (k + 1) places) (take (n - k) (drop k places)) k i (omega (arith, length-take-le (k + 1) places (omega arith)))
@@ -33,5 +33,5 @@ pub returns : goal.returns
 returns c =
     let s = c.self.inside in
     let room : s.count < 1024 = omega (arith, simp length-take at (rw (sym c.self.view_is) at c.make_room.ensures.room)) in
-    let one : Gathers (c.args.i ∷ []) (take s.count s.places) _ = record { all = λ is f o. kept s.places c.copy_within.new.self c.loop-k.k s.count c.args.i c.loop-k.invariant (omega arith) c.copy_within.ensures.after (λ i. Memᴰ i is) (All-head (λ i. Memᴰ i is) c.args.i [] f) o } in
+    let one : Gathers (c.args.i ∷ []) (take s.count s.places) _ = record { all = λ is f o. kept s.places c.copy_within.new.self (s.count - c.count-nearer.result) s.count c.args.i (omega arith) (omega arith) c.copy_within.ensures.after (λ i. Memᴰ i is) (All-head (λ i. Memᴰ i is) c.args.i [] f) o } in
     gathers_append c.make_room.ensures.gathers (rw c.self.view_is at one)

@@ -1,9 +1,0 @@
--- `segments::parts::Parts::keep` meets its contract. Assumes nothing.
-use Rattle.std.proofs.Common.{◌≤◌}
-use Rattle.segments.proofs.parts.Parts.keep.Given as goal
-
-abbrev pub invariant-loop-k : goal.invariant-loop-k
-invariant-loop-k l = l.k ≤ l.n
-
-abbrev pub decreases-loop-k : goal.decreases-loop-k
-decreases-loop-k l = l.k
