@@ -20,8 +20,8 @@ fn axis(bytes: &[u8], at: usize, origin: i32, size: u32) -> Range
     let end = size as i64;
     let from = (fields::i32_at(bytes, at) as i64) - low;
     let to = (fields::i32_at(bytes, at + 12) as i64) - low;
-    let first = if from < 0 { 0 } else { from };
-    let last = if to < end { to } else { end - 1 };
+    let first = from.max(0);
+    let last = to.min(end - 1);
     Range { first, last }
 }
 

@@ -1,17 +1,8 @@
 -- `scene_fills::number` meets its contract. Assumes nothing.
 use Rattle.std.proofs.Common.{arith}
 use Rattle.scene_fills.specs.Fills.{record_at}
-use Rattle.scene_fills.specs.Laws.{low_is, as_natural, layer_small, row_small}
+use Rattle.scene_fills.specs.Laws.{low_is, layer_small, row_small}
 use Rattle.scene_fills.proofs.number.Goals as goal
-
-pub overflow_cast-result : goal.overflow_cast-result
-overflow_cast-result c = as_natural c.args.at.x c.requires.2.x
-
-pub overflow_cast-result-2 : goal.overflow_cast-result-2
-overflow_cast-result-2 c = as_natural c.args.at.z c.requires.2.z
-
-pub overflow_cast-result-3 : goal.overflow_cast-result-3
-overflow_cast-result-3 c = as_natural c.args.at.y c.requires.2.y
 
 pub overflow_mul-result : goal.overflow_mul-result
 overflow_mul-result c =
