@@ -4,6 +4,7 @@ use Rattle.std.proofs.Math.Option.{Option, none, some}
 use Rattle.exploration.specs.Explore as explore
 use Rattle.exploration.specs.Explore.{State, final, outcome}
 use Rattle.world.specs.declared.Body.{Body}
+use Rattle.world.specs.declared.Query.{Query}
 use Rattle.world.specs.declared.Request.{Request}
 use Rattle.world.specs.declared.Window.{Window}
 use Rattle.world.specs.Space.{Space, space}
@@ -85,3 +86,21 @@ module _ (w : Window) (cells perms shapes boxes : List ℕ) (r : Request) (body 
 
   unfoldable pub out_after : (nodes front index out : List ℕ) → List ℕ
   out_after nodes front index out = out_by (before_search_in nodes front index out) out
+
+-- ---- the same of a query
+
+module _ (q : Query) where
+  abbrev pub found_for : (nodes front index out : ℕ) → Answer
+  found_for = found q.world.window q.world.cells.now q.world.perms.now q.world.shapes.now q.world.boxes.now q.request q.body
+
+  abbrev pub nodes_for : (nodes front index out : List ℕ) → List ℕ
+  nodes_for = nodes_after q.world.window q.world.cells.now q.world.perms.now q.world.shapes.now q.world.boxes.now q.request q.body
+
+  abbrev pub front_for : (nodes front index out : List ℕ) → List ℕ
+  front_for = front_after q.world.window q.world.cells.now q.world.perms.now q.world.shapes.now q.world.boxes.now q.request q.body
+
+  abbrev pub index_for : (nodes front index out : List ℕ) → List ℕ
+  index_for = index_after q.world.window q.world.cells.now q.world.perms.now q.world.shapes.now q.world.boxes.now q.request q.body
+
+  abbrev pub out_for : (nodes front index out : List ℕ) → List ℕ
+  out_for = out_after q.world.window q.world.cells.now q.world.perms.now q.world.shapes.now q.world.boxes.now q.request q.body

@@ -19,7 +19,7 @@ use Rattle.rooms.proofs.Laws.Rooms.{BySamePoint}
 use Rattle.visits.specs.declared.Aim.{Aim}
 use Rattle.visits.specs.Best.{best}
 use Rattle.visits.specs.Visits.{Kept, Still, Rests, Near}
-use Rattle.strides.specs.declared.Place.{Place}
+use Rattle.visits.specs.declared.Place.{Place}
 use Rattle.strides.specs.declared.Column.{Column}
 use Rattle.search.specs.declared.Around.{Around}
 

@@ -1,8 +1,9 @@
 -- What `continue_search` answers and what it leaves in the rooms (02, No. 10): some expansions more of the search that the rooms and the counts hold. Definitions only.
-use Rattle.std.specs.Prelude.{ℕ, not, false, cond, List, length}
+use Rattle.std.specs.Prelude.{ℕ, not, false, cond, List, length, Err}
 use Rattle.exploration.specs.Explore as explore
 use Rattle.exploration.specs.Explore.{State, run, outcome}
 use Rattle.world.specs.declared.Body.{Body}
+use Rattle.world.specs.declared.Query.{Query}
 use Rattle.world.specs.declared.Request.{Request}
 use Rattle.world.specs.declared.Window.{Window}
 use Rattle.world.specs.Space.{Space, space}
@@ -13,7 +14,7 @@ use Rattle.rooms.specs.declared.Label.{Label}
 use Rattle.rooms.specs.declared.Counts.{Counts}
 use Rattle.rooms.specs.Rooms.{Note, state_of}
 use Rattle.visits.specs.Best.{best}
-use Rattle.outcomes.specs.declared.Tick.TheVariants.{Refused, BadProgress}
+use Rattle.outcomes.specs.declared.Refusal.TheVariants.{Judged, BadProgress}
 use Rattle.outcomes.specs.Ticks.{Ticked, nothing_written, ticked_by}
 use Rattle.refusals.specs.Refusals.{call_judged}
 use Rattle.progress.specs.Progress.{good_progress}
@@ -39,6 +40,15 @@ module _ (w : Window) (cells perms shapes boxes : List ℕ) (r : Request) (body 
   -- "continue judges 3, `valid_request` (1), 4, 5, then 12 BadProgress, nothing written"; then it goes on
   unfoldable pub continued_search : Ticked
   continued_search =
-      call_judged w cells shapes boxes r body (length nodes) (length front) (length out) false (λ o. nothing_written (Refused o) nodes front out)
-      (cond (not (good_progress r nodes front c n)) (nothing_written BadProgress nodes front out)
+      call_judged w cells shapes boxes r body (length nodes) (length front) (length out) false (λ o. nothing_written (Err (Judged o)) nodes front out)
+      (cond (not (good_progress r nodes front c n)) (nothing_written (Err BadProgress) nodes front out)
       gone_on)
+
+-- ---- the same of a query
+
+module _ (q : Query) where
+  abbrev pub expanded_for : (nodes front out : List ℕ) → Counts → ℕ → State Feet Label Note ℕ
+  expanded_for = expanded_in q.world.window q.world.cells.now q.world.perms.now q.world.shapes.now q.world.boxes.now q.request q.body
+
+  abbrev pub continued_for : (nodes front out : List ℕ) → Counts → ℕ → Ticked
+  continued_for = continued_search q.world.window q.world.cells.now q.world.perms.now q.world.shapes.now q.world.boxes.now q.request q.body

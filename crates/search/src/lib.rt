@@ -15,15 +15,20 @@ use rooms::Counts;
 use sides::Sides;
 pub use ticks::continue_search;
 use visits::Aim;
-use world::{Body, Request, Window};
+use world::Query;
 
-// What is searched: in the window of a world, for a request, by a body; and for which goal, with how many nodes.
+// What is searched: what is asked of a world; and for which goal, with how many nodes.
 #[derive(Clone, Copy)]
-pub struct Task {
-    pub w: Window,
-    pub r: Request,
-    pub body: Body,
+pub struct Task<'a> {
+    pub query: Query<'a>,
     pub aim: Aim,
+}
+
+// The index of an expansion, and how many of the nodes are entered in it: these are found by it, the others by a scan.
+#[derive(Clone, Copy)]
+pub struct Entered<'a> {
+    pub index: &'a [u8],
+    pub known: usize,
 }
 
 // What the columns so far have come to: the counts, and the side answers.

@@ -1,5 +1,5 @@
 -- How steps of an expansion compose, and the paths of the code through a column and through the columns.
-use Rattle.std.specs.Prelude.{◌≡◌, refl, Bool, true, false, ◌||◌, List, [], ◌∷◌, ◌++◌, map, ℕ, ◌+◌, ◌≤◌, ◌<◌, length}
+use Rattle.std.specs.Prelude.{◌≡◌, refl, Bool, true, false, ◌||◌, List, [], ◌∷◌, ◌++◌, map, ℕ, ◌+◌, ◌≤◌, ◌<◌, length, Option, Some, None}
 use Rattle.std.proofs.Math.Path.{sym, ap}
 use Rattle.std.proofs.Common.{subst, ◌∙◌, append-nil, append_assoc, arith, length-append}
 use Rattle.std.proofs.Math.Bool.{or-false, or_assoc}
@@ -11,8 +11,6 @@ use Rattle.world.specs.declared.Body.{Body}
 use Rattle.world.specs.declared.Request.{Request}
 use Rattle.world.specs.Space.{Space}
 use Rattle.moves.specs.declared.answer.Waypoint.{Waypoint}
-use Rattle.moves.specs.declared.answer.EdgeAnswer.{EdgeAnswer}
-use Rattle.moves.specs.declared.answer.EdgeAnswer.TheVariants.{To, Nowhere}
 use Rattle.sides.specs.declared.Sides.{Sides}
 use Rattle.sides.specs.Sides.{looked_by, side_at, answered_by, level_to}
 use Rattle.sides.specs.Laws.{same_answer}
@@ -28,7 +26,7 @@ use Rattle.visits.specs.declared.Aim.{Aim}
 use Rattle.visits.specs.Best.{best}
 use Rattle.visits.specs.Visits.{Ready, Near, shut_at, Visited}
 use Rattle.visits.proofs.Laws.Visits.{kept_none, kept_trans, still_none, still_trans, rests_none, rests_trans, near_none, near_trans, is_ready, visit_sought, visited_shut}
-use Rattle.strides.specs.declared.Place.{Place}
+use Rattle.visits.specs.declared.Place.{Place}
 use Rattle.strides.specs.declared.Column.{Column}
 use Rattle.search.specs.declared.Around.{Around}
 use Rattle.strides.specs.Strides.{Strode}
@@ -91,23 +89,23 @@ module _ {aim : Aim} {at : Place} where
   -- ---- one height
 
   -- by the edge to it, where the rooms are ready and the lookup found the first node there
-  pub went_by : {n : ℕ} {c r : Column} {a f b g : List ℕ} (e : EdgeAnswer) (to : Point) (j : ℕ) → ((w : Waypoint) → e ≡ To w → w.feet ≡ to) → j ≡ first_at a c.counts.retained (feet_of to)
+  pub went_by : {n : ℕ} {c r : Column} {a f b g : List ℕ} (e : Option Waypoint) (to : Point) (j : ℕ) → ((w : Waypoint) → e ≡ Some w → w.feet ≡ to) → j ≡ first_at a c.counts.retained (feet_of to)
       → Strode aim at e j c r a f b g → Ready a f aim.budget 1 c.counts → at.number < c.counts.retained → Went aim at n (ahead e []) c r a f b g
   unfolding level
-  went_by {a = a} {f = f} Nowhere to j i o s h l = record {
+  went_by {a = a} {f = f} None to j i o s h l = record {
     steps = rw s.visited.nodes (rw s.visited.front (rw s.visited.counts (stepped_none a f h.few)));
     noted = λ side. s.noted;
   }
-  went_by {c = c} {a = a} {f = f} (To w) to j i o s h l = record {
+  went_by {c = c} {a = a} {f = f} (Some w) to j i o s h l = record {
     steps = stepped_one w j (o ∙ ap (λ (p : Point). first_at a c.counts.retained (feet_of p)) (sym (i w refl))) h.few (s.visited.0 (is_ready a f aim.budget at.number c.counts h l));
     noted = λ side. s.noted ∙ ap (λ (x : Bool). c.level || x) (sym (or-false (level_to at.point w.feet)));
   }
 
   -- or, where the node there is closed and the column is no side, without asking for the edge: whatever it is, nothing changes
-  pub went_shut : {n : ℕ} {c : Column} {a f : List ℕ} (e : EdgeAnswer) (to : Point) (j : ℕ) → ((w : Waypoint) → e ≡ To w → w.feet ≡ to) → j ≡ first_at a c.counts.retained (feet_of to)
+  pub went_shut : {n : ℕ} {c : Column} {a f : List ℕ} (e : Option Waypoint) (to : Point) (j : ℕ) → ((w : Waypoint) → e ≡ Some w → w.feet ≡ to) → j ≡ first_at a c.counts.retained (feet_of to)
       → side_at n ≡ false → shut_at a c.counts.retained j ≡ true → c.counts.retained ≤ aim.budget → Went aim at n (ahead e []) c c a f a f
-  went_shut {a = a} {f = f} Nowhere to j i o s h few = record { steps = stepped_none a f few; noted = λ side. absurd (true_false side s) }
-  went_shut {c = c} {a = a} (To w) to j i o s h few = record {
+  went_shut {a = a} {f = f} None to j i o s h few = record { steps = stepped_none a f few; noted = λ side. absurd (true_false side s) }
+  went_shut {c = c} {a = a} (Some w) to j i o s h few = record {
     steps = stepped_one w j (o ∙ ap (λ (p : Point). first_at a c.counts.retained (feet_of p)) (sym (i w refl))) few (visited_shut few h);
     noted = λ side. absurd (true_false side s);
   }
@@ -133,9 +131,9 @@ module _ {R : List Waypoint → Type 0} {whole rest : List Waypoint} where
   along_short u = omega (arith, ap length u.split, length-append u.gone rest)
 
 -- an edge, then what comes behind it
-pub ahead_split : (x : EdgeAnswer) (ws : List Waypoint) → ahead x ws ≡ ahead x [] ++ ws
-ahead_split Nowhere ws = refl
-ahead_split (To w) ws = refl
+pub ahead_split : (x : Option Waypoint) (ws : List Waypoint) → ahead x ws ≡ ahead x [] ++ ws
+ahead_split None ws = refl
+ahead_split (Some w) ws = refl
 
 -- ---- a column that is looked at, and one that is not
 

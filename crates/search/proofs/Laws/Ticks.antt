@@ -1,5 +1,5 @@
 -- What so many expansions more make of a search that is continued: the turn that the code has, in the words of the contract.
-use Rattle.std.specs.Prelude.{◌≡◌, refl, Bool, true, not, cond, ℕ, zero, suc, ◌+◌, ◌*◌, ◌/◌, ◌≤◌, ◌<◌, leb, ltb, length, drop, replicate}
+use Rattle.std.specs.Prelude.{◌≡◌, refl, Bool, true, not, cond, ℕ, zero, suc, ◌+◌, ◌*◌, ◌/◌, ◌≤◌, ◌<◌, leb, ltb, length, drop, replicate, Ok, Err}
 use Rattle.std.proofs.Common.{sym, ◌∙◌, arith, ltb-true, ltb-false, List, [], ◌∷◌, ◌++◌}
 use Rattle.std.proofs.Math.Path.{ap, subst}
 use Rattle.std.proofs.Math.Bool.{false}
@@ -31,10 +31,10 @@ use Rattle.outcomes.specs.declared.Outcome.{Outcome}
 use Rattle.outcomes.specs.declared.Turn.{Turn}
 use Rattle.outcomes.specs.declared.Turn.TheVariants.{Rest, Going, At, By}
 use Rattle.outcomes.specs.declared.Answer.{Answer}
-use Rattle.outcomes.specs.declared.Tick.{Tick}
-use Rattle.outcomes.specs.declared.Tick.TheVariants.{Refused, BadProgress, Searching, Ended}
+use Rattle.outcomes.specs.declared.Slice.TheVariants.{Searching, Ended}
+use Rattle.outcomes.specs.declared.Refusal.TheVariants.{Judged, BadProgress}
 use Rattle.outcomes.specs.Outcomes.{told_by, list_in, counts_of, end_quiet, end_at}
-use Rattle.outcomes.specs.Ticks.{tick_given, Ticked, nothing_written, tick_by, front_by, Gives, GoesFrom}
+use Rattle.outcomes.specs.Ticks.{Tick, tick_given, Ticked, nothing_written, tick_by, front_by, Gives, GoesFrom}
 use Rattle.conclusion.specs.GoesOn.{goes_on}
 use Rattle.conclusion.specs.Laws.{written_is, Concludes}
 use Rattle.refusals.specs.Refusals.{without_call}
@@ -101,7 +101,7 @@ module _ (sp : Space) (r : Request) (body : Body) where
 
 -- ---- an end is no search that goes on
 
-pub ended_tick : (e : explore.Outcome (Feet × Label)) (c : Counts) → (e ≡ explore.Searching → ⊥) → tick_by e c ≡ Ended (told_by e) (length (list_in e)) c
+pub ended_tick : (e : explore.Outcome (Feet × Label)) (c : Counts) → (e ≡ explore.Searching → ⊥) → tick_by e c ≡ Ok (Ended (told_by e) (length (list_in e)) c)
 ended_tick (explore.Found t) c h = refl
 ended_tick explore.Unreachable c h = refl
 ended_tick explore.BudgetExceeded c h = refl
@@ -133,23 +133,23 @@ module _ (w : Window) (cells perms shapes boxes : List ℕ) (r : Request) (body 
   whole = continued_search w cells perms shapes boxes r body a f o c n
 
   abbrev judged : Ticked
-  judged = cond (not (good_progress r a f c n)) (nothing_written BadProgress a f o) (gone_on w cells perms shapes boxes r body a f o c n)
+  judged = cond (not (good_progress r a f c n)) (nothing_written (Err BadProgress) a f o) (gone_on w cells perms shapes boxes r body a f o c n)
 
   left : (t : Tick) → nothing_written t a f o ≡ whole → Gives whole t a f o
   left t e = subst (λ (h : Ticked). Gives h t a f o) e (record { answer = refl; node_room_lem = refl; front_room_lem = refl; output = refl })
 
-  pub left_refused : (p : Outcome) → some p ≡ call → Gives whole (Refused p) a f o
+  pub left_refused : (p : Outcome) → some p ≡ call → Gives whole (Err (Judged p)) a f o
   unfolding continued_search
-  left_refused p e = left (Refused p) (call_refused w cells shapes boxes r body (length a) (length f) (length o) false (λ q. nothing_written (Refused q) a f o) judged p e)
+  left_refused p e = left (Err (Judged p)) (call_refused w cells shapes boxes r body (length a) (length f) (length o) false (λ q. nothing_written (Err (Judged q)) a f o) judged p e)
 
-  pub left_bad : none ≡ call → good_progress r a f c n ≡ false → Gives whole BadProgress a f o
+  pub left_bad : none ≡ call → good_progress r a f c n ≡ false → Gives whole (Err BadProgress) a f o
   unfolding continued_search
-  left_bad e h = left BadProgress
-      ((let z : nothing_written BadProgress a f o ≡ judged = rw h in z) ∙ call_passed w cells shapes boxes r body (length a) (length f) (length o) false (λ q. nothing_written (Refused q) a f o) judged e)
+  left_bad e h = left (Err BadProgress)
+      ((let z : nothing_written (Err BadProgress) a f o ≡ judged = rw h in z) ∙ call_passed w cells shapes boxes r body (length a) (length f) (length o) false (λ q. nothing_written (Err (Judged q)) a f o) judged e)
 
   pub went : none ≡ call → good_progress r a f c n ≡ true → gone_on w cells perms shapes boxes r body a f o c n ≡ whole
   unfolding continued_search
-  went e h = (let z : gone_on w cells perms shapes boxes r body a f o c n ≡ judged = rw h in z) ∙ call_passed w cells shapes boxes r body (length a) (length f) (length o) false (λ q. nothing_written (Refused q) a f o) judged e
+  went e h = (let z : gone_on w cells perms shapes boxes r body a f o c n ≡ judged = rw h in z) ∙ call_passed w cells shapes boxes r body (length a) (length f) (length o) false (λ q. nothing_written (Err (Judged q)) a f o) judged e
 
   module _ (passed : Passed w cells shapes boxes r body (length a) (length f) (length o) false) (bounds : CountBounds r.node_budget c n) where
     -- accepted rooms and counts are ready for every expansion that can be asked: no count wraps
@@ -211,13 +211,13 @@ module _ (w : Window) (cells perms shapes boxes : List ℕ) (r : Request) (body 
         came_searching : came ≡ explore.Searching
         came_searching = ap (came_to sp r body) (sym state_is) ∙ (came_going sp r body t b g on).0
 
-        pub holds_on : Gives whole (Searching (counts_of t)) b g o
+        pub holds_on : Gives whole (Ok (Searching (counts_of t))) b g o
         holds_on = by_parts
-            (sym (ap (λ (e : explore.Outcome (Feet × Label)). tick_by e (counts_in far)) came_searching ∙ ap Searching counts_are))
+            (sym (ap (λ (e : explore.Outcome (Feet × Label)). tick_by e (counts_in far)) came_searching ∙ ap (λ (c : Counts). Ok (Searching c)) counts_are))
             (front_room_is ∙ sym (ap (λ (e : explore.Outcome (Feet × Label)). front_by e f far.nodes) came_searching))
             (sym (ap out_with came_searching))
 
-        pub goes_from : GoesFrom far (Searching (counts_of t)) b g
+        pub goes_from : GoesFrom far (Ok (Searching (counts_of t))) b g
         goes_from = sym (came_going sp r body t b g on).1 ∙ state_is
 
       -- the search has ended
@@ -232,10 +232,10 @@ module _ (w : Window) (cells perms shapes boxes : List ℕ) (r : Request) (body 
         not_searching : came ≡ explore.Searching → ⊥
         not_searching e = end_not_searching b (feet_of r.goal) t (sym came_is ∙ e)
 
-        tick_over : Ended x.outcome x.count (counts_of t) ≡ tick_by came (counts_in far)
+        tick_over : Ok (Ended x.outcome x.count (counts_of t)) ≡ tick_by came (counts_in far)
         tick_over = sym (ended_tick came (counts_in far) not_searching
-            ∙ (λ i. Ended (told_by (came_is i)) (length (list_in (came_is i))) (counts_are i))
-            ∙ ap (λ (y : Answer). Ended y.outcome y.count (counts_of t)) (sym ends.0))
+            ∙ (λ i. Ok (Ended (told_by (came_is i)) (length (list_in (came_is i))) (counts_are i)))
+            ∙ ap (λ (y : Answer). Ok (Ended y.outcome y.count (counts_of t))) (sym ends.0))
 
         front_over : replicate (length g) 0 ≡ front_by came f far.nodes
         front_over = ap (λ (m : ℕ). replicate m 0) front_kept ∙ sym (ended_front came f far.nodes not_searching)
@@ -244,5 +244,5 @@ module _ (w : Window) (cells perms shapes boxes : List ℕ) (r : Request) (body 
         out_over = ends.1 ∙ ap (λ (e : explore.Outcome (Feet × Label)). written (list_in e) o) (sym came_is)
             ∙ written_is (list_in came) o (omega (arith, passed.out_room, few, end_short b (feet_of r.goal) t, ap (λ (e : explore.Outcome (Feet × Label)). length (list_in e)) came_is))
 
-        pub holds_over : {z : List ℕ} → z ≡ replicate (length g) 0 → Gives whole (Ended x.outcome x.count (counts_of t)) b z p
+        pub holds_over : {z : List ℕ} → z ≡ replicate (length g) 0 → Gives whole (Ok (Ended x.outcome x.count (counts_of t))) b z p
         holds_over e = by_parts tick_over (e ∙ front_over) out_over

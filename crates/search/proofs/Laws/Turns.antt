@@ -1,9 +1,9 @@
 -- The four ways through an expansion, each in the theory's words.
-use Rattle.std.specs.Prelude.{◌≡◌, refl, List, [], ◌∷◌, map, ℕ, ◌+◌, ◌-◌, ◌≤◌, ◌<◌, eqb}
+use Rattle.std.specs.Prelude.{◌≡◌, refl, List, [], ◌∷◌, map, ℕ, ◌+◌, ◌-◌, ◌≤◌, ◌<◌, eqb, Option, Some, None}
 use Rattle.std.proofs.Math.Path.{sym, ap}
 use Rattle.std.proofs.Common.{◌∙◌, ⊎_elim, eq-eqb, arith}
 use Rattle.std.proofs.Math.Bool.{true, false}
-use Rattle.std.proofs.Math.Option.{Option, none, some}
+use Rattle.std.proofs.Math.Option.{Option as Maybe, none, some}
 use Rattle.exploration.proofs.Laws.Lists.{true_false, or-false}
 use Rattle.exploration.specs.Graph.{Graph}
 use Rattle.exploration.specs.Policy.{Node, Policy}
@@ -13,8 +13,6 @@ use Rattle.world.specs.declared.Body.{Body}
 use Rattle.world.specs.declared.Request.{Request}
 use Rattle.world.specs.Space.{Space}
 use Rattle.moves.specs.declared.answer.Waypoint.{Waypoint}
-use Rattle.moves.specs.declared.answer.EdgeAnswer.{EdgeAnswer}
-use Rattle.moves.specs.declared.answer.EdgeAnswer.TheVariants.{To, Nowhere}
 use Rattle.edges.specs.Edges.{connector}
 use Rattle.steps.specs.Columns.{steps_from}
 use Rattle.words.specs.Words.{point_of, feet_of, label_of, step_of, label_if}
@@ -37,7 +35,7 @@ use Rattle.visits.specs.declared.Closing.{Closing}
 use Rattle.visits.specs.Visits.{Ready, Rested, Rests, Closed, ClosedIf}
 use Rattle.visits.proofs.Laws.Visits.{kept_none, kept_trans, still_none, still_trans, rests_none, rests_trans, near_none, near_trans, near_le, is_ready}
 use Rattle.outcomes.specs.declared.Turn.TheVariants.{Rest, Going, At, By}
-use Rattle.strides.specs.declared.Place.{Place}
+use Rattle.visits.specs.declared.Place.{Place}
 use Rattle.search.specs.Steps.{Stepped}
 use Rattle.search.proofs.Laws.Steps.{ready_after}
 use Rattle.search.specs.Turns.{most_steps, Bounded, Settled, Turned}
@@ -57,7 +55,7 @@ module _ (aim : Aim) (sp : Space) (r : Request) (body : Body) (c : Counts) (a f 
   abbrev 𝓟 : Policy Feet Label Note ℕ
   𝓟 = best aim.goal
 
-  abbrev from_pick : Option (ℕ × Node Feet Label Note) → State Feet Label Note ℕ
+  abbrev from_pick : Maybe (ℕ × Node Feet Label Note) → State Feet Label Note ℕ
   from_pick o = advance_by 𝓖 𝓟 aim.budget (state_of a f c) none o
 
   pub turned_rest : c.retained ≤ aim.budget → c.retained ≤ next_of c.retained f → Turned aim sp r body c (Rest c) a f a f
@@ -68,7 +66,7 @@ module _ (aim : Aim) (sp : Space) (r : Request) (body : Body) (c : Counts) (a f 
     abbrev from : Feet
     from = (node_at a k).feet
 
-    expanding : Option (List (Feet × Label)) → State Feet Label Note ℕ
+    expanding : Maybe (List (Feet × Label)) → State Feet Label Note ℕ
     expanding o = expand_by 𝓖 𝓟 aim.budget (state_of a f c) k (node_in a f k) o
 
     advance_some : advance 𝓖 𝓟 aim.budget (state_of a f c) ≡ expanding (ending 𝓖 from)
@@ -83,8 +81,8 @@ module _ (aim : Aim) (sp : Space) (r : Request) (body : Body) (c : Counts) (a f 
     unfolding ending graph
     ending_last i = let t : same_point from (feet_of r.goal) ≡ false = rw goal at i in rw t
 
-    ending_by_lem : (o : EdgeAnswer) → same_point from aim.goal ≡ false → o ≡ connector sp r body (point_of from) → ending 𝓖 from ≡ ending_by 𝓖 false (label_if o)
-    ending_by_lem o i j = ending_last i ∙ ap (λ (x : EdgeAnswer). ending_by 𝓖 false (label_if x)) (sym j)
+    ending_by_lem : (o : Option Waypoint) → same_point from aim.goal ≡ false → o ≡ connector sp r body (point_of from) → ending 𝓖 from ≡ ending_by 𝓖 false (label_if o)
+    ending_by_lem o i j = ending_last i ∙ ap (λ (x : Option Waypoint). ending_by 𝓖 false (label_if x)) (sym j)
 
     graph_goal : 𝓖.goal ≡ aim.goal
     unfolding graph
@@ -102,13 +100,13 @@ module _ (aim : Aim) (sp : Space) (r : Request) (body : Body) (c : Counts) (a f 
         quiet = tt;
       }
 
-      pub turned_by : (l : Label) (way : Waypoint) → same_point from aim.goal ≡ false → To way ≡ connector sp r body (point_of from) → l ≡ label_of way → Turned aim sp r body c (By s k l) a f b g
+      pub turned_by : (l : Label) (way : Waypoint) → same_point from aim.goal ≡ false → Some way ≡ connector sp r body (point_of from) → l ≡ label_of way → Turned aim sp r body c (By s k l) a f b g
       unfolding expanding
       turned_by l way i j m = record {
         state = ap (λ (x : State Feet Label Note ℕ). arrive x k ((aim.goal, l) ∷ [])) (shut.state 𝓖)
             ∙ ap (λ (x : Feet). arrive (close 𝓖 𝓟 (state_of a f c) k (node_in a f k)) k ((x, l) ∷ [])) (sym graph_goal)
             ∙ ap (λ (x : Label). arrive (close 𝓖 𝓟 (state_of a f c) k (node_in a f k)) k ((𝓖.goal, x) ∷ [])) m
-            ∙ sym (advance_some ∙ ap expanding (ending_by_lem (To way) i j));
+            ∙ sym (advance_some ∙ ap expanding (ending_by_lem (Some way) i j));
         kept = shut.kept;
         still = shut.still;
         rest = shut.rest;
@@ -116,7 +114,7 @@ module _ (aim : Aim) (sp : Space) (r : Request) (body : Body) (c : Counts) (a f 
         quiet = tt;
       }
 
-      pub turned_going : (at : Place) {t : Counts} {x y : List ℕ} → Bounded sp r body → same_point from aim.goal ≡ false → Nowhere ≡ connector sp r body (point_of from) → at.number ≡ k → at.node ≡ node_at a k → at.point ≡ point_of from
+      pub turned_going : (at : Place) {t : Counts} {x y : List ℕ} → Bounded sp r body → same_point from aim.goal ≡ false → None ≡ connector sp r body (point_of from) → at.number ≡ k → at.node ≡ node_at a k → at.point ≡ point_of from
           → Stepped aim at (steps_from sp r body at.point) s t b g x y → Turned aim sp r body c (Going t) a f x y
       unfolding expanding graph node_of best
       turned_going at {t} {x} {y} bound i j p q m v = record {
@@ -124,7 +122,7 @@ module _ (aim : Aim) (sp : Space) (r : Request) (body : Body) (c : Counts) (a f 
             ∙ ap (λ (z : State Feet Label Note ℕ). visits 𝓖 𝓟 aim.budget at.number (closed_node 𝓖 𝓟 (node_in a f k)) z (map step_of (steps_from sp r body at.point))) (shut.state 𝓖)
             ∙ ap (λ (z : ℕ). visits 𝓖 𝓟 aim.budget z (closed_node 𝓖 𝓟 (node_in a f k)) (close 𝓖 𝓟 (state_of a f c) k (node_in a f k)) (map step_of (steps_from sp r body at.point))) p
             ∙ ap (λ (z : Point). visits 𝓖 𝓟 aim.budget k (closed_node 𝓖 𝓟 (node_in a f k)) (close 𝓖 𝓟 (state_of a f c) k (node_in a f k)) (map step_of (steps_from sp r body z))) m
-            ∙ sym (advance_some ∙ ap expanding (ending_by_lem Nowhere i j));
+            ∙ sym (advance_some ∙ ap expanding (ending_by_lem None i j));
         kept = kept_trans v.near.more shut.kept v.kept;
         still = still_trans shut.near.more shut.still v.still;
         rest = rests_trans shut.near.more shut.rest v.rest;

@@ -1,22 +1,17 @@
 -- `search::columns::column` meets its contract. The loop's invariant: the steps of the heights gone have been visited, the column's steps are those and the
-use Rattle.std.proofs.Common.{◌≡◌, refl, sym, ap, ◌∙◌, subst, false, not, List, [], ℕ, ◌<◌, arith, le_trans, lt_of_lt_of_le, length, Float}
+use Rattle.std.proofs.Common.{◌≡◌, sym, ap, ◌∙◌, subst, false, not, List, [], ℕ, ◌<◌, arith, le_trans, lt_of_lt_of_le, length, Float, Option, Some}
 use Rattle.exploration.proofs.Laws.Lists.{or-false}
 use Rattle.strides.specs.declared.Column.{Column}
 use borrow.Author.Tests.{not-false}
 use Rattle.heights.specs.declared.Band.{Band}
-use Rattle.heights.specs.declared.Height.{Height}
 use Rattle.world.specs.declared.Point.{Point}
-use Rattle.world.specs.Space.{Space, space}
-use Rattle.heights.specs.declared.Height.TheVariants.{At}
+use Rattle.world.specs.Space.{Space, space_of}
 use Rattle.heights.specs.declared.batches.Batch.{Batch}
 use Rattle.heights.specs.Heights.{tops, sorted, next_after}
 use Rattle.heights.specs.Lowest.{height_at, moved_on}
 use Rattle.heights.proofs.Laws.{numbers}
 use Rattle.heights.proofs.BatchLaws.{Batched, used_up, held_next, held_on}
 use Rattle.moves.specs.declared.answer.Waypoint.{Waypoint}
-use Rattle.moves.specs.declared.answer.EdgeAnswer.{EdgeAnswer}
-use Rattle.moves.specs.declared.answer.EdgeAnswer.TheVariants.{To}
-use Rattle.moves.proofs.Unique.{one_edge}
 use Rattle.edges.specs.Edges.{edge}
 use Rattle.edges.specs.Answers.{edge_feet}
 use Rattle.words.specs.Words.{feet_of}
@@ -32,61 +27,82 @@ use Rattle.search.proofs.columns.column.Goals as goal
 use Rattle.search.proofs.columns.column.Goals.{After-find-j}
 
 -- the batch moved on is at the next of the column's heights
-module _ (sp : Space) (band : Band) (x z : Float) (after : Height) (room : List Float) (batch : Batch) (some : 0 < length room) (inv : Batched after (sorted (tops sp band x z)) room batch)
-    {room' : List Float} {batch' : Batch} (moved : ◌≡◌ {A = List Float × Batch} (room', batch') (moved_on (tops sp band x z) after room batch)) {h : Height} (e : h ≡ height_at room' batch') where
+module _ (sp : Space) (band : Band) (x z : Float) (after : Option Float) (room : List Float) (batch : Batch) (roomy : 0 < length room) (inv : Batched after (sorted (tops sp band x z)) room batch)
+    {room' : List Float} {batch' : Batch} (moved : ◌≡◌ {A = List Float × Batch} (room', batch') (moved_on (tops sp band x z) after room batch)) {h : Option Float} (e : h ≡ height_at room' batch') where
   next : h ≡ next_after sp band x z after
   unfolding next_after
-  next = e ∙ (λ i. height_at (moved i).0 (moved i).1) ∙ held_next (tops sp band x z) (numbers band x z sp) after room some batch inv
+  next = e ∙ (λ i. height_at (moved i).0 (moved i).1) ∙ held_next (tops sp band x z) (numbers band x z sp) after room roomy batch inv
 
-  held : (y : Float) → h ≡ At y → Batched (At y) (sorted (tops sp band x z)) room' batch'
+  held : (y : Float) → h ≡ Some y → Batched (Some y) (sorted (tops sp band x z)) room' batch'
   held y a =
-      subst (λ (q : List Float × Batch). Batched (At y) (sorted (tops sp band x z)) q.0 q.1) (sym moved)
-      (held_on (tops sp band x z) (numbers band x z sp) after room some batch inv y (sym (λ i. height_at (moved i).0 (moved i).1) ∙ sym e ∙ a))
+      subst (λ (q : List Float × Batch). Batched (Some y) (sorted (tops sp band x z)) q.0 q.1) (sym moved)
+      (held_on (tops sp band x z) (numbers band x z sp) after room roomy batch inv y (sym (λ i. height_at (moved i).0 (moved i).1) ∙ sym e ∙ a))
 
 pub returns-then-not-looked : goal.returns-then-not-looked
 returns-then-not-looked c = looked_not c.args.n c.requires.sides_value (sym c.looked.ensures ∙ c.if-not-looked.true) c.requires.ready.0.few
 
 pub loop-y-init : goal.loop-y-init
 loop-y-init c =
+    let q = c.args.task.query in
     let z = ap (λ (x : Sides). looked_by x c.args.n) (sym c.requires.sides_value) ∙ sym c.looked.ensures ∙ c.if-not-looked.false in
-    (refl, refl, refl, used_up (omega arith) (omega arith), along_none (column_begins (space c.args.task.w c.args.cells.now c.args.perms.now c.args.shapes.now c.args.boxes.now) c.args.task.r c.args.task.body c.args.at.point c.args.n z) (went_none c.args.nodes.now c.args.front.now c.requires.ready.0.few))
+    record {
+      batched = used_up (omega arith) (omega arith);
+      along = along_none (column_begins (space_of q.world) q.request q.body c.args.at.point c.args.n z) (went_none c.args.nodes.now c.args.front.now c.requires.ready.0.few);
+    }
 
 pub returns-in_default : goal.returns-in_default
 returns-in_default c =
-    let g = along_end c.loop-y.invariant.4 (none_left (space c.args.task.w c.args.cells.now c.args.perms.now c.args.shapes.now c.args.boxes.now) c.args.task.r c.args.task.body c.args.at.point c.args.n c.loop-y.after c.band_of-band.ensures c.column_centre-centre.ensures (next (space c.args.task.w c.args.cells.now c.args.perms.now c.args.shapes.now c.args.boxes.now) c.band_of-band.result c.column_centre-centre.result.x c.column_centre-centre.result.z c.loop-y.after c.loop-y.room c.loop-y.batch (omega (arith, c.requires.room_nonzero, c.loop-y.invariant.2)) c.loop-y.invariant.3 c.advance-batch.ensures c.height_at.ensures) c.in_default.is) in
-    looked_on c.args.n c.requires.sides_value c.loop-y.gone c.answered-sides.result c.answered-sides.ensures g
+    let q = c.args.task.query in
+    let i = c.loop-y in
+    let s = c.column_centre-centre.result in
+    let h = next (space_of q.world) c.band_of-band.result s.x s.z i.after i.room i.batch (omega (arith, c.requires.room_nonzero, i.auto.room)) i.invariant.batched c.advance-batch.ensures c.height_at.ensures in
+    let g = along_end i.invariant.along (none_left (space_of q.world) q.request q.body c.args.at.point c.args.n i.after c.band_of-band.ensures c.column_centre-centre.ensures h c.in_default.is) in
+    looked_on c.args.n c.requires.sides_value i.gone c.answered-sides.result c.answered-sides.ensures g
 
 -- of a height that was looked up: the point, and the edge to it
 abbrev to : After-find-j → Point
-to s = target s.column_centre-centre.result s.in-At.y
+to s = target s.column_centre-centre.result s.in-Some.y
 
-abbrev step : After-find-j → EdgeAnswer
-step s = edge (space s.args.task.w s.args.cells.now s.args.perms.now s.args.shapes.now s.args.boxes.now) s.args.task.r s.args.task.body s.args.at.point (to s)
+abbrev step : After-find-j → Option Waypoint
+step s = edge (space_of s.args.task.query.world) s.args.task.query.request s.args.task.query.body s.args.at.point (to s)
 
-leads : (s : After-find-j) (w : Waypoint) → step s ≡ To w → w.feet ≡ to s
-leads s w = edge_feet (space s.args.task.w s.args.cells.now s.args.perms.now s.args.shapes.now s.args.boxes.now) s.args.task.r s.args.task.body s.args.at.point (to s) w
+leads : (s : After-find-j) (w : Waypoint) → step s ≡ Some w → w.feet ≡ to s
+leads s w = edge_feet (space_of s.args.task.query.world) s.args.task.query.request s.args.task.query.body s.args.at.point (to s) w
 
 -- the lookup found the first node there: the nodes that are in the index are where they were
 found : (s : After-find-j) → s.find-j.result ≡ first_at s.loop-y.nodes s.loop-y.gone.counts.retained (feet_of (to s))
 found s =
-    let u = s.loop-y.invariant.4.went.steps in
+    let u = s.loop-y.invariant.along.went.steps in
     let m = s.requires.indexed in
     let x = indexed_same (λ k l. u.still.feet k (lt_of_lt_of_le l m.1)) m.0 in
     s.find-j.ensures ∙ looked_up_lem x s.feet_of.result s.loop-y.gone.counts.retained (le_trans m.1 u.near.more) ∙ ap (first_at s.loop-y.nodes s.loop-y.gone.counts.retained) s.feet_of.ensures
 
+-- it is the next of the heights, and the batch holds those behind it
+next_of : (s : After-find-j) → s.height_at.result ≡ next_after (space_of s.args.task.query.world) s.band_of-band.result s.column_centre-centre.result.x s.column_centre-centre.result.z s.loop-y.after
+next_of s =
+    let i = s.loop-y in
+    next (space_of s.args.task.query.world) s.band_of-band.result s.column_centre-centre.result.x s.column_centre-centre.result.z i.after i.room i.batch (omega (arith, s.requires.room_nonzero, i.auto.room)) i.invariant.batched s.advance-batch.ensures s.height_at.ensures
+
+held_by : (s : After-find-j) → Batched (Some s.in-Some.y) (sorted (tops (space_of s.args.task.query.world) s.band_of-band.result s.column_centre-centre.result.x s.column_centre-centre.result.z)) s.advance-batch.new.room s.advance-batch.result
+held_by s =
+    let i = s.loop-y in
+    held (space_of s.args.task.query.world) s.band_of-band.result s.column_centre-centre.result.x s.column_centre-centre.result.z i.after i.room i.batch (omega (arith, s.requires.room_nonzero, i.auto.room)) i.invariant.batched s.advance-batch.ensures s.height_at.ensures s.in-Some.y s.in-Some.is
+
 -- whichever way the step goes, one height less is left
-less : (s : After-find-j) → heights_left (space s.args.task.w s.args.cells.now s.args.perms.now s.args.shapes.now s.args.boxes.now) s.args.task.r s.args.task.body s.args.at.point s.args.n (At (to s).y) < heights_left (space s.args.task.w s.args.cells.now s.args.perms.now s.args.shapes.now s.args.boxes.now) s.args.task.r s.args.task.body s.args.at.point s.args.n s.loop-y.after
+less : (s : After-find-j) → let q = s.args.task.query in heights_left (space_of q.world) q.request q.body s.args.at.point s.args.n (Some (to s).y) < heights_left (space_of q.world) q.request q.body s.args.at.point s.args.n s.loop-y.after
 less s =
-    fewer (space s.args.task.w s.args.cells.now s.args.perms.now s.args.shapes.now s.args.boxes.now) s.args.task.r s.args.task.body s.args.at.point s.args.n s.loop-y.after s.band_of-band.ensures s.column_centre-centre.ensures (next (space s.args.task.w s.args.cells.now s.args.perms.now s.args.shapes.now s.args.boxes.now) s.band_of-band.result s.column_centre-centre.result.x s.column_centre-centre.result.z s.loop-y.after s.loop-y.room s.loop-y.batch (omega (arith, s.requires.room_nonzero, s.loop-y.invariant.2)) s.loop-y.invariant.3 s.advance-batch.ensures s.height_at.ensures) (to s).y s.in-At.is
+    let q = s.args.task.query in
+    fewer (space_of q.world) q.request q.body s.args.at.point s.args.n s.loop-y.after s.band_of-band.ensures s.column_centre-centre.ensures (next_of s) (to s).y s.in-Some.is
 
 -- and the column goes on behind it
 onward : (s : After-find-j) {gone : Column} {nodes front : List ℕ} →
     Went s.args.task.aim s.args.at s.args.n (ahead (step s) []) s.loop-y.gone gone s.loop-y.nodes s.loop-y.front nodes front →
     Along (λ ws. Went s.args.task.aim s.args.at s.args.n ws (record { counts = s.args.c.counts; level = false }) gone s.args.nodes.now s.args.front.now nodes front)
-    (column_if (space s.args.task.w s.args.cells.now s.args.perms.now s.args.shapes.now s.args.boxes.now) s.args.task.r s.args.task.body s.args.at.point s.args.n) (steps_after (space s.args.task.w s.args.cells.now s.args.perms.now s.args.shapes.now s.args.boxes.now) s.args.task.r s.args.task.body s.args.at.point s.args.n (At (to s).y))
+    (column_if (space_of s.args.task.query.world) s.args.task.query.request s.args.task.query.body s.args.at.point s.args.n) (steps_after (space_of s.args.task.query.world) s.args.task.query.request s.args.task.query.body s.args.at.point s.args.n (Some (to s).y))
 onward s g =
-    let rest = next_ahead (space s.args.task.w s.args.cells.now s.args.perms.now s.args.shapes.now s.args.boxes.now) s.args.task.r s.args.task.body s.args.at.point s.args.n s.loop-y.after s.band_of-band.ensures s.column_centre-centre.ensures (next (space s.args.task.w s.args.cells.now s.args.perms.now s.args.shapes.now s.args.boxes.now) s.band_of-band.result s.column_centre-centre.result.x s.column_centre-centre.result.z s.loop-y.after s.loop-y.room s.loop-y.batch (omega (arith, s.requires.room_nonzero, s.loop-y.invariant.2)) s.loop-y.invariant.3 s.advance-batch.ensures s.height_at.ensures) (to s).y s.in-At.is in
-    along_on (ahead (step s) []) s.loop-y.invariant.4 (rest ∙ ahead_split (step s) (steps_after (space s.args.task.w s.args.cells.now s.args.perms.now s.args.shapes.now s.args.boxes.now) s.args.task.r s.args.task.body s.args.at.point s.args.n (At (to s).y))) (λ vs w. went_more w g)
+    let q = s.args.task.query in
+    let rest = next_ahead (space_of q.world) q.request q.body s.args.at.point s.args.n s.loop-y.after s.band_of-band.ensures s.column_centre-centre.ensures (next_of s) (to s).y s.in-Some.is in
+    along_on (ahead (step s) []) s.loop-y.invariant.along (rest ∙ ahead_split (step s) (steps_after (space_of q.world) q.request q.body s.args.at.point s.args.n (Some (to s).y))) (λ vs w. went_more w g)
 
 pub loop-y-smaller-then-is_side-is_shut : goal.loop-y-smaller-then-is_side-is_shut
 loop-y-smaller-then-is_side-is_shut c = less (goal.at.loop-y-smaller-then-is_side-is_shut c).After-find-j
@@ -95,26 +111,21 @@ pub loop-y-preserved-then-is_side-is_shut : goal.loop-y-preserved-then-is_side-i
 loop-y-preserved-then-is_side-is_shut c =
     let i = c.loop-y in
     let s = (goal.at.loop-y-preserved-then-is_side-is_shut c).After-find-j in
-    let u = i.invariant.4 in (
-      c.step_to-gone.auto.nodes ∙ i.invariant.0,
-      c.step_to-gone.auto.front ∙ i.invariant.1,
-      c.advance-batch.auto.room ∙ i.invariant.2,
-      held (space c.args.task.w c.args.cells.now c.args.perms.now c.args.shapes.now c.args.boxes.now) c.band_of-band.result c.column_centre-centre.result.x c.column_centre-centre.result.z c.loop-y.after c.loop-y.room c.loop-y.batch (omega (arith, c.requires.room_nonzero, c.loop-y.invariant.2)) c.loop-y.invariant.3 c.advance-batch.ensures c.height_at.ensures c.in-At.y c.in-At.is,
-      onward s (went_by (step s) (to s) c.find-j.result (leads s) (found s) (rw (one_edge _ _ c.edge-edge.ensures) at c.step_to-gone.ensures)
-          (ready_after c.requires.ready.0 u.went.steps.near (omega (arith, along_short u)) i.invariant.0 i.invariant.1) (omega (arith, c.requires.ready.1, u.went.steps.near.more))),
-    )
+    let u = i.invariant.along in
+    record {
+      batched = held_by s;
+      along = onward s (went_by (step s) (to s) c.find-j.result (leads s) (found s) (rw c.edge-edge.ensures at c.step_to-gone.ensures)
+          (ready_after c.requires.ready.0 u.went.steps.near (omega (arith, along_short u)) i.auto.nodes i.auto.front) (omega (arith, c.requires.ready.1, u.went.steps.near.more)));
+    }
 
 pub loop-y-smaller : goal.loop-y-smaller
 loop-y-smaller c = less (goal.at.loop-y-smaller c).After-find-j
 
 pub loop-y-preserved : goal.loop-y-preserved
 loop-y-preserved c =
-    let i = c.loop-y in
     let s = (goal.at.loop-y-preserved c).After-find-j in
-    let o = or-false c.is_side.result (not c.is_shut.result) c.if-is_side-is_shut.false in (
-      i.invariant.0,
-      i.invariant.1,
-      c.advance-batch.auto.room ∙ i.invariant.2,
-      held (space c.args.task.w c.args.cells.now c.args.perms.now c.args.shapes.now c.args.boxes.now) c.band_of-band.result c.column_centre-centre.result.x c.column_centre-centre.result.z c.loop-y.after c.loop-y.room c.loop-y.batch (omega (arith, c.requires.room_nonzero, c.loop-y.invariant.2)) c.loop-y.invariant.3 c.advance-batch.ensures c.height_at.ensures c.in-At.y c.in-At.is,
-      onward s (went_shut (step s) (to s) c.find-j.result (leads s) (found s) (sym c.is_side.ensures ∙ o.0) (sym c.is_shut.ensures ∙ not-false _ o.1) i.invariant.4.went.steps.near.few),
-    )
+    let o = or-false c.is_side.result (not c.is_shut.result) c.if-is_side-is_shut.false in
+    record {
+      batched = held_by s;
+      along = onward s (went_shut (step s) (to s) c.find-j.result (leads s) (found s) (sym c.is_side.ensures ∙ o.0) (sym c.is_shut.ensures ∙ not-false _ o.1) c.loop-y.invariant.along.went.steps.near.few);
+    }

@@ -1,6 +1,6 @@
 -- `search::columns::columns` meets its contract. The loop's invariant: the steps of the columns gone have been visited, the sides are those of the columns gone,
-use Rattle.std.proofs.Common.{◌+◌, refl, sym, ap, ◌∙◌, arith, le_trans, lt_of_lt_of_le, length, length-append}
-use Rattle.world.specs.Space.{space}
+use Rattle.std.proofs.Common.{◌+◌, sym, ap, ◌∙◌, arith, le_trans, lt_of_lt_of_le, length, length-append}
+use Rattle.world.specs.Space.{space_of}
 use Rattle.steps.specs.Columns.{column_if}
 use Rattle.steps.specs.Expansion.{columns_from, columns_begin, columns_on, columns_end, sides_begin}
 use Rattle.index.proofs.Laws.{indexed_same}
@@ -8,35 +8,40 @@ use Rattle.search.proofs.Laws.Steps.{ready_after, stepped_none, stepped_more, al
 use Rattle.search.proofs.columns.columns.Goals as goal
 
 pub loop-n-init : goal.loop-n-init
-loop-n-init c = (omega arith, refl, refl, refl, c.none-sides.ensures ∙ sym (sides_begin (space c.args.task.w c.args.cells.now c.args.perms.now c.args.shapes.now c.args.boxes.now) c.args.task.r c.args.task.body c.args.at.point), along_none (columns_begin (space c.args.task.w c.args.cells.now c.args.perms.now c.args.shapes.now c.args.boxes.now) c.args.task.r c.args.task.body c.args.at.point) (stepped_none c.args.nodes.now c.args.front.now c.requires.ready.0.few))
+loop-n-init c =
+    let q = c.args.task.query in
+    record {
+      answered = c.none-sides.ensures ∙ sym (sides_begin (space_of q.world) q.request q.body c.args.at.point);
+      along = along_none (columns_begin (space_of q.world) q.request q.body c.args.at.point) (stepped_none c.args.nodes.now c.args.front.now c.requires.ready.0.few);
+    }
 
 pub column-gone-requires : goal.column-gone-requires
 column-gone-requires c =
+    let q = c.args.task.query in
     let at = c.loop-n in
     let n = at.n in
-    let u = at.invariant.5 in
+    let u = at.invariant.along in
     let short = along_short u in
-    let e = ap length (columns_on (space c.args.task.w c.args.cells.now c.args.perms.now c.args.shapes.now c.args.boxes.now) c.args.task.r c.args.task.body c.args.at.point n c.loop-n-test.true) in
-    let l = length-append (column_if (space c.args.task.w c.args.cells.now c.args.perms.now c.args.shapes.now c.args.boxes.now) c.args.task.r c.args.task.body c.args.at.point n) (columns_from (space c.args.task.w c.args.cells.now c.args.perms.now c.args.shapes.now c.args.boxes.now) c.args.task.r c.args.task.body c.args.at.point (n + 1)) in
+    let e = ap length (columns_on (space_of q.world) q.request q.body c.args.at.point n c.loop-n-test.true) in
+    let l = length-append (column_if (space_of q.world) q.request q.body c.args.at.point n) (columns_from (space_of q.world) q.request q.body c.args.at.point (n + 1)) in
     let m = c.requires.indexed in
     record {
-      room_nonzero = omega (arith, c.requires.room_nonzero, at.invariant.3);
-      ready = (ready_after c.requires.ready.0 u.went.near (omega arith) at.invariant.1 at.invariant.2, omega (arith, c.requires.ready.1, u.went.near.more));
+      room_nonzero = omega (arith, c.requires.room_nonzero, at.auto.room);
+      ready = (ready_after c.requires.ready.0 u.went.near (omega arith) at.auto.nodes at.auto.front, omega (arith, c.requires.ready.1, u.went.near.more));
       indexed = (indexed_same (λ k h. u.went.still.feet k (lt_of_lt_of_le h m.1)) m.0, le_trans m.1 u.went.near.more);
-      sides_value = at.invariant.4;
+      sides_value = at.invariant.answered;
     }
-
-pub overflow_add-n : goal.overflow_add-n
-overflow_add-n c = omega (arith, c.loop-n-test.true)
-
-pub loop-n-smaller : goal.loop-n-smaller
-loop-n-smaller c = omega (arith, c.loop-n-test.true)
 
 pub loop-n-preserved : goal.loop-n-preserved
 loop-n-preserved c =
+    let q = c.args.task.query in
     let at = c.loop-n in
-    let n = at.n in
-    (omega (arith, c.loop-n-test.true), c.column-gone.auto.nodes ∙ at.invariant.1, c.column-gone.auto.front ∙ at.invariant.2, c.column-gone.auto.room ∙ at.invariant.3, c.column-gone.ensures.answered, along_on (column_if (space c.args.task.w c.args.cells.now c.args.perms.now c.args.shapes.now c.args.boxes.now) c.args.task.r c.args.task.body c.args.at.point n) at.invariant.5 (columns_on (space c.args.task.w c.args.cells.now c.args.perms.now c.args.shapes.now c.args.boxes.now) c.args.task.r c.args.task.body c.args.at.point n c.loop-n-test.true) (λ vs g. stepped_more g c.column-gone.ensures.steps))
+    record {
+      answered = c.column-gone.ensures.answered;
+      along = along_on (column_if (space_of q.world) q.request q.body c.args.at.point at.n) at.invariant.along (columns_on (space_of q.world) q.request q.body c.args.at.point at.n c.loop-n-test.true) (λ vs g. stepped_more g c.column-gone.ensures.steps);
+    }
 
 pub returns : goal.returns
-returns c = along_end c.loop-n.invariant.5 (columns_end (space c.args.task.w c.args.cells.now c.args.perms.now c.args.shapes.now c.args.boxes.now) c.args.task.r c.args.task.body c.args.at.point c.loop-n.n (omega (arith, c.loop-n-test.false)))
+returns c =
+    let q = c.args.task.query in
+    along_end c.loop-n.invariant.along (columns_end (space_of q.world) q.request q.body c.args.at.point c.loop-n.n (omega (arith, c.loop-n-test.false)))

@@ -22,63 +22,61 @@ ended (Going c) h = absurd (h c refl)
 ended (At c k) h = tt
 ended (By c k l) h = tt
 
-pub loop-t-init : goal.loop-t-init
-loop-t-init c = (spun_none _ _ c.requires.ready.few, omega arith, refl, refl, refl, c.requires.indexed, omega arith, settled_none _ _, omega arith, length-replicate 256 (of_bits binary64 0))
+pub loop-init : goal.loop-init
+loop-init c = record {
+  spun = spun_none _ _ c.requires.ready.few;
+  entered = c.requires.indexed;
+  few_known = omega arith;
+  at_rest = settled_none _ _;
+  few_resting = omega arith;
+  tops = length-replicate 256 (of_bits binary64 0);
+}
 
 -- how far the index goes before an expansion
-entered : (s : After-extend-known) → Longer s.loop-t.index s.loop-t.nodes s.loop-t.known s.in-Going.d.retained (extended s.loop-t.index s.loop-t.nodes s.loop-t.known s.in-Going.d.retained)
+entered : (s : After-extend-known) → Longer s.loop.index s.loop.nodes s.loop.known s.in-Going.d.retained (extended s.loop.index s.loop.nodes s.loop.known s.in-Going.d.retained)
 entered s =
-    let u = rw s.in-Going.is at s.loop-t.invariant.0 in
-    let l = rw s.in-Going.is at s.loop-t.invariant.6 in
-    longer s.in-Going.d.retained s.loop-t.invariant.5 l (omega (arith, u.near.few, s.requires.ready.numbered))
+    let u = rw s.in-Going.is at s.loop.invariant.spun in
+    let l = rw s.in-Going.is at s.loop.invariant.few_known in
+    longer s.in-Going.d.retained s.loop.invariant.entered l (omega (arith, u.near.few, s.requires.ready.numbered))
 
 -- and how far the nodes are at rest
-settled : (s : After-first_busy-low) → Settled s.loop-t.nodes s.loop-t.front s.first_busy-low.result × (s.first_busy-low.result ≤ s.in-Going.d.retained)
+settled : (s : After-first_busy-low) → Settled s.loop.nodes s.loop.front s.first_busy-low.result × (s.first_busy-low.result ≤ s.in-Going.d.retained)
 settled s =
-    let l = rw s.in-Going.is at s.loop-t.invariant.8 in
-    settled_more s.in-Going.d.retained s.loop-t.invariant.7 l s.first_busy-low.ensures
+    let l = rw s.in-Going.is at s.loop.invariant.few_resting in
+    settled_more s.in-Going.d.retained s.loop.invariant.at_rest l s.first_busy-low.ensures
 
 pub expand-turn-requires : goal.expand-turn-requires
 expand-turn-requires c =
-    let u = rw c.in-Going.is at c.loop-t.invariant.0 in
+    let u = rw c.in-Going.is at c.loop.invariant.spun in
     let x = entered (goal.at.expand-turn-requires c).After-extend-known in
     record {
-      room_nonzero = omega (arith, c.loop-t.invariant.9);
-      ready = ready_after c.requires.ready u.near (omega (arith, c.loop-t-test.true)) c.loop-t.invariant.2 c.loop-t.invariant.3;
+      room_nonzero = omega (arith, c.loop.invariant.tops);
+      ready = ready_after c.requires.ready u.near (omega (arith, c.loop-test.true)) c.loop.auto.nodes c.loop.auto.front;
       goal_value = c.requires.goal_value;
       indexed = (rw (c.extend-known.ensures.1, c.extend-known.ensures.0) x.indexed, rw c.extend-known.ensures.0 x.most, (settled (goal.at.expand-turn-requires c).After-first_busy-low).0);
     }
 
-pub overflow_add-t : goal.overflow_add-t
-overflow_add-t c = omega (arith, c.loop-t-test.true, c.requires.ready.pushes)
-
-pub loop-t-smaller : goal.loop-t-smaller
-loop-t-smaller c = omega (arith, c.loop-t-test.true)
-
-pub loop-t-preserved : goal.loop-t-preserved
-loop-t-preserved c =
-    let u = rw c.in-Going.is at c.loop-t.invariant.0 in
-    let x = entered (goal.at.loop-t-preserved c).After-extend-known in
+pub loop-preserved : goal.loop-preserved
+loop-preserved c =
+    let u = rw c.in-Going.is at c.loop.invariant.spun in
+    let x = entered (goal.at.loop-preserved c).After-extend-known in
     let e = c.expand-turn.ensures in
     let k = c.extend-known.ensures in
-    let s = settled (goal.at.loop-t-preserved c).After-first_busy-low in
-    let m : c.extend-known.result ≤ c.in-Going.d.retained = rw k.0 x.most in (
-      spun_next c.loop-t.t u e,
-      omega (arith, c.loop-t-test.true),
-      c.expand-turn.auto.nodes ∙ c.loop-t.invariant.2,
-      c.expand-turn.auto.front ∙ c.loop-t.invariant.3,
-      c.extend-known.auto.index ∙ c.loop-t.invariant.4,
-      indexed_same (λ i h. e.still.feet i (lt_of_lt_of_le h m)) (rw (k.1, k.0) x.indexed),
-      le_trans m e.near.more,
-      settled_on s.0 s.1 e.rest,
-      le_trans s.1 e.near.more,
-      c.expand-turn.auto.room ∙ c.loop-t.invariant.9,
-    )
+    let s = settled (goal.at.loop-preserved c).After-first_busy-low in
+    let m : c.extend-known.result ≤ c.in-Going.d.retained = rw k.0 x.most in
+    record {
+      spun = spun_next c.loop.counter u e;
+      entered = indexed_same (λ i h. e.still.feet i (lt_of_lt_of_le h m)) (rw (k.1, k.0) x.indexed);
+      few_known = le_trans m e.near.more;
+      at_rest = settled_on s.0 s.1 e.rest;
+      few_resting = le_trans s.1 e.near.more;
+      tops = c.expand-turn.auto.room ∙ c.loop.invariant.tops;
+    }
 
-pub returns-after-loop-t : goal.returns-after-loop-t
-returns-after-loop-t c =
-    let e : c.loop-t.t ≡ c.args.n = omega (arith, c.loop-t-test.false, c.loop-t.invariant.1) in
-    rw e at c.loop-t.invariant.0
+pub returns-after-loop : goal.returns-after-loop
+returns-after-loop c =
+    let e : c.loop.counter ≡ c.args.n = omega (arith, c.loop-test.false, c.loop.auto.counter-end) in
+    rw e at c.loop.invariant.spun
 
 pub returns-in_default : goal.returns-in_default
-returns-in_default c = spun_over c.loop-t.turn c.loop-t.t c.args.n c.loop-t.invariant.1 (ended c.loop-t.turn c.in_default.not-Going) c.loop-t.invariant.0
+returns-in_default c = spun_over c.loop.turn c.loop.counter c.args.n c.loop.auto.counter-end (ended c.loop.turn c.in_default.not-Going) c.loop.invariant.spun
