@@ -5,6 +5,8 @@ use Rattle.world.specs.declared.Window.{Window}
 use Rattle.world.specs.declared.Request.{Request}
 use Rattle.world.specs.declared.Body.{Body}
 use Rattle.scene_state.specs.declared.state.Scene.{Scene}
+use Rattle.scene_state.specs.declared.state.SceneError.{SceneError}
+use Rattle.scene_state.specs.declared.state.SceneError.TheVariants.{BadScene, NoRoom}
 use Rattle.scene_state.specs.Answers.{Answer, given, refused}
 use Rattle.outcomes.specs.declared.Answer as search
 use Rattle.outcomes.specs.Outcomes.{outcome_number}
@@ -15,6 +17,11 @@ use Rattle.report.specs.declared.lines.Told.{Told}
 -- "Refusals print `refused`, number, record": nothing else is told of one
 unfoldable pub refusal : ℕ → ℕ → Told
 refusal number bad = record { number = number; bad = bad; waypoints = 0; retained = 0; closed = 0; total = nought }
+
+-- 7 BadScene and its record, or 5 NoRoom
+abbrev pub told_error : SceneError → Told
+told_error (BadScene k) = refusal 7 k
+told_error NoRoom = refusal 5 0
 
 -- what a search's answer says, with the output room that it left: the length is that of the list's records, 48 bytes each
 unfoldable pub told_of : search.Answer → List ℕ → Told

@@ -1,5 +1,5 @@
 -- A list's front, of so many elements.
-use Rattle.std.specs.Prelude.{◌≡◌, ℕ, ◌≤◌, ◌<◌, ◌^◌, ◌-◌, Bool, true, false, List, length, take, min, leb, refl}
+use Rattle.std.specs.Prelude.{◌≡◌, ℕ, ◌<◌, ◌^◌, ◌-◌, Bool, true, false, List, length, take, min, leb, refl}
 use Rattle.std.proofs.Common.{ap, ◌∙◌, sym, arith, take_all, leb-true, leb-false}
 
 -- more elements than a slice can have are all of them, and so are as many as a number of 64 bits can say

@@ -1,7 +1,7 @@
 // What there is to tell of a scene (01, "Scenes and walkprint"): its refusal, or what the search answers.
 ghost use Rattle.std.specs.Prelude.{◌≡◌, ◌*◌, take};
 ghost use Rattle.scene_state.specs.Answers.{scene_answer};
-ghost use Rattle.print.specs.Print.{refusal, told_of, nodes_of, front_of, index_of, out_of, told};
+ghost use Rattle.print.specs.Print.{refusal, told_error, told_of, nodes_of, front_of, index_of, out_of, told};
 
 use outcomes::Answer;
 use print_lines::Told;
@@ -26,6 +26,16 @@ fn refusal(number: u64, bad: u64) -> Told
         retained: 0,
         closed: 0,
         total: 0.0,
+    }
+}
+
+// The number of a scene's refusal, and its record.
+fn refused(error: SceneError) -> Told
+    ensures { result ≡ told_error error }
+{
+    match error {
+        SceneError::NoRoom => refusal(5, 0),
+        SceneError::BadScene(k) => refusal(7, k),
     }
 }
 
@@ -63,8 +73,7 @@ pub fn tell(
     ensures out { out.new ≡ out_of cells.now perms.now shapes.now boxes.now (scene_answer answer) nodes.old front.old index.old out.old }
 {
     match answer {
-        Err(SceneError::NoRoom) => refusal(5, 0),
-        Err(SceneError::BadScene(k)) => refusal(7, k),
+        Err(error) => refused(error),
         Ok(s) => {
             let used = s.in_use;
             let world = World {
