@@ -16,51 +16,45 @@ fn with_box_counted(c: Counts, n: u32) -> Counts
     let shapes = n + 1;
     let last = if shapes == c.shapes { c.last + 1 } else { 1 };
     Counts {
-        cells: c.cells,
-        states: c.states,
         shapes,
         boxes: c.boxes + 1,
         last,
+        ..c
     }
 }
 
 // The number of the record behind this one begins again past the last u64.
+#[tactic(auto, unfolding(crate::specs::Next::next, crate::specs::Next::request_after, crate::specs::Next::body_after, crate::specs::Next::window_after, crate::specs::Next::counts_after))]
 pub(crate) fn next(state: Reading, bytes: &[u8], kind: u8) -> Reading
     requires { Allowed kind state.counts bytes.now }
     ensures { result ≡ next kind state bytes.now }
 {
-    let mut request = state.request;
-    let mut body = state.body;
-    let mut window = state.window;
-    let mut counts = state.counts;
-    match kind {
-        1 => {
-            request.start = point_at(bytes, 8);
-            request.goal = point_at(bytes, 32);
-            request.max_range = fields::f64_at(bytes, 56);
-            request.node_budget = number_of(bytes) as u64;
-        }
-        2 => {
-            request.step_height = fields::f64_at(bytes, 8);
-            request.jump_height = fields::f64_at(bytes, 16);
-            request.max_drop = fields::f64_at(bytes, 24);
-            body = body_at(bytes, 32);
-        }
-        3 => {
-            window = window_at(bytes, 8);
-            counts.cells = cell_count(window);
-        }
-        4 => counts = with_box_counted(counts, number_of(bytes)),
-        5 => counts.states = number_of(bytes) + 1,
-        _ => {}
-    }
     let number = std::num::wrapping_add_u64(state.number, 1);
-    Reading {
+    let mut next = Reading {
         number,
         kind,
-        request,
-        body,
-        window,
-        counts,
+        ..state
+    };
+    match kind {
+        1 => {
+            next.request.start = point_at(bytes, 8);
+            next.request.goal = point_at(bytes, 32);
+            next.request.max_range = fields::f64_at(bytes, 56);
+            next.request.node_budget = u64::from(number_of(bytes));
+        }
+        2 => {
+            next.request.step_height = fields::f64_at(bytes, 8);
+            next.request.jump_height = fields::f64_at(bytes, 16);
+            next.request.max_drop = fields::f64_at(bytes, 24);
+            next.body = body_at(bytes, 32);
+        }
+        3 => {
+            next.window = window_at(bytes, 8);
+            next.counts.cells = cell_count(next.window);
+        }
+        4 => next.counts = with_box_counted(next.counts, number_of(bytes)),
+        5 => next.counts.states = number_of(bytes) + 1,
+        _ => {}
     }
+    next
 }

@@ -2,7 +2,7 @@
 ghost use Rattle.std.specs.Prelude.{◌≡◌};
 ghost use Rattle.scene_tables.specs.Made.{with_box};
 
-// Box k set to the six numbers of a scene record, word by word.
+// Box k set to the six numbers of a scene record, word by word: one that does not fit the table is not written.
 pub fn put_box(boxes: &mut [u8], k: u32, bytes: &[u8])
     ensures { boxes.new ≡ with_box bytes.now k boxes.old }
 {
