@@ -9,6 +9,7 @@ ghost use Rattle.tables.specs.BadWorld.{from_to, each_of, box_rule, cell_bytes, 
 use world::{Aabb, Point, Window, World};
 
 // Whether a number is from -16 to 16: neither an infinity nor a NaN is.
+#[tactic(auto, unfolding(crate::specs::BadWorld::from_to))]
 fn from_to(x: f64) -> bool
     ensures { result ≡ from_to x }
 {
@@ -16,6 +17,7 @@ fn from_to(x: f64) -> bool
 }
 
 // Whether each of a point's numbers is.
+#[tactic(auto, unfolding(crate::specs::BadWorld::each_of))]
 fn inside(p: Point) -> bool
     ensures { result ≡ each_of from_to p }
 {
@@ -23,6 +25,7 @@ fn inside(p: Point) -> bool
 }
 
 // Whether a box is by its rule.
+#[tactic(auto, using(crate::specs::Laws::rule_is), unfolding(crate::specs::BadWorld::each, crate::specs::BadWorld::ordered))]
 pub fn box_good(b: Aabb) -> bool
     ensures { result ≡ box_rule b }
 {
@@ -33,6 +36,7 @@ pub fn box_good(b: Aabb) -> bool
 }
 
 // How many bytes the cell table of a window has.
+#[tactic(auto, using(world::specs::Sizes::layer_small, world::specs::Sizes::cells_small))]
 fn cell_bytes(w: Window) -> usize
     requires { Sizes w }
     ensures { result ≡ cell_bytes w }
@@ -41,6 +45,7 @@ fn cell_bytes(w: Window) -> usize
 }
 
 // Whether a shape's run is longer than 16 or goes past the boxes. The sum cannot wrap.
+#[tactic(auto, unfolding(crate::specs::BadWorld::bad_run))]
 fn bad_run(first: u32, count: u32, boxes: usize) -> bool
     ensures { result ≡ bad_run boxes first count }
 {
