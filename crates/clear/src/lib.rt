@@ -18,6 +18,7 @@ use world::{Aabb, Cell, NO_DOOR, Point, World};
 
 // The first of two doors: the second where the first is none. No door is a number, as 02 gives it (No. 5), and a state may have it: `first_door` of Corridors. That
 // there is no second one, as with most cells, is asked first.
+#[tactic(auto, using(crate::specs::Laws::or_none), unfolding(crate::specs::Corridors::or_else))]
 pub fn or_else(a: u32, b: u32) -> u32
     ensures { result ≡ or_else a b }
 {
@@ -83,6 +84,7 @@ fn all_free(world: World, area: Aabb, region: Region) -> Option<u32>
 }
 
 // The door of an area that is clear. A region's cells come with x fastest, and the clear check's with z fastest, so the two axes are exchanged.
+#[tactic(auto, using(crate::specs::Order::corridor_is, regions::specs::RangeLaws::less_none), unfolding(crate::specs::Clear::around))]
 pub fn corridor_of(world: World, area: Aabb) -> Option<u32>
     ensures { result ≡ corridor (space_of world.entry) area }
 {
@@ -94,6 +96,7 @@ pub fn corridor_of(world: World, area: Aabb) -> Option<u32>
 }
 
 // Whether an area is clear.
+#[tactic(auto, using(crate::specs::Laws::is_clear))]
 pub fn clear_area(world: World, area: Aabb) -> bool
     ensures { result ≡ clear (space_of world.entry) area }
 {
