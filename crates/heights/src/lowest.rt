@@ -36,13 +36,13 @@ fn put_top(room: &mut [f64], count: usize, top: f64) -> usize
     ensures result_after { (room.new, result) ≡ put (room.old, count) top }
     ensures upper_bound { result ≤ length room.new }
 {
-    let end = if count < room.len() { count + 1 } else { count };
-    let mut carried = top;
-    for i in place_of(room, count, top)..end {
-        let next = room[i];
-        room[i] = carried;
-        carried = next;
+    let end = room.len().min(count + 1);
+    let place = place_of(room, count, top);
+    if end <= place {
+        return end;
     }
+    room.copy_within(place..end - 1, place + 1);
+    room[place] = top;
     end
 }
 
