@@ -1,5 +1,5 @@
 // What is known of a block state, a bit for each fact (01: "The six flag bits are named once").
-ghost use Rattle.std.specs.Prelude.{◌≡◌, ◌<◌};
+ghost use Rattle.std.specs.Prelude.{◌≡◌};
 ghost use Rattle.policy.specs.Flags.{has};
 
 // A flag byte. Its two highest bits are not read.
@@ -8,12 +8,11 @@ pub struct Flags {
     pub bits: u8,
 }
 
-// Whether a number has the bit of a weight.
+// Whether a number has the bit of a weight; of weight 0 there is none.
 pub fn has_bit(bits: u64, weight: u64) -> bool
-    requires { 0 < weight }
     ensures { result ≡ has weight bits }
 {
-    bits / weight % 2 == 1
+    weight != 0 && bits / weight % 2 == 1
 }
 
 impl Flags {
@@ -32,7 +31,6 @@ impl Flags {
 
     // Whether the flag of this weight is set.
     pub(crate) fn has(self, flag: u8) -> bool
-        requires { 0 < flag }
         ensures { result ≡ has flag self.bits }
     {
         has_bit(u64::from(self.bits), u64::from(flag))
