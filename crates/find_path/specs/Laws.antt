@@ -51,7 +51,7 @@ module _ (p : WalkPolicy) (in_water : Bool) (flags : List ℕ) (w : Window) (cel
       × ((y ≡ index_after_path p in_water flags w cells perms shapes boxes start goal body nodes front index out)
       × (x ≡ out_after_path p in_water flags w cells perms shapes boxes start goal body nodes front index out)))))
   unfolding path nodes_after_path front_after_path index_after_path out_after_path
-  searched e i j s = let h = rw (i, j) at s in
+  searched {a = a} e i j s = let h = rw (i, j) at s in
       (alike flags perms _ e (let x : ◌≡◌ {A = Path} (Ok a) (Ok (found w cells (permission_table p in_water flags perms) shapes boxes (request_of p start goal body) body (length nodes) (length front) (length index) (length out))) = ap Ok h.0 in x), (i, (alike flags perms _ e h.1.0, (alike flags perms _ e h.1.1.0, (alike flags perms _ e h.1.1.1.0, alike flags perms _ e h.1.1.1.1)))))
 
   -- nothing but the table is written, and that as its own definition says
