@@ -1,15 +1,12 @@
 -- The bytes that the answers of a search, of one in slices and of a walk-back leave in the slice that a caller lends for it.
-use Rattle.std.specs.Prelude.{ℕ, List, [], ◌∷◌}
+use Rattle.std.specs.Prelude.{ℕ, List, [], ◌∷◌, Ok, Err}
 use Rattle.fields.specs.Little.{with_field}
 use Rattle.fields.specs.Records.{with_record}
 use Rattle.rooms.specs.declared.Counts.{Counts}
 use Rattle.outcomes.specs.declared.Answer.{Answer}
-use Rattle.outcomes.specs.Outcomes.{outcome_number}
-use Rattle.outcomes.specs.declared.Path.{Path}
-use Rattle.outcomes.specs.declared.Path.TheVariants.{Searched, BadTable}
-use Rattle.outcomes.specs.declared.Tick.{Tick}
-use Rattle.outcomes.specs.declared.Tick.TheVariants.{Refused, BadProgress, Searching, Ended}
-use Rattle.outcomes.specs.Ticks.{tick_number, counts_given}
+use Rattle.outcomes.specs.Outcomes.{Path, outcome_number}
+use Rattle.outcomes.specs.declared.Slice.TheVariants.{Searching, Ended}
+use Rattle.outcomes.specs.Ticks.{Tick, tick_number, counts_given}
 
 -- the record of an answer, 32 bytes: outcome, count, retained and closed, four u64. Where they do not fit, nothing is written.
 unfoldable pub answer_written : Answer → List ℕ → List ℕ
@@ -17,8 +14,8 @@ answer_written a old = with_record (8 ∷ 8 ∷ 8 ∷ 8 ∷ []) old 0 (outcome_n
 
 -- of a mob's search the same record, and "8 .. write nothing"
 abbrev pub path_written : Path → List ℕ → List ℕ
-path_written (Searched a) old = answer_written a old
-path_written BadTable old = old
+path_written (Ok a) old = answer_written a old
+path_written (Err e) old = old
 
 -- the record of a search in slices, 48 bytes: a number, the list's count, and retained, closed, pushed and dropped, six u64
 unfoldable pub progress_written : ℕ → ℕ → Counts → List ℕ → List ℕ
@@ -26,10 +23,9 @@ progress_written number count c old = with_record (8 ∷ 8 ∷ 8 ∷ 8 ∷ 8 ∷
 
 -- A refusal leaves it as it is (02, No. 10: "nothing written"); a search that goes on has no list yet.
 abbrev pub tick_written : Tick → List ℕ → List ℕ
-tick_written (Refused o) old = old
-tick_written BadProgress old = old
-tick_written (Searching c) old = progress_written (tick_number (Searching c)) 0 c old
-tick_written (Ended o n c) old = progress_written (tick_number (Ended o n c)) n c old
+tick_written (Err r) old = old
+tick_written (Ok (Searching c)) old = progress_written (tick_number (Ok (Searching c))) 0 c old
+tick_written (Ok (Ended o n c)) old = progress_written (tick_number (Ok (Ended o n c))) n c old
 
 -- of a walk-back the place that goes with its answer, in the first 8 bytes; where they do not fit, or none goes with it, nothing is written
 abbrev pub place_written : List ℕ → List ℕ → List ℕ
