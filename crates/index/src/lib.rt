@@ -4,7 +4,7 @@
 // A slot has 4 bytes: 0 where it is free, else a node's number plus 1. A node stands in the first slot that was free, from its point's own slot on, when it
 // was entered. So whoever looks for a point goes from the point's own slot on, until a node there is at the point or a slot is free. Nodes are entered in the
 // order of their numbers, before each expansion; those that an expansion retains are not entered yet, and are scanned. Every public function answers for
-// every room. `size` says which rooms are refused.
+// every room. `size` says which rooms are refused. That a point has no node is told by the number of nodes and not by an Option, as `looked_up` counts.
 #![tactic(auto)]
 
 mod size;

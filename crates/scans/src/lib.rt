@@ -1,4 +1,6 @@
 // Scans of the rooms (01, "Shapes to change": "`HashMap`: a scan of the node room. `BinaryHeap`: one waiting entry a node").
+//
+// That there is none is told by n and not by an Option: so the definitions count (`first_of`, `next_from` of rooms), and callers go on from the answer.
 #![tactic(auto)]
 
 ghost use Rattle.std.specs.Prelude.{◌≡◌, ◌-◌, ◌≤◌};
