@@ -1,6 +1,6 @@
 -- What the contract of `find_walk_path` says of a budget, of its list and of its order: one theorem a claim, of the inputs of a call, in the words of 01, of the contract
 -- (FindWalkPath of `search`) and of Words.
-use Rattle.std.specs.Prelude.{ℕ, ◌+◌, ◌*◌, ◌≤◌, ◌<◌, ◌≡◌, true, false, List, ◌++◌, ◌⊎◌, ◌≢◌, eqb, length, take, drop}
+use Rattle.std.specs.Prelude.{ℕ, ◌+◌, ◌*◌, ◌≤◌, ◌<◌, ◌≡◌, true, false, List, ◌++◌, ◌⊎◌, ◌≢◌, eqb, length, take, drop, Ok}
 use Rattle.std.proofs.Math.Option.{none, some}
 use Rattle.std.proofs.Common.{arith}
 use Rattle.std.specs.Float.Ieee.{is_nan, lt, eq}
@@ -28,7 +28,6 @@ use Rattle.outcomes.specs.declared.Answer.{Answer}
 use Rattle.outcomes.specs.declared.Outcome.TheVariants.{Found, Unreachable, BudgetExceeded}
 use Rattle.outcomes.specs.Outcomes.{outcome_number}
 use Rattle.search.specs.FindWalkPath.{end_of, before_search, found, nodes_after, out_after}
-use Rattle.walk_back.specs.declared.Walked.TheVariants.{Yes}
 use Rattle.walk_back.specs.Movements.{movement_at}
 use Rattle.walk_back.specs.WalkBack.{IsRoute, RouteList, walked}
 use Rattle.fields.specs.Bytes.{Bytes}
@@ -140,7 +139,7 @@ module _ (w : Window) (cells perms shapes boxes : List ℕ) (r : Request) (body 
   found_reads_back = read_back w cells perms shapes boxes r body nodes front index out
 
   -- So what the search writes, the walk-back accepts.
-  pub walk_back_accepts : InF64 r → Bytes cells → answer.outcome ≡ Found → walked w cells perms shapes boxes r body (take (48 * answer.count) output) ≡ Yes
+  pub walk_back_accepts : InF64 r → Bytes cells → answer.outcome ≡ Found → walked w cells perms shapes boxes r body (take (48 * answer.count) output) ≡ Ok tt
   walk_back_accepts = accepted w cells perms shapes boxes r body nodes front index out
 
   -- A route has no movement but 01's four, so the walk-back answers no to a list with a movement above 3.

@@ -1,6 +1,6 @@
 -- What the walk-back's reasons say of a pair of a list (`a_pair_whatever_its_label`, of `pair_fault` of pairs): of all labels, and of all bits of its points p and q, NaN and
 -- zeros of either sign too.
-use Rattle.std.specs.Prelude.{ℕ, ◌≡◌, Bool, true, false, ◌&&◌, cond, List}
+use Rattle.std.specs.Prelude.{ℕ, ◌≡◌, Bool, true, false, ◌&&◌, cond, List, Some, Result, Ok, Err}
 use Rattle.std.proofs.Math.Path.{refl}
 use Rattle.std.proofs.Common.{sym, ap, ◌∙◌}
 use Rattle.exploration.specs.Graph.{Graph, has_step, connects}
@@ -9,10 +9,8 @@ use Rattle.world.specs.declared.Body.{Body}
 use Rattle.world.specs.declared.Request.{Request}
 use Rattle.world.specs.declared.Window.{Window}
 use Rattle.world.specs.Space.{Space, space}
+use Rattle.moves.specs.declared.answer.Reason.{Reason}
 use Rattle.moves.specs.declared.answer.Waypoint.{Waypoint}
-use Rattle.moves.specs.declared.answer.EdgeAnswer.TheVariants.{To}
-use Rattle.moves.specs.declared.answer.EdgeCheck.{EdgeCheck}
-use Rattle.moves.specs.declared.answer.EdgeCheck.TheVariants.{Passes, Fails}
 use Rattle.edges.specs.Edges.{edge, near_goal}
 use Rattle.edges.specs.Reasons.{edge_check, edge_of}
 use Rattle.edges.proofs.Laws.{check_is}
@@ -42,7 +40,7 @@ module _ (w : Window) (cells perms shapes boxes : List ℕ) (r : Request) (body 
   pair_by_own : InF64 r → (last : Bool) (l : Label) → joined 𝓖 last p (q, l) ≡ (joined_to sp r body p q last && like_own sp r body p q l)
   pair_by_own f = joined_by_own sp r body p q (space_tops w cells perms shapes boxes) (held_goal f)
 
-  module _ (own : Waypoint) (e : edge sp r body (point_of p) (point_of q) ≡ To own) where
+  module _ (own : Waypoint) (e : edge sp r body (point_of p) (point_of q) ≡ Some own) where
     -- Where no graph step leads from p to q with its own edge's label, none does with any,
     pub no_step_whatever_its_label : has_step 𝓖 p (q, label_of own) ≡ false → (l : Label) → has_step 𝓖 p (q, l) ≡ false
     no_step_whatever_its_label n l =
@@ -65,14 +63,14 @@ module _ (w : Window) (cells perms shapes boxes : List ℕ) (r : Request) (body 
   abbrev pub Says : Bool → PairFault → Type 0
   Says last (NoEdge why) = (l : Label) → joined 𝓖 last p (q, l) ≡ false
   Says last NotAStep = (l : Label) → joined 𝓖 last p (q, l) ≡ false
-  Says last WrongLabel = (own : Waypoint) × ((edge sp r body (point_of p) (point_of q) ≡ To own) × ((l : Label) → joined 𝓖 last p (q, l) ≡ alike (label_of own) l))
+  Says last WrongLabel = (own : Waypoint) × ((edge sp r body (point_of p) (point_of q) ≡ Some own) × ((l : Label) → joined 𝓖 last p (q, l) ≡ alike (label_of own) l))
 
-  by_check : InF64 r → (last : Bool) (c : EdgeCheck) → edge_check sp r body (point_of p) (point_of q) ≡ c → Says last (pair_fault_by sp r body last p q c)
-  by_check f last (Fails why) h =
+  by_check : InF64 r → (last : Bool) (c : Result Waypoint Reason) → edge_check sp r body (point_of p) (point_of q) ≡ c → Says last (pair_fault_by sp r body last p q c)
+  by_check f last (Err why) h =
       without_edge sp r body p q (λ l. joined 𝓖 last p (q, l)) (joined_to sp r body p q last) (pair_by_own f last) (sym (check_is sp r body (point_of p) (point_of q)) ∙ ap edge_of h)
-  by_check f last (Passes own) h = go (joined 𝓖 last p (q, label_of own)) refl
+  by_check f last (Ok own) h = go (joined 𝓖 last p (q, label_of own)) refl
     where
-      passes : edge sp r body (point_of p) (point_of q) ≡ To own
+      passes : edge sp r body (point_of p) (point_of q) ≡ Some own
       passes = sym (check_is sp r body (point_of p) (point_of q)) ∙ ap edge_of h
 
       by : {b : Bool} → joined 𝓖 last p (q, label_of own) ≡ b → (l : Label) → joined 𝓖 last p (q, l) ≡ (b && alike (label_of own) l)

@@ -1,5 +1,5 @@
 -- The list that a search wrote, as the walk-back reads it.
-use Rattle.std.specs.Prelude.{ℕ, ◌*◌, ◌≡◌, List, length, take, drop}
+use Rattle.std.specs.Prelude.{ℕ, ◌*◌, ◌≡◌, List, length, take, drop, Ok}
 use Rattle.std.proofs.Common.{ap, ◌∙◌}
 use Rattle.fields.specs.Bytes.{Bytes}
 use Rattle.world.specs.declared.Body.{Body}
@@ -13,7 +13,6 @@ use Rattle.rooms.specs.Lists.{list_bytes}
 use Rattle.outcomes.specs.declared.Outcome.TheVariants.{Found}
 use Rattle.outcomes.specs.declared.Answer.{Answer}
 use Rattle.search.specs.FindWalkPath.{out_after}
-use Rattle.walk_back.specs.declared.Walked.TheVariants.{Yes}
 use Rattle.walk_back.specs.WalkBack.{IsRoute, RouteList, walked}
 use Rattle.walk_back.proofs.Claims.{a_route_is_yes}
 use Rattle.claims.specs.Words.{InF64}
@@ -53,7 +52,7 @@ module _ (w : Window) (cells perms shapes boxes : List ℕ) (r : Request) (body 
     pub read_back : InF64 r → Bytes cells → answer.outcome ≡ Found → RouteList sp r body (take (48 * answer.count) after)
     read_back f b e = rw (front_is e) (route_list f b list (calls.route_of w cells perms shapes boxes r body nodes front index out e))
 
-    pub accepted : InF64 r → Bytes cells → answer.outcome ≡ Found → walked w cells perms shapes boxes r body (take (48 * answer.count) after) ≡ Yes
+    pub accepted : InF64 r → Bytes cells → answer.outcome ≡ Found → walked w cells perms shapes boxes r body (take (48 * answer.count) after) ≡ Ok tt
     accepted f b e =
         a_route_is_yes w cells perms shapes boxes r body (take (48 * answer.count) after)
         (calls.good_world w cells perms shapes boxes r body nodes front index out e)

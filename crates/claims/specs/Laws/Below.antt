@@ -1,5 +1,5 @@
 -- Every word of a route is below 2^64: it is the same, by 01's rules, as the word of an f64, of a movement or of a door.
-use Rattle.std.specs.Prelude.{ℕ, refl, Bool, true, false, ◌&&◌, List, map, eqb}
+use Rattle.std.specs.Prelude.{ℕ, refl, Bool, true, false, ◌&&◌, List, map, eqb, Option, Some}
 use native.Mathlib.Omega.{arith}
 use Rattle.std.proofs.Math.Path.{◌≡◌}
 use Rattle.std.proofs.Common.{sym, eqb-true}
@@ -15,8 +15,6 @@ use Rattle.world.specs.declared.Request.{Request}
 use Rattle.world.specs.Space.{Space}
 use Rattle.moves.specs.declared.answer.Movement.{Movement}
 use Rattle.moves.specs.declared.answer.Waypoint.{Waypoint}
-use Rattle.moves.specs.declared.answer.EdgeAnswer.{EdgeAnswer}
-use Rattle.moves.specs.declared.answer.EdgeAnswer.TheVariants.{To}
 use Rattle.moves.specs.Moves.{movement_number}
 use Rattle.steps.specs.Columns.{steps_from}
 use Rattle.words.specs.Words.{point_of, feet_of, label_of, step_of, label_if}
@@ -128,7 +126,7 @@ module _ (sp : Space) (r : Request) (body : Body) (f : InF64 r) (doored : Doored
   unfolding graph
   step_below p w e = among w (made_steps p) e
 
-  labelled_below : {a : EdgeAnswer} → MadeIf a → ((w : Waypoint) → a ≡ To w → Word w.door) → (l : Label) → labelled (graph sp r body) (label_if a) l ≡ true → Label64 l
+  labelled_below : {a : Option Waypoint} → MadeIf a → ((w : Waypoint) → a ≡ Some w → Word w.door) → (l : Label) → labelled (graph sp r body) (label_if a) l ≡ true → Label64 l
   unfolding graph
   labelled_below nowhere d l e = absurd (let z : ◌≡◌ {A = ℕ} 0 1 = cc in omega arith)
   labelled_below (made {w = v} p) d l e = alike_below (label_of v) l e (label_below v p (d v refl))

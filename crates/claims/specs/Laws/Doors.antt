@@ -1,5 +1,5 @@
 -- Every door is below 2^64, where the cell table holds bytes: it is a state's number, which stands in four bytes of that table, or none.
-use Rattle.std.specs.Prelude.{ℕ, ◌^◌, ◌+◌, ◌*◌, ◌<◌, ◌≡◌, Bool, not, ltb, eqb, ℤ, length, get_or, Float}
+use Rattle.std.specs.Prelude.{ℕ, ◌^◌, ◌+◌, ◌*◌, ◌<◌, ◌≡◌, Bool, not, ltb, eqb, ℤ, length, get_or, Float, Option, Some, None}
 use native.Mathlib.Omega.{arith}
 use Rattle.std.proofs.Math.Bool.{true, false, cond}
 use mathlib.Core.List.{List, [], ◌∷◌}
@@ -11,15 +11,11 @@ use Rattle.world.specs.declared.Aabb.{Aabb}
 use Rattle.world.specs.declared.Body.{Body}
 use Rattle.world.specs.declared.Request.{Request}
 use Rattle.world.specs.declared.Window.{Window}
-use Rattle.world.specs.declared.Entry.{Entry}
-use Rattle.world.specs.declared.Entry.TheVariants.{Of, Missing}
 use Rattle.world.specs.declared.Cell.{Cell}
-use Rattle.world.specs.declared.Cell.TheVariants.{Unknown, Known}
 use Rattle.world.specs.Boxes.{corner, meets, voxel}
 use Rattle.world.specs.Space.{Space, Place, At, Out, record_of, has_record, entry_at, no_door, door_of, collides, of_parts, known_by, known, cell_in, cell_at, block_of, space}
 use Rattle.clear.specs.Corridors.{or_else, first_door, cell_door, crossed_cells, door_at, door_in}
 use Rattle.moves.specs.declared.answer.Waypoint.{Waypoint}
-use Rattle.moves.specs.declared.answer.EdgeAnswer.TheVariants.{To, Nowhere}
 use Rattle.edges.specs.Edges.{way_door, edge, near_goal, connector}
 use Rattle.edges.specs.Answers.{nowhere_to, edge_has}
 
@@ -32,14 +28,14 @@ Word n = n < 256 ^ 8
 abbrev pub DooredSpace : Space → Type 0
 DooredSpace sp = (x y z : ℤ) → Word (sp x y z).door
 
-abbrev cell_word : Cell → ℕ
-cell_word Unknown = no_door
-cell_word (Known o s first count through state) = door_of through state
+abbrev cell_word : Option Cell → ℕ
+cell_word None = no_door
+cell_word (Some c) = door_of c.through c.state
 
-block_door : (boxes : List ℕ) (c : Cell) (p : Point) → Word (cell_word c) → Word (block_of boxes c p).door
+block_door : (boxes : List ℕ) (c : Option Cell) (p : Point) → Word (cell_word c) → Word (block_of boxes c p).door
 unfolding block_of
-block_door boxes Unknown p h = h
-block_door boxes (Known o s first count through state) p h = h
+block_door boxes None p h = h
+block_door boxes (Some c) p h = h
 
 module _ (w : Window) (cells perms shapes boxes : List ℕ) (bytes : Bytes cells) where
   known_door : (state shape : ℕ) → Word state → Word (cell_word (known perms shapes state shape))
@@ -50,9 +46,9 @@ module _ (w : Window) (cells perms shapes boxes : List ℕ) (bytes : Bytes cells
       part true = omega arith
       part false = h
 
-      go : (t : Bool) (e : Entry) → Word (cell_word (cond t (known_by e (λ first count. of_parts (get_or perms state 0) first count state)) Unknown))
-      go true (Of first count) = part (collides (get_or perms state 0))
-      go true Missing = omega arith
+      go : (t : Bool) (e : Option (ℕ × ℕ)) → Word (cell_word (cond t (known_by e (λ first count. Some (of_parts (get_or perms state 0) first count state))) None))
+      go true (Some e) = part (collides (get_or perms state 0))
+      go true None = omega arith
       go false e = omega arith
 
   cell_door_lem : (p : Place) → Word (cell_word (cell_in cells perms shapes p))
@@ -60,7 +56,7 @@ module _ (w : Window) (cells perms shapes boxes : List ℕ) (bytes : Bytes cells
   cell_door_lem Out = omega arith
   cell_door_lem (At i) = go (has_record 8 cells i)
     where
-      go : (t : Bool) → Word (cell_word (known_by (cond t (Of (field 4 cells (8 * i)) (field 4 cells (8 * i + 4))) Missing) (λ state shape. known perms shapes state shape)))
+      go : (t : Bool) → Word (cell_word (known_by (cond t (Some (field 4 cells (8 * i), field 4 cells (8 * i + 4))) None) (λ state shape. known perms shapes state shape)))
       go true = known_door (field 4 cells (8 * i)) (field 4 cells (8 * i + 4)) (omega (arith, field_below 4 cells (8 * i) bytes))
       go false = omega arith
 
@@ -100,13 +96,13 @@ module _ (sp : Space) (doored : DooredSpace sp) where
   unfolding way_door
   way_word body from to lift = or_word _ _ (area_word _) (or_word _ _ (area_word _) (area_word _))
 
-  pub edge_door : (r : Request) (body : Body) (from to : Point) (w : Waypoint) → edge sp r body from to ≡ To w → Word w.door
+  pub edge_door : (r : Request) (body : Body) (from to : Point) (w : Waypoint) → edge sp r body from to ≡ Some w → Word w.door
   edge_door r body from to w = edge_has sp r body from to w (λ v. Word v.door) (λ m l. way_word body from to l)
 
-  pub connector_door : (r : Request) (body : Body) (from : Point) (w : Waypoint) → connector sp r body from ≡ To w → Word w.door
+  pub connector_door : (r : Request) (body : Body) (from : Point) (w : Waypoint) → connector sp r body from ≡ Some w → Word w.door
   unfolding connector
   connector_door r body from w e = go (near_goal r from) e
     where
-      go : (t : Bool) → cond t (edge sp r body from r.goal) Nowhere ≡ To w → Word w.door
+      go : (t : Bool) → cond t (edge sp r body from r.goal) None ≡ Some w → Word w.door
       go true e = edge_door r body from r.goal w e
       go false e = nowhere_to e

@@ -1,6 +1,6 @@
 -- Every number of a graph step is an f64.
 use Prim.Native.Nat.{ℕ, zero, suc, ◌*◌}
-use Rattle.std.specs.Prelude.{◌≡◌, refl, Bool, true, false, cond, List, [], ◌∷◌, ◌++◌, map, T, ℤ, drop, Float}
+use Rattle.std.specs.Prelude.{◌≡◌, refl, Bool, true, false, cond, List, [], ◌∷◌, ◌++◌, map, T, ℤ, drop, Float, Option, Some, None}
 use Rattle.std.specs.Float.Ieee.{binary64, fits, lt, le, add, neg}
 use Rattle.std.specs.Float.Ieee.Bits.{of_bits-fits}
 use Rattle.std.specs.Float.Ieee.Fits.{add-fits, sub-fits, cond-fits}
@@ -14,7 +14,6 @@ use Rattle.world.specs.declared.Body.{Body}
 use Rattle.world.specs.declared.Request.{Request}
 use Rattle.world.specs.declared.Window.{Window}
 use Rattle.world.specs.declared.Cell.{Cell}
-use Rattle.world.specs.declared.Cell.TheVariants.{Unknown, Known}
 use Rattle.world.specs.Boxes.{plus, moved, corner, cube}
 use Rattle.world.specs.Space.{Space, Block, run, cell_at, block_of, space}
 use Rattle.heights.specs.declared.Band.{Band}
@@ -22,8 +21,6 @@ use Rattle.heights.specs.Heights.{reaches, tops_of, tops_in, tops, insert, sorte
 use Rattle.moves.specs.declared.answer.Movement.{Movement}
 use Rattle.moves.specs.declared.answer.Movement.TheVariants.{Walk, Step, Jump, Drop}
 use Rattle.moves.specs.declared.answer.Waypoint.{Waypoint}
-use Rattle.moves.specs.declared.answer.EdgeAnswer.{EdgeAnswer}
-use Rattle.moves.specs.declared.answer.EdgeAnswer.TheVariants.{To, Nowhere}
 use Rattle.moves.specs.Moves.{step_height}
 use Rattle.edges.specs.Edges.{passable, edge, near_goal, connector}
 use Rattle.edges.specs.Answers.{nowhere_to}
@@ -76,10 +73,10 @@ moved_tops : (p : Point) (bs : List Aabb) → Each Topped (map (λ (b : Aabb). m
 moved_tops p [] = end
 moved_tops p (b ∷ bs) = more (moved_top b p) (moved_tops p bs)
 
-block_tops : (boxes : List ℕ) (c : Cell) (p : Point) → Each Topped (block_of boxes c p).boxes
+block_tops : (boxes : List ℕ) (c : Option Cell) (p : Point) → Each Topped (block_of boxes c p).boxes
 unfolding block_of
-block_tops boxes Unknown p = more (moved_top cube p) end
-block_tops boxes (Known o s first count through state) p = moved_tops p (run count (drop (48 * first) boxes) 0)
+block_tops boxes None p = more (moved_top cube p) end
+block_tops boxes (Some c) p = moved_tops p (run c.count (drop (48 * c.first) boxes) 0)
 
 pub space_tops : (w : Window) (cells perms shapes boxes : List ℕ) → ToppedSpace (space w cells perms shapes boxes)
 unfolding space
@@ -131,11 +128,11 @@ pub record Made (w : Waypoint) : Type 0 where
   pub z : F64 w.feet.z
   pub lift : F64 w.lift
 
-pub data MadeIf : EdgeAnswer → Type 0 where
-  nowhere : MadeIf Nowhere
-  made : {w : Waypoint} → Made w → MadeIf (To w)
+pub data MadeIf : Option Waypoint → Type 0 where
+  nowhere : MadeIf None
+  made : {w : Waypoint} → Made w → MadeIf (Some w)
 
-made_cond : (b : Bool) {e f : EdgeAnswer} → MadeIf e → MadeIf f → MadeIf (cond b e f)
+made_cond : (b : Bool) {e f : Option Waypoint} → MadeIf e → MadeIf f → MadeIf (cond b e f)
 made_cond true p q = p
 made_cond false p q = q
 
@@ -165,10 +162,10 @@ module _ (sp : Space) (r : Request) (body : Body) (jump : F64 r.jump_height) whe
 -- ---- the steps from a point: what every edge to f64s has
 
 module _ (sp : Space) (r : Request) (body : Body) (topped : ToppedSpace sp) (from : Point) (P : Waypoint → Type 0)
-    (have : (to : Point) → F64 to.x → F64 to.y → F64 to.z → (w : Waypoint) → edge sp r body from to ≡ To w → P w) where
-  ahead_each : (a : EdgeAnswer) {ws : List Waypoint} → ((w : Waypoint) → a ≡ To w → P w) → Each P ws → Each P (ahead a ws)
-  ahead_each Nowhere h q = q
-  ahead_each (To w) h q = more (h w refl) q
+    (have : (to : Point) → F64 to.x → F64 to.y → F64 to.z → (w : Waypoint) → edge sp r body from to ≡ Some w → P w) where
+  ahead_each : (a : Option Waypoint) {ws : List Waypoint} → ((w : Waypoint) → a ≡ Some w → P w) → Each P ws → Each P (ahead a ws)
+  ahead_each None h q = q
+  ahead_each (Some w) h q = more (h w refl) q
 
   edges_each : (c : Centre) → F64 c.x → F64 c.z → {ys : List Float} → Each F64 ys → Each P (edges_at sp r body from c ys)
   unfolding edges_at
@@ -195,7 +192,7 @@ unfolding step_of
 worded Q end = tt
 worded Q (more p ps) = (p, worded Q ps)
 
-made_of : {a : EdgeAnswer} → MadeIf a → (w : Waypoint) → a ≡ To w → Made w
+made_of : {a : Option Waypoint} → MadeIf a → (w : Waypoint) → a ≡ Some w → Made w
 made_of nowhere w e = nowhere_to e
 made_of (made {w = v} p) w e = let s : v ≡ w = cc in rw (← s) p
 

@@ -1,6 +1,6 @@
 -- The estimates that a search's frontier is ordered by are numbers, in every state that the search of a valid request comes to: the points that it keeps are
 -- finite, and so no cost and no estimate is negative or a NaN.
-use Rattle.std.specs.Prelude.{ℕ, ◌+◌, ◌≡◌, Bool, true, false, pos}
+use Rattle.std.specs.Prelude.{ℕ, ◌+◌, ◌≡◌, Bool, true, false, pos, Some}
 use Rattle.std.proofs.Math.Option.{some}
 use mathlib.Core.List.{[]}
 use Rattle.std.specs.Float.Ieee.{binary64, is_nan, add, mul, of_bits}
@@ -20,7 +20,6 @@ use Rattle.world.specs.Space.{Space}
 use Rattle.request.specs.Request.{valid_request}
 use Rattle.request.specs.Laws.{FinitePoint, valid_finite}
 use Rattle.moves.specs.declared.answer.Waypoint.{Waypoint}
-use Rattle.moves.specs.declared.answer.EdgeAnswer.TheVariants.{To}
 use Rattle.edges.specs.Edges.{edge}
 use Rattle.edges.specs.Answers.{edge_feet}
 use Rattle.steps.specs.Graph.{graph}
@@ -134,7 +133,7 @@ module _ (goal : Feet) (there : FiniteFeet goal) where
 
 -- A box's top and the request's numbers are f64s, as the tables' (`space_tops`) and every caller's are: else a pattern might not read back as its number.
 module _ (sp : Space) (topped : ToppedSpace sp) (r : Request) (body : Body) (f : InF64 r) (valid : valid_request r body ≡ true) where
-  step_finite : (from to : Point) → F64 to.x → F64 to.y → F64 to.z → (w : Waypoint) → edge sp r body from to ≡ To w → FiniteFeet (feet_of w.feet)
+  step_finite : (from to : Point) → F64 to.x → F64 to.y → F64 to.z → (w : Waypoint) → edge sp r body from to ≡ Some w → FiniteFeet (feet_of w.feet)
   step_finite from to x y z w e =
       rw (edge_feet sp r body from to w e) (feet_finite to x y z (in_range_finite r body valid to (target_in_range sp r body from to w e)))
 

@@ -1,11 +1,11 @@
 -- A graph step from one point to another has the label of the edge between the two, and so has the connector to the goal, also where the points differ in the
 -- sign of a zero (`same_label` of arrival). So whether a pair of a list is the graph's comes to two tests: one of its points alone, and whether its label is like
 -- that of its own edge.
-use Rattle.std.specs.Prelude.{◌≡◌, Bool, ◌&&◌, ◌||◌, cond, List, map}
+use Rattle.std.specs.Prelude.{◌≡◌, Bool, ◌&&◌, ◌||◌, cond, List, map, Option, Some, None}
 use Rattle.std.proofs.Math.Path.{refl, ap}
 use Rattle.std.proofs.Common.{sym, ◌∙◌}
 use Rattle.std.proofs.Math.Bool.{true, false, and-true, and-false, and-or_distrib_right}
-use Rattle.std.proofs.Math.Option.{Option, some}
+use Rattle.std.proofs.Math.Option.{Option as Maybe, some}
 use Rattle.exploration.specs.Lists.{has}
 use Rattle.exploration.specs.Graph.{has_step, labelled, connects}
 use Rattle.exploration.specs.WalkBack.{joined}
@@ -14,8 +14,6 @@ use Rattle.world.specs.declared.Body.{Body}
 use Rattle.world.specs.declared.Request.{Request}
 use Rattle.world.specs.Space.{Space}
 use Rattle.moves.specs.declared.answer.Waypoint.{Waypoint}
-use Rattle.moves.specs.declared.answer.EdgeAnswer.{EdgeAnswer}
-use Rattle.moves.specs.declared.answer.EdgeAnswer.TheVariants.{To, Nowhere}
 use Rattle.edges.specs.Edges.{edge, near_goal, connector}
 use Rattle.edges.specs.Answers.{edge_feet}
 use Rattle.rooms.specs.declared.Feet.{Feet}
@@ -31,10 +29,10 @@ use Rattle.claims.specs.Laws.Fits.{Each, end, more, F64, ToppedSpace, steps_each
 
 module _ (sp : Space) (r : Request) (body : Body) (p q : Feet) where
   -- the edge between the two, its label, and whether a label is like that
-  abbrev between : EdgeAnswer
+  abbrev between : Option Waypoint
   between = edge sp r body (point_of p) (point_of q)
 
-  abbrev own : Option Label
+  abbrev own : Maybe Label
   own = label_if between
 
   abbrev pub like_own : Label → Bool
@@ -44,11 +42,11 @@ module _ (sp : Space) (r : Request) (body : Body) (p q : Feet) where
 
   module _ (f : Label → Bool) (j : Bool) (by : (l : Label) → f l ≡ (j && like_own l)) where
     -- no edge: it holds of no label
-    pub without_edge : between ≡ Nowhere → (l : Label) → f l ≡ false
+    pub without_edge : between ≡ None → (l : Label) → f l ≡ false
     without_edge e l = by l ∙ rw e (and-false j)
 
     -- an edge: it holds of those that are like the edge's, or of none
-    module _ (w : Waypoint) (e : between ≡ To w) where
+    module _ (w : Waypoint) (e : between ≡ Some w) where
       like : (l : Label) → like_own l ≡ alike (label_of w) l
       unfolding graph
       like l = rw e
@@ -69,13 +67,13 @@ module _ (sp : Space) (r : Request) (body : Body) (p q : Feet) where
   own_steps : ToppedSpace sp → Each Own (steps_from sp r body (point_of p))
   own_steps topped = steps_each sp r body topped (point_of p) Own each
     where
-      each : (to : Point) → F64 to.x → F64 to.y → F64 to.z → (w : Waypoint) → edge sp r body (point_of p) to ≡ To w → Own w
+      each : (to : Point) → F64 to.x → F64 to.y → F64 to.z → (w : Waypoint) → edge sp r body (point_of p) to ≡ Some w → Own w
       each to x y z w e s =
           let turned : same_point q (feet_of w.feet) ≡ true = unfold graph in (graph_laws sp r body).same_sym (feet_of w.feet) q s in
           same_label sp r body (point_of p) q to (record { x = x; y = y; z = z }) (rw (edge_feet sp r body (point_of p) to w e) at turned) ∙ ap label_if e
 
   -- of a step and the others
-  one_more : (b : Bool) (o : Option Label) (m l : Label) (here there : Bool) → (b ≡ true → o ≡ some m) → here ≡ (there && labelled (graph sp r body) o l) →
+  one_more : (b : Bool) (o : Maybe Label) (m l : Label) (here there : Bool) → (b ≡ true → o ≡ some m) → here ≡ (there && labelled (graph sp r body) o l) →
       ((b && alike m l) || here) ≡ ((b || there) && labelled (graph sp r body) o l)
   unfolding graph
   one_more true o m l here there f e = rw (e, f refl) (sym (and-or_distrib_right true there (alike m l)))
@@ -96,7 +94,7 @@ module _ (sp : Space) (r : Request) (body : Body) (p q : Feet) where
 
   -- ---- the connector, where the later point is the goal
 
-  where_near : (b : Bool) (a : EdgeAnswer) (l : Label) → labelled (graph sp r body) (label_if (cond b a Nowhere)) l ≡ (b && labelled (graph sp r body) (label_if a) l)
+  where_near : (b : Bool) (a : Option Waypoint) (l : Label) → labelled (graph sp r body) (label_if (cond b a None)) l ≡ (b && labelled (graph sp r body) (label_if a) l)
   where_near true a l = refl
   where_near false a l = refl
 
@@ -104,7 +102,7 @@ module _ (sp : Space) (r : Request) (body : Body) (p q : Feet) where
   unfolding graph connector
   connector_by_own h s l =
       where_near (near_goal r (point_of p)) (edge sp r body (point_of p) r.goal) l
-      ∙ ap (λ (o : Option Label). near_goal r (point_of p) && labelled (graph sp r body) o l) (sym (same_label sp r body (point_of p) q r.goal h s))
+      ∙ ap (λ (o : Maybe Label). near_goal r (point_of p) && labelled (graph sp r body) o l) (sym (same_label sp r body (point_of p) q r.goal h s))
 
   -- ---- a pair of a list: a step, or if it is the last one the connector to the goal
 

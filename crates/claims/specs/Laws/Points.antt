@@ -1,5 +1,5 @@
 -- Every word of a point that a search keeps is below 2^64: the point is the start, or a graph step leads to it.
-use Rattle.std.specs.Prelude.{ℕ, ◌≡◌}
+use Rattle.std.specs.Prelude.{ℕ, ◌≡◌, Some}
 use mathlib.Core.List.{[]}
 use Rattle.exploration.specs.Graph.{Graph}
 use Rattle.exploration.specs.Policy.{Node}
@@ -11,7 +11,6 @@ use Rattle.world.specs.declared.Body.{Body}
 use Rattle.world.specs.declared.Request.{Request}
 use Rattle.world.specs.Space.{Space}
 use Rattle.moves.specs.declared.answer.Waypoint.{Waypoint}
-use Rattle.moves.specs.declared.answer.EdgeAnswer.TheVariants.{To}
 use Rattle.edges.specs.Edges.{edge}
 use Rattle.edges.specs.Answers.{edge_feet}
 use Rattle.steps.specs.Graph.{graph}
@@ -45,7 +44,7 @@ module _ (𝓖 : Graph Feet Label) (goal : Feet) (start : Point64 𝓖.start) (r
   }
 
 module _ (sp : Space) (topped : ToppedSpace sp) (r : Request) (body : Body) (f : InF64 r) where
-  step_small : (from to : Point) → F64 to.x → F64 to.y → F64 to.z → (w : Waypoint) → edge sp r body from to ≡ To w → Point64 (feet_of w.feet)
+  step_small : (from to : Point) → F64 to.x → F64 to.y → F64 to.z → (w : Waypoint) → edge sp r body from to ≡ Some w → Point64 (feet_of w.feet)
   step_small from to x y z w e = rw (edge_feet sp r body from to w e) (feet_below to x y z)
 
   steps_small : (p : Feet) → lists.Each Reached ((graph sp r body).steps p)
