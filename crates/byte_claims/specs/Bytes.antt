@@ -1,7 +1,7 @@
 -- What the answers of the three calls that search mean, of the bytes that they are handed and leave: the claims of `claims` that ask for a request of f64s, here with
 -- no such hypothesis, for every request that is read from bytes is one (Requests). Two of them ask that the lent cell table is a list of bytes, as every slice is: a
 -- door (02, No. 5) is a state's number of that table.
-use Rattle.std.specs.Prelude.{ℕ, ◌*◌, Bool, List, ◌≢◌, eqb, length, take}
+use Rattle.std.specs.Prelude.{ℕ, ◌*◌, Bool, List, ◌≢◌, eqb, length, take, Ok, Err}
 use Rattle.std.proofs.Common.{arith}
 use Rattle.std.proofs.Math.Path.{◌≡◌, refl}
 use Rattle.std.proofs.Math.Bool.{true, false, cond}
@@ -20,10 +20,8 @@ use Rattle.steps.specs.Graph.{graph}
 use Rattle.rooms.specs.declared.Feet.{Feet}
 use Rattle.rooms.specs.Waypoints.{same_point}
 use Rattle.outcomes.specs.declared.Answer.{Answer}
-use Rattle.outcomes.specs.declared.Path.TheVariants.{Searched, BadTable}
-use Rattle.outcomes.specs.Outcomes.{outcome_number}
+use Rattle.outcomes.specs.Outcomes.{Path, outcome_number}
 use Rattle.search.specs.FindWalkPath.{found, nodes_after, out_after}
-use Rattle.walk_back.specs.declared.Walked.TheVariants.{Yes}
 use Rattle.walk_back.specs.WalkBack.{RouteList, walked}
 use Rattle.policy.specs.declared.policy.WalkPolicy.{WalkPolicy}
 use Rattle.policy.specs.Permission.{permission_table}
@@ -33,7 +31,7 @@ use Rattle.scene_state.specs.declared.state.Scene.{Scene}
 use Rattle.scene_state.specs.Answers as scenes
 use Rattle.scene_state.specs.Answers.{given, refused}
 use Rattle.scene.specs.Scene.{Tables, read_all}
-use Rattle.print_lines.specs.declared.Told.{Told}
+use Rattle.report.specs.declared.lines.Told.{Told}
 use Rattle.print.specs.Print.{refusal, told_of, answered, out_of, told}
 use Rattle.c_records.specs.Records.{window_in, body_in, policy_in, in_water}
 use Rattle.c_records.specs.Asked.{asked, start_asked, goal_asked}
@@ -57,7 +55,7 @@ module _ (w : Window) (cells perms shapes boxes : List ℕ) (r : Request) (body 
     -- 0, Found: the first 48 × count bytes of the output read back as a route by 01,
     pub found_reads_back : Bytes cells → outcome_number answer.outcome ≡ 0 → RouteList (space w cells perms shapes boxes) r body list
     -- to which the walk-back says yes.
-    pub walk_back_accepts : Bytes cells → outcome_number answer.outcome ≡ 0 → walked w cells perms shapes boxes r body list ≡ Yes
+    pub walk_back_accepts : Bytes cells → outcome_number answer.outcome ≡ 0 → walked w cells perms shapes boxes r body list ≡ Ok tt
     -- 1, Unreachable, after a search: the points of the retained node records cover all that graph steps reach, by 01's same point.
     pub unreachable_kept_all : outcome_number answer.outcome ≡ 1 → answer.retained ≢ 0 → (p : Feet) → Reach (graph (space w cells perms shapes boxes) r body) p →
         has (λ x. same_point x p) (kept_points answer.retained (nodes_after w cells perms shapes boxes r body nodes front index out)) ≡ true
@@ -113,14 +111,14 @@ module _ (bits pattern : ℕ) (flags window cells perms shapes boxes ends body n
 
   -- in that call's own words: the search with the filled table finds, and the output that the call leaves reads back
   pub mob_found_reads_back : Bytes cells → (a : Answer) →
-      path policy (in_water bits) flags (window_in window) cells perms shapes boxes start goal (body_in body) (length nodes) (length front) (length index) (length out) ≡ Searched a →
+      path policy (in_water bits) flags (window_in window) cells perms shapes boxes start goal (body_in body) (length nodes) (length front) (length index) (length out) ≡ Ok a →
       outcome_number a.outcome ≡ 0 →
       RouteList (space (window_in window) cells filled shapes boxes) mob (body_in body)
       (take (48 * a.count) (out_after_path policy (in_water bits) flags (window_in window) cells perms shapes boxes start goal (body_in body) nodes front index out))
   unfolding path out_after_path unless_bad
   mob_found_reads_back b a e z = go (eqb (length flags) (length perms)) e
     where
-      go : (same : Bool) → cond same (Searched (answer (window_in window) cells filled shapes boxes mob (body_in body) nodes front index out)) BadTable ≡ Searched a →
+      go : (same : Bool) → cond {A = Path} same (Ok (answer (window_in window) cells filled shapes boxes mob (body_in body) nodes front index out)) (Err (record {})) ≡ Ok a →
           RouteList (space (window_in window) cells filled shapes boxes) mob (body_in body)
           (take (48 * a.count) (cond same (out_after (window_in window) cells filled shapes boxes mob (body_in body) nodes front index out) out))
       go true e =

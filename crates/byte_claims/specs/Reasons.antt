@@ -1,6 +1,6 @@
 -- What 117 of the walk-back means, of the bytes that `walkprint_walk_back` is handed, and of the place that it gives: "not a graph step (nor, at the last pair, a connector)". Whatever
 -- movement, lift and door the record had, no graph step would lead to it.
-use Rattle.std.specs.Prelude.{ℕ, ◌+◌, ◌/◌, ◌<◌, ◌≡◌, refl, false, true, List, [], ◌∷◌, eqb, length}
+use Rattle.std.specs.Prelude.{ℕ, ◌+◌, ◌/◌, ◌<◌, ◌≡◌, refl, false, true, List, [], ◌∷◌, eqb, length, Result, Ok, Err}
 use Rattle.std.proofs.Common.{arith, sym, ◌∙◌}
 use Rattle.exploration.specs.Graph.{Graph, has_step}
 use Rattle.exploration.specs.WalkBack.{joined}
@@ -15,8 +15,8 @@ use Rattle.pairs.specs.declared.PairFault.{PairFault}
 use Rattle.pairs.specs.declared.PairFault.TheVariants.{NotAStep}
 use Rattle.pairs.specs.Unique.{one_pair}
 use Rattle.walk_back.specs.declared.Fault.TheVariants.{InvalidRequest, BadList, GoalOutOfRange, StartNotStandable, GoalNotStandable, WrongStart, Pair, WrongEnd}
-use Rattle.walk_back.specs.declared.Walked.{Walked}
-use Rattle.walk_back.specs.declared.Walked.TheVariants.{Yes, No, BadWorld, TooLarge}
+use Rattle.walk_back.specs.declared.Denied.{Denied}
+use Rattle.walk_back.specs.declared.Denied.TheVariants.{BadWorld, TooLarge, Fault}
 use Rattle.walk_back.specs.WalkBack.{walked_number, walked_places, walked}
 use Rattle.walk_back.specs.Places.{BreaksAt}
 use Rattle.walk_back.proofs.Claims.{pairs_told}
@@ -35,7 +35,7 @@ module _ (window cells perms shapes boxes request body list : List ℕ) where
   abbrev 𝓖 : Graph Feet Label
   𝓖 = graph sp question (body_in body)
 
-  abbrev answer : Walked
+  abbrev answer : Result (Unit {0}) Denied
   answer = walked (window_in window) cells perms shapes boxes question (body_in body) list
 
   -- record m of the list is behind another one; each pair before these two is a graph step; and no label makes the two a graph step, or at the end a connector
@@ -56,16 +56,16 @@ module _ (window cells perms shapes boxes request body list : List ℕ) where
   pub not_a_step : walked_number answer ≡ 117 → (m : ℕ) × ((walked_places answer ≡ m ∷ []) × NoStepTo m)
   not_a_step e = go answer refl e
     where
-      go : (a : Walked) → answer ≡ a → walked_number a ≡ 117 → (m : ℕ) × ((walked_places a ≡ m ∷ []) × NoStepTo m)
-      go (No (Pair fault m)) h e =
+      go : (a : Result (Unit {0}) Denied) → answer ≡ a → walked_number a ≡ 117 → (m : ℕ) × ((walked_places a ≡ m ∷ []) × NoStepTo m)
+      go (Err (Fault (Pair fault m))) h e =
           (m, (refl, broken (pairs_told (window_in window) cells perms shapes boxes question (body_in body) list h) (one_pair fault NotAStep e)))
-      go Yes h e = absurd (omega arith)
-      go BadWorld h e = absurd (omega arith)
-      go TooLarge h e = absurd (omega arith)
-      go (No InvalidRequest) h e = absurd (omega arith)
-      go (No BadList) h e = absurd (omega arith)
-      go (No GoalOutOfRange) h e = absurd (omega arith)
-      go (No StartNotStandable) h e = absurd (omega arith)
-      go (No GoalNotStandable) h e = absurd (omega arith)
-      go (No WrongStart) h e = absurd (omega arith)
-      go (No WrongEnd) h e = absurd (omega arith)
+      go (Ok x) h e = absurd (omega arith)
+      go (Err BadWorld) h e = absurd (omega arith)
+      go (Err TooLarge) h e = absurd (omega arith)
+      go (Err (Fault InvalidRequest)) h e = absurd (omega arith)
+      go (Err (Fault BadList)) h e = absurd (omega arith)
+      go (Err (Fault GoalOutOfRange)) h e = absurd (omega arith)
+      go (Err (Fault StartNotStandable)) h e = absurd (omega arith)
+      go (Err (Fault GoalNotStandable)) h e = absurd (omega arith)
+      go (Err (Fault WrongStart)) h e = absurd (omega arith)
+      go (Err (Fault WrongEnd)) h e = absurd (omega arith)

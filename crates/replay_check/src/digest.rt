@@ -1,10 +1,10 @@
 // The digest of a case's answers (oracle/README.md, `store`).
-use clear::Corridor;
-use heights::Height;
-use moves::{EdgeAnswer, EdgeCheck, Waypoint};
+use moves::{Reason, Waypoint};
 use outcomes::Answer;
+use world::NO_DOOR;
 
 // One more number, stirred by Marsaglia's xorshift of 64 bits: two rows that differ in one number have two digests.
+// `numbers_check` stirs alike: two programs, and no crate below both that a digest belongs to.
 pub(crate) fn with(d: u64, x: u64) -> u64 {
     let w = std::num::wrapping_add_u64(d, x ^ 0x9e37_79b9_7f4a_7c15);
     let a = w ^ (w << 13);
@@ -22,26 +22,22 @@ pub(crate) fn with_float(d: u64, x: f64) -> u64 {
 
 // Every byte of a room, 8 to a number.
 pub(crate) fn with_words(d: u64, room: &[u8]) -> u64 {
-    let mut sum = d;
-    let mut i: usize = 0;
-    while i < room.len() / 8 {
-        sum = with(sum, fields::u64_at(room, 8 * i));
-        i += 1;
-    }
-    sum
+    room.chunks_exact(8)
+        .fold(d, |sum, word| with(sum, fields::u64_at(word, 0)))
 }
 
 // The height's bits; 4 where there is none.
-pub(crate) fn with_height(d: u64, h: Height) -> u64 {
+pub(crate) fn with_height(d: u64, h: Option<f64>) -> u64 {
     match h {
-        Height::At(y) => with_float(d, y),
-        Height::None => with(d, 4),
+        Some(y) => with_float(d, y),
+        None => with(d, 4),
     }
 }
 
 // Whether an area is clear, and its door.
-pub(crate) fn with_corridor(d: u64, a: Corridor) -> u64 {
-    with(with_yes(d, a.clear), a.door as u64)
+pub(crate) fn with_corridor(d: u64, a: Option<u32>) -> u64 {
+    let door = a.unwrap_or(NO_DOOR);
+    with(with_yes(d, a.is_some()), door as u64)
 }
 
 // A waypoint's feet, lift and door.
@@ -51,21 +47,20 @@ fn with_waypoint(d: u64, w: Waypoint) -> u64 {
 }
 
 // The movement's number, then feet, lift and door; 4 where there is no edge.
-pub(crate) fn with_edge(d: u64, a: EdgeAnswer) -> u64 {
-    let EdgeAnswer::To(w) = a else {
-        return with(d, 4);
-    };
-    let movement = w.movement;
-    with_waypoint(with(d, moves::movement_number(movement)), w)
+pub(crate) fn with_edge(d: u64, a: Option<Waypoint>) -> u64 {
+    match a {
+        Some(w) => with_waypoint(with(d, u64::from(w.movement)), w),
+        None => with(d, 4),
+    }
 }
 
 // The edge check's number, as the C interface tells it, then of an edge feet, lift and door.
-pub(crate) fn with_check(d: u64, a: EdgeCheck) -> u64 {
+pub(crate) fn with_check(d: u64, a: Result<Waypoint, Reason>) -> u64 {
     let e = with(d, c_answers::edge_number(a));
-    let EdgeCheck::Passes(w) = a else {
-        return e;
-    };
-    with_waypoint(e, w)
+    match a {
+        Ok(w) => with_waypoint(e, w),
+        Err(_) => e,
+    }
 }
 
 // The outcome and the three counts, then every byte of the four rooms.
@@ -77,8 +72,7 @@ pub(crate) fn with_search(
     index: &[u8; 8208],
     out: &[u8; 32896],
 ) -> u64 {
-    let outcome = a.outcome;
-    let e = with(with(d, outcomes::number_of(outcome)), a.count as u64);
+    let e = with(with(d, u64::from(a.outcome)), a.count as u64);
     let f = with(with(e, a.retained as u64), a.closed);
     with_words(
         with_words(with_words(with_words(f, nodes), front), index),

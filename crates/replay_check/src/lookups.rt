@@ -4,10 +4,10 @@ use rooms::Feet;
 
 // How many of n nodes are entered into the first x bytes of a room; none where it has not so many.
 fn extend_front(room: &mut [u8], x: usize, nodes: &[u8], n: usize) -> usize {
-    if x <= room.len() {
-        return index::extend(&mut room[..x], nodes, 0, n);
+    match room.get_mut(..x) {
+        Some(part) => index::extend(part, nodes, 0, n),
+        None => 0,
     }
-    0
 }
 
 // How many of n nodes are entered.
@@ -18,11 +18,9 @@ pub(crate) fn entered(index: &mut [u8; 8208], x: usize, nodes: &[u8; 32896], n: 
 // Where each of n nodes is found, if m of them were entered.
 fn with_nodes(d: u64, index: &[u8], nodes: &[u8], m: usize, n: usize) -> u64 {
     let mut sum = d;
-    let mut k: usize = 0;
-    while k < n {
+    for k in 0..n {
         let j = index::find(index, nodes, m, n, rooms::get_feet(nodes, k));
         sum = digest::with(sum, j as u64);
-        k += 1;
     }
     sum
 }

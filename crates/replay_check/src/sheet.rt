@@ -40,10 +40,7 @@ pub(crate) fn number(sheet: &[u8], at: usize) -> usize {
 
 // The first n bytes, or all.
 pub(crate) fn front(s: &[u8], n: usize) -> &[u8] {
-    if n <= s.len() {
-        return &s[..n];
-    }
-    s
+    s.get(..n).unwrap_or(s)
 }
 
 // The next change: a place, a length, and so many bytes, which are read over those at the place.

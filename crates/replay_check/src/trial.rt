@@ -1,17 +1,9 @@
 // A search in rooms of the sheet's sizes, full of the sheet's byte, and then its nodes in the index. Before it one slot of the index looks free: where none
 // does, a search that reads old slots enters no node, scans them all, and answers as it must.
 use crate::{digest, lookups, sheet};
-use scene_state::Scene;
+use world::{Query, World};
 
-pub(crate) fn searched(
-    s: Scene,
-    cells: &[u8],
-    perms: &[u8],
-    shapes: &[u8],
-    boxes: &[u8],
-    asked: &[u8],
-    d: u64,
-) -> u64 {
+pub(crate) fn searched(query: Query, asked: &[u8], d: u64) -> u64 {
     let fill = scene_records::byte_at(asked, sheet::FILL);
     let mut nodes = [fill; 32896];
     let mut front = [fill; 32896];
@@ -22,15 +14,12 @@ pub(crate) fn searched(
     let f = sheet::number(asked, sheet::FRONT) % 32897;
     let x = sheet::number(asked, sheet::INDEX) % 8209;
     let o = sheet::number(asked, sheet::OUT) % 32897;
-    let lent = sheet::front(cells, sheet::number(asked, sheet::CELLS));
+    let world = World {
+        cells: sheet::front(query.world.cells, sheet::number(asked, sheet::CELLS)),
+        ..query.world
+    };
     let a = search::find_walk_path(
-        s.window,
-        lent,
-        perms,
-        shapes,
-        boxes,
-        s.request,
-        s.body,
+        Query { world, ..query },
         &mut nodes[..n],
         &mut front[..f],
         &mut index[..x],
@@ -38,6 +27,6 @@ pub(crate) fn searched(
     );
     let e = digest::with_search(d, a, &nodes, &front, &index, &out);
     let m = lookups::entered(&mut index, x, &nodes, a.retained);
-    let goal = words::feet_of(s.request.goal);
+    let goal = words::feet_of(query.request.goal);
     lookups::with_found(e, &index, x, &nodes, m, a.retained, goal)
 }

@@ -1,9 +1,8 @@
 // What the proved functions say of two points and of a column around the first.
 use crate::{digest, sheet};
-use heights::Height;
-use scene_state::Scene;
+use heights::Shaft;
 use sides::Sides;
-use world::{Aabb, Point};
+use world::{Aabb, Point, Query};
 
 // Whether a byte of the sheet is a yes.
 fn said(asked: &[u8], at: usize) -> bool {
@@ -21,76 +20,46 @@ fn is_looked_at(asked: &[u8], n: usize, level: bool) -> bool {
 }
 
 // Of a column around a point: its first height, and the next after the sheet's.
-fn column(
-    s: Scene,
-    cells: &[u8],
-    perms: &[u8],
-    shapes: &[u8],
-    boxes: &[u8],
-    asked: &[u8],
-    from: Point,
-    d: u64,
-) -> u64 {
+fn column(query: Query, asked: &[u8], from: Point, d: u64) -> u64 {
     let n = sheet::number(asked, sheet::COLUMN);
-    let band = steps::band_of(s.request, s.body, from);
+    let band = steps::band_of(query.request, query.body, from);
     let at = steps::column_centre(from, n);
-    let w = s.window;
-    let none = Height::None;
-    let last = Height::At(fields::f64_at(asked, sheet::AFTER));
-    let first = heights::next_height(w, cells, perms, shapes, boxes, band, at.x, at.z, none);
-    let next = heights::next_height(w, cells, perms, shapes, boxes, band, at.x, at.z, last);
+    let shaft = Shaft {
+        band,
+        x: at.x,
+        z: at.z,
+    };
+    let last = fields::f64_at(asked, sheet::AFTER);
+    let first = heights::next_height(query.world, shaft, None);
+    let next = heights::next_height(query.world, shaft, Some(last));
     digest::with_height(digest::with_height(d, first), next)
 }
 
 // Of the two points: whether the first is in range and standable, the box between them clear, and its door, the segment supported; the edge check, and the first's
 // connector.
-fn pair(
-    s: Scene,
-    cells: &[u8],
-    perms: &[u8],
-    shapes: &[u8],
-    boxes: &[u8],
-    a: Point,
-    b: Point,
-    d: u64,
-) -> u64 {
-    let w = s.window;
-    let r = s.request;
-    let body = s.body;
-    let in_range = places::in_range(r, a);
-    let standable = places::standable(w, cells, perms, shapes, boxes, body, a);
-    let area = clear::corridor_of(w, cells, perms, shapes, boxes, Aabb { min: a, max: b });
-    let supported = segments::supported_segment(w, cells, perms, shapes, boxes, body.width, a, b);
+fn pair(query: Query, a: Point, b: Point, d: u64) -> u64 {
+    let Query {
+        world,
+        request,
+        body,
+    } = query;
+    let in_range = places::in_range(request, a);
+    let standable = places::standable(world, body, a);
+    let area = clear::corridor_of(world, Aabb { min: a, max: b });
+    let supported = segments::supported_segment(world, body.width, a, b);
     let e = digest::with_yes(digest::with_yes(d, in_range), standable);
     let f = digest::with_yes(digest::with_corridor(e, area), supported);
-    let to = edges::edge_check(w, cells, perms, shapes, boxes, r, body, a, b);
-    let end = edges::connector(w, cells, perms, shapes, boxes, r, body, a);
+    let to = edges::edge_check(query, a, b);
+    let end = edges::connector(query, a);
     digest::with_edge(digest::with_check(f, to), end)
 }
 
 // All of it, and first whether the graph looks at the column.
-pub(crate) fn answered(
-    s: Scene,
-    cells: &[u8],
-    perms: &[u8],
-    shapes: &[u8],
-    boxes: &[u8],
-    asked: &[u8],
-    d: u64,
-) -> u64 {
+pub(crate) fn answered(query: Query, asked: &[u8], d: u64) -> u64 {
     let a = world::point_at(asked, sheet::FROM);
     let b = world::point_at(asked, sheet::TO);
     let n = sheet::number(asked, sheet::COLUMN);
     let looked = is_looked_at(asked, n, sides::is_level(a, b));
-    let e = pair(
-        s,
-        cells,
-        perms,
-        shapes,
-        boxes,
-        a,
-        b,
-        digest::with_yes(d, looked),
-    );
-    column(s, cells, perms, shapes, boxes, asked, a, e)
+    let e = pair(query, a, b, digest::with_yes(d, looked));
+    column(query, asked, a, e)
 }

@@ -1,6 +1,6 @@
 -- What a call of an untouched search left, after however many expansions and in whatever lots: the state of the whole search after as many, in the rooms as they were before
 -- begin, with the frontier room zeroed. By that a call is not refused, and an end is the whole search's.
-use Rattle.std.specs.Prelude.{ℕ, ◌+◌, ◌*◌, ◌≤◌, ◌≡◌, refl, List, length, drop, replicate}
+use Rattle.std.specs.Prelude.{ℕ, ◌+◌, ◌*◌, ◌≤◌, ◌≡◌, refl, List, length, drop, replicate, Ok}
 use Rattle.std.proofs.Common.{add-zero, arith, subst, ◌∙◌, length-append}
 use Rattle.std.proofs.Math.Path.{sym, ap}
 use Rattle.std.proofs.Math.Bool.{true, false}
@@ -28,9 +28,8 @@ use Rattle.steps.specs.Graph.{graph}
 use Rattle.steps.specs.GraphLaws.{graph_laws}
 use Rattle.visits.specs.Best.{best}
 use Rattle.visits.proofs.Laws.Policy.{best_laws}
-use Rattle.outcomes.specs.declared.Tick.{Tick}
-use Rattle.outcomes.specs.declared.Tick.TheVariants.{Searching}
-use Rattle.outcomes.specs.Ticks.{Ticked, tick_by, front_by, ticked_by, Gives, GoesFrom}
+use Rattle.outcomes.specs.declared.Slice.TheVariants.{Searching}
+use Rattle.outcomes.specs.Ticks.{Tick, Ticked, tick_by, front_by, ticked_by, Gives, GoesFrom}
 use Rattle.outcomes.proofs.Unique.{one_tick}
 use Rattle.refusals.specs.Refusals.{without_call, without_search}
 use Rattle.refusals.proofs.Laws.{Passed, begins, some_budget, call_begins}
@@ -50,7 +49,7 @@ pub left_is : (h k : Ticked) → Gives h k.tick k.nodes k.front k.out → k ≡ 
 left_is h k p = λ i. record { tick = one_tick k.tick h.tick p.answer i; nodes = p.node_room_lem i; front = p.front_room_lem i; out = p.output i }
 
 -- only a state that is still searching is told as such
-still_searching : (e : explore.Outcome (Feet × Label)) (d c : Counts) → tick_by e d ≡ Searching c → (e ≡ explore.Searching) × (d ≡ c)
+still_searching : (e : explore.Outcome (Feet × Label)) (d c : Counts) → tick_by e d ≡ Ok (Searching c) → (e ≡ explore.Searching) × (d ≡ c)
 still_searching (explore.Found t) d c p = absurd (let z : ◌≡◌ {A = ℕ} 0 1 = cc in omega arith)
 still_searching explore.Unreachable d c p = absurd (let z : ◌≡◌ {A = ℕ} 0 1 = cc in omega arith)
 still_searching explore.BudgetExceeded d c p = absurd (let z : ◌≡◌ {A = ℕ} 0 1 = cc in omega arith)
@@ -123,7 +122,7 @@ module _ (w : Window) (cells perms shapes boxes : List ℕ) (r : Request) (body 
     goes_on = p.goes;
   }
 
-  module _ (e : ℕ) {h : Ticked} (stands : StandsAfter e h) {c : Counts} (on : h.tick ≡ Searching c) where
+  module _ (e : ℕ) {h : Ticked} (stands : StandsAfter e h) {c : Counts} (on : h.tick ≡ Ok (Searching c)) where
     abbrev s : State Feet Label Note ℕ
     s = after sp r body e
 

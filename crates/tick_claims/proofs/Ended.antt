@@ -1,5 +1,5 @@
 -- An untouched search that has ended: it is the whole search's end, and no call goes on from it.
-use Rattle.std.specs.Prelude.{ℕ, ◌+◌, ◌*◌, ◌/◌, ◌≤◌, ◌≡◌, false, ◌&&◌, List, [], ◌∷◌, ◌≢◌, drop, replicate}
+use Rattle.std.specs.Prelude.{ℕ, ◌+◌, ◌*◌, ◌/◌, ◌≤◌, ◌≡◌, false, ◌&&◌, List, [], ◌∷◌, ◌≢◌, drop, replicate, Ok, Err}
 use Rattle.std.proofs.Common.{arith, sym, ◌∙◌, length-append, length-drop}
 use Rattle.std.proofs.Math.Path.{ap}
 use Rattle.std.proofs.Math.Bool.{true}
@@ -30,7 +30,8 @@ use Rattle.steps.specs.GraphLaws.{graph_laws}
 use Rattle.visits.specs.Best.{best}
 use Rattle.visits.proofs.Laws.Policy.{best_laws}
 use Rattle.outcomes.specs.declared.Outcome.{Outcome}
-use Rattle.outcomes.specs.declared.Tick.TheVariants.{BadProgress, Ended}
+use Rattle.outcomes.specs.declared.Slice.TheVariants.{Ended}
+use Rattle.outcomes.specs.declared.Refusal.TheVariants.{BadProgress}
 use Rattle.outcomes.specs.Outcomes.{told_by, list_in}
 use Rattle.outcomes.specs.Ticks.{Ticked, nothing_written, ticked_by}
 use Rattle.refusals.specs.Refusals.{without_call, without_search}
@@ -129,7 +130,7 @@ module _ (w : Window) (cells perms shapes boxes : List ℕ) (r : Request) (body 
       front_room_lem = λ index i. all_zero ∙ ap (λ x. zero_by w cells perms shapes boxes r body x front) (whole_begins index i);
     }
 
-    pub closed_few : (o : Outcome) (n : ℕ) (c : Counts) → k.tick ≡ Ended o n c → c.closed ≤ r.node_budget
+    pub closed_few : (o : Outcome) (n : ℕ) (c : Counts) → k.tick ≡ Ok (Ended o n c) → c.closed ≤ r.node_budget
     closed_few o n c p =
         let told = sym p ∙ ap (λ (h : Ticked). h.tick) left_is_whole ∙ ended_tick (end_of sp r body) (counts_in (ended sp r body)) (not_searching sp r body) in
         let closed : c.closed ≡ (ended sp r body).closings = cc in
@@ -148,10 +149,10 @@ module _ (w : Window) (cells perms shapes boxes : List ℕ) (r : Request) (body 
         let t = list_in (end_of sp r body) in
         ap (λ (h : Ticked). length h.out) left_is_whole ∙ omega (arith, length-append (list_bytes t) (drop (48 * length t) out), length_list t, length-drop (48 * length t) out, list_within sp r body, passed.out_room)
 
-    pub refused_after : (c : Counts) (n : ℕ) (m : Ticked) → LeftByContinue w cells perms shapes boxes r body k c n m → m ≡ nothing_written BadProgress k.nodes k.front k.out
+    pub refused_after : (c : Counts) (n : ℕ) (m : Ticked) → LeftByContinue w cells perms shapes boxes r body k c n m → m ≡ nothing_written (Err BadProgress) k.nodes k.front k.out
     refused_after c n m p =
         let whole = continued_search w cells perms shapes boxes r body k.nodes k.front k.out c n in
         let passes : none ≡ without_call w cells shapes boxes r body (length k.nodes) (length k.front) (length k.out) false =
         rw (nodes_length, front_length, out_length) (sym (call_begins w cells shapes boxes r body (length nodes) (length front) (length out) false perms goes)) in
         let bad : good_progress r k.nodes k.front c n ≡ false = ap (λ (x : List ℕ). good_progress r k.nodes x c n) all_zero ∙ zeros_bad r k.nodes (length front) c n in
-        left_is whole m p.holds ∙ sym (left_is whole (nothing_written BadProgress k.nodes k.front k.out) (left_bad w cells perms shapes boxes r body k.nodes k.front k.out c n passes bad))
+        left_is whole m p.holds ∙ sym (left_is whole (nothing_written (Err BadProgress) k.nodes k.front k.out) (left_bad w cells perms shapes boxes r body k.nodes k.front k.out c n passes bad))

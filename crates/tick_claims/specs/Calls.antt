@@ -1,7 +1,7 @@
 -- A search in slices (02, No. 10): begin, then one call of continue after the other, "with tables, body, request, node budget, counts and rooms untouched between
 -- calls". Each call is told by its contract, and all are handed the same output. Then: what it means that such a search ends as one whole search does. Definitions
 -- only.
-use Rattle.std.specs.Prelude.{ℕ, ◌≤◌, ◌≡◌, false, List, [], ◌∷◌, length, replicate}
+use Rattle.std.specs.Prelude.{ℕ, ◌≤◌, ◌≡◌, false, List, [], ◌∷◌, length, replicate, Ok}
 use Rattle.world.specs.declared.Body.{Body}
 use Rattle.world.specs.declared.Request.{Request}
 use Rattle.world.specs.declared.Window.{Window}
@@ -9,7 +9,7 @@ use Rattle.world.specs.Space.{space}
 use Rattle.rooms.specs.declared.Counts.{Counts}
 use Rattle.outcomes.specs.declared.Outcome.{Outcome}
 use Rattle.outcomes.specs.declared.Answer.{Answer}
-use Rattle.outcomes.specs.declared.Tick.TheVariants.{Searching, Ended}
+use Rattle.outcomes.specs.declared.Slice.TheVariants.{Searching, Ended}
 use Rattle.outcomes.specs.Ticks.{Ticked, Gives, GoesFrom}
 use Rattle.index.specs.Size.{wrong_size}
 use Rattle.openings.specs.Openings.{start_state, begun_search}
@@ -42,7 +42,7 @@ module _ (w : Window) (cells perms shapes boxes : List ℕ) (r : Request) (body 
   -- rooms and the output that this left.
   pub data Calls : Ticked → List ℕ → Ticked → Type 0 where
     no_call : {h : Ticked} → Calls h [] h
-    next_call : {h m k : Ticked} {lots : List ℕ} (c : Counts) (n : ℕ) → h.tick ≡ Searching c → LeftByContinue h c n m → Calls m lots k → Calls h (n ∷ lots) k
+    next_call : {h m k : Ticked} {lots : List ℕ} (c : Counts) (n : ℕ) → h.tick ≡ Ok (Searching c) → LeftByContinue h c n m → Calls m lots k → Calls h (n ∷ lots) k
 
   -- ---- one whole search on the rooms and the output as they were before begin
 
@@ -55,7 +55,7 @@ module _ (w : Window) (cells perms shapes boxes : List ℕ) (r : Request) (body 
       pub outcome : Outcome
       pub count : ℕ
       pub counts : Counts
-      pub ended : k.tick ≡ Ended outcome count counts
+      pub ended : k.tick ≡ Ok (Ended outcome count counts)
       -- "the final outcome", with the number of waypoints, of retained and of closed nodes
       pub answer : (index : List ℕ) → RightIndex r index → record { outcome = outcome; count = count; retained = counts.retained; closed = counts.closed } ≡ whole_answer index
       -- "list"

@@ -1,6 +1,6 @@
 -- What each node has that the search of a valid request keeps, as 12's clauses ask it (02, No. 10): a point in range, a movement of 01, marks of 0 or 1, and a cost and an
 -- estimate that are finite. No distance is above 2 ^ 34, and so no cost is above as many of them as nodes were closed.
-use Rattle.std.specs.Prelude.{ℕ, suc, ◌+◌, ◌*◌, ◌^◌, ◌≤◌, ◌<◌, ◌≡◌, Bool, true, false, pos}
+use Rattle.std.specs.Prelude.{ℕ, suc, ◌+◌, ◌*◌, ◌^◌, ◌≤◌, ◌<◌, ◌≡◌, Bool, true, false, pos, Some}
 use Rattle.std.proofs.Common.{arith}
 use Rattle.std.proofs.Math.Option.{some}
 use mathlib.Core.List.{List, []}
@@ -20,7 +20,6 @@ use Rattle.world.specs.Space.{Space}
 use Rattle.request.specs.Request.{valid_request, sizes_too_large}
 use Rattle.places.specs.Places.{in_range}
 use Rattle.moves.specs.declared.answer.Waypoint.{Waypoint}
-use Rattle.moves.specs.declared.answer.EdgeAnswer.TheVariants.{To}
 use Rattle.edges.specs.Edges.{edge}
 use Rattle.edges.specs.Answers.{edge_feet}
 use Rattle.rooms.specs.declared.Feet.{Feet}
@@ -166,7 +165,7 @@ module _ (r : Request) (body : Body) (valid : valid_request r body ≡ true) (sm
 -- ---- the search of a valid request that is not too large
 
 module _ (sp : Space) (topped : ToppedSpace sp) (r : Request) (body : Body) (f : InF64 r) (valid : valid_request r body ≡ true) (small : sizes_too_large r body ≡ false) where
-  step_led : (from to : Point) → F64 to.x → F64 to.y → F64 to.z → (w : Waypoint) → edge sp r body from to ≡ To w → Led r (feet_of w.feet, label_of w)
+  step_led : (from to : Point) → F64 to.x → F64 to.y → F64 to.z → (w : Waypoint) → edge sp r body from to ≡ Some w → Led r (feet_of w.feet, label_of w)
   unfolding label_of
   step_led from to x y z w e = record {
     point = rw (edge_feet sp r body from to w e, stands_as to x y z) (target_in_range sp r body from to w e);

@@ -1,5 +1,5 @@
 -- The numbers that the calls of roots and jumps answer with, and the bytes that they leave in a lent slice.
-use Rattle.std.specs.Prelude.{ℕ, List, [], ◌∷◌, Float}
+use Rattle.std.specs.Prelude.{ℕ, List, [], ◌∷◌, Float, Option, Some, None}
 use Rattle.std.specs.Float.{binary64}
 use Rattle.std.specs.Float.Ieee.{to_bits}
 use Rattle.fields.specs.Little.{with_field}
@@ -18,3 +18,12 @@ root_written (refusal n) old = old
 abbrev pub first_written : List Float → List ℕ → List ℕ
 first_written [] old = old
 first_written (h ∷ hs) old = with_field 8 old 0 (to_bits binary64 h)
+
+-- a number that may be refused: 0 and the number in the first 8 bytes, or the refusal's number and nothing written
+abbrev pub float_number : ℕ → Option Float → ℕ
+float_number n (Some x) = 0
+float_number n None = n
+
+abbrev pub float_written : Option Float → List ℕ → List ℕ
+float_written (Some x) old = with_field 8 old 0 (to_bits binary64 x)
+float_written None old = old

@@ -1,6 +1,6 @@
 -- What the calls answer where a record is shorter than its struct: in 01's order 3 where the world is bad, for which the missing fields of a window read as 0, and
 -- else what an invalid request is answered with: 1, and 111 of the walk-back.
-use Rattle.std.specs.Prelude.{ℕ, ◌≡◌, Bool, List, eqb, length}
+use Rattle.std.specs.Prelude.{ℕ, ◌≡◌, Bool, List, eqb, length, Result, Ok, Err}
 use Rattle.std.proofs.Math.Path.{refl}
 use Rattle.std.proofs.Math.Bool.{true, false, cond}
 use Rattle.std.proofs.Math.Option.{some}
@@ -15,18 +15,18 @@ use Rattle.request.specs.Request.{valid_request}
 use Rattle.questions.specs.Questions.{judged}
 use Rattle.rooms.specs.declared.Counts.{Counts}
 use Rattle.outcomes.specs.declared.Outcome.TheVariants as outcome
-use Rattle.outcomes.specs.declared.Tick.TheVariants.{Refused}
+use Rattle.outcomes.specs.declared.Refusal.TheVariants.{Judged}
 use Rattle.outcomes.specs.Ticks.{tick_number, nothing_written}
-use Rattle.outcomes.specs.Outcomes.{outcome_number, path_number}
+use Rattle.outcomes.specs.Outcomes.{Path, outcome_number, path_number}
 use Rattle.refusals.specs.Refusals.{without_search}
 use Rattle.search.specs.FindWalkPath.{answer_by, found}
 use Rattle.search.specs.Ticks.{continued_search}
 use Rattle.openings.specs.Openings.{begun_by, begun_search}
 use Rattle.mob_request.specs.Asked.{request_of}
 use Rattle.find_path.specs.FindPath.{unless_bad, path}
-use Rattle.outcomes.specs.declared.Path.TheVariants.{Searched, BadTable}
 use Rattle.walk_back.specs.declared.Fault.TheVariants.{InvalidRequest}
-use Rattle.walk_back.specs.declared.Walked.TheVariants.{BadWorld, No}
+use Rattle.walk_back.specs.declared.Denied.{Denied}
+use Rattle.walk_back.specs.declared.Denied.TheVariants.{BadWorld, Fault}
 use Rattle.walk_back.specs.WalkBack.{walked, walked_number}
 use Rattle.c_records.specs.Records.{window_in, body_in}
 use Rattle.c_records.specs.Asked.{asked, start_asked, goal_asked}
@@ -56,7 +56,7 @@ module _ (w : Window) (cells perms shapes boxes : List ℕ) (r : Request) (body 
   unfolding continued_search
   continue_invalid nodes front out c n = rw invalid (go (bad_world w cells shapes boxes))
     where
-      go : (b : Bool) → tick_number (cond b (nothing_written (Refused outcome.BadWorld) nodes front out) (nothing_written (Refused outcome.Unreachable) nodes front out)).tick ≡ cond b 3 1
+      go : (b : Bool) → tick_number (cond b (nothing_written (Err (Judged outcome.BadWorld)) nodes front out) (nothing_written (Err (Judged outcome.Unreachable)) nodes front out)).tick ≡ cond b 3 1
       go true = refl
       go false = refl
 
@@ -64,7 +64,7 @@ module _ (w : Window) (cells perms shapes boxes : List ℕ) (r : Request) (body 
   unfolding walked
   walk_back_invalid list = rw invalid (go (bad_world w cells shapes boxes))
     where
-      go : (b : Bool) → walked_number (cond b BadWorld (No InvalidRequest)) ≡ cond b 3 111
+      go : (b : Bool) → walked_number (cond {A = Result (Unit {0}) Denied} b (Err BadWorld) (Err (Fault InvalidRequest))) ≡ cond b 3 111
       go true = refl
       go false = refl
 
@@ -103,6 +103,6 @@ module _ (p : WalkPolicy) (wet : Bool) (flags window cells perms shapes boxes en
       searched : outcome_number (found (window_in window) cells (permission_table p wet flags perms) shapes boxes (request_of p start goal (body_in body)) (body_in body) nodes front index out).outcome ≡ cond (bad_world (window_in window) cells shapes boxes) 3 1
       searched = search_invalid (window_in window) cells (permission_table p wet flags perms) shapes boxes (request_of p start goal (body_in body)) (body_in body) (mob_cut_short_is_invalid p window ends body (body_in body) short) nodes front index out
 
-      go : (b : Bool) → path_number (cond b (Searched (found (window_in window) cells (permission_table p wet flags perms) shapes boxes (request_of p start goal (body_in body)) (body_in body) nodes front index out)) BadTable) ≡ cond b (cond (bad_world (window_in window) cells shapes boxes) 3 1) 8
+      go : (b : Bool) → path_number (cond {A = Path} b (Ok (found (window_in window) cells (permission_table p wet flags perms) shapes boxes (request_of p start goal (body_in body)) (body_in body) nodes front index out)) (Err (record {}))) ≡ cond b (cond (bad_world (window_in window) cells shapes boxes) 3 1) 8
       go true = searched
       go false = refl

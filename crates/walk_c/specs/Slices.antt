@@ -2,8 +2,7 @@
 use Rattle.std.specs.Prelude.{ℕ, ◌≡◌, List}
 use Rattle.std.proofs.Common.{ap, ◌∙◌}
 use Rattle.rooms.specs.declared.Counts.{Counts}
-use Rattle.outcomes.specs.declared.Tick.{Tick}
-use Rattle.outcomes.specs.Ticks.{tick_number, Ticked, Gives}
+use Rattle.outcomes.specs.Ticks.{Tick, tick_number, Ticked, Gives}
 use Rattle.outcomes.proofs.Unique.{one_tick}
 use Rattle.openings.specs.Openings.{begun_search}
 use Rattle.search.specs.Ticks.{continued_search}

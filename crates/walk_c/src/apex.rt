@@ -3,7 +3,7 @@ ghost use Rattle.std.specs.Prelude.{◌≡◌};
 ghost use Rattle.jump.specs.Jump.{jump_apex};
 ghost use Rattle.walk_c.specs.Answers.{first_written};
 
-use jump::Apex;
+use crate::float::put_float;
 
 // 0, and the height in the first 8 bytes of `height`; or 6 EndlessJump, and nothing is written.
 #[unsafe(no_mangle)]
@@ -11,11 +11,5 @@ pub extern "C" fn walkprint_jump_apex(power: f32, gravity: f64, height: &mut [u8
     ensures value { result ≡ (jump_apex power gravity).0 }
     ensures height_after { height.new ≡ first_written (jump_apex power gravity).1 height.old }
 {
-    match jump::jump_apex(power, gravity) {
-        Apex::Height(h) => {
-            stores::put_u64(height, 0, floats::bits_of(h));
-            0
-        }
-        Apex::Endless => 6,
-    }
+    put_float(jump::jump_apex(power, gravity), 6, height)
 }

@@ -7,8 +7,8 @@ ghost use Rattle.questions.specs.Questions.{judged};
 ghost use Rattle.c_records.specs.Records.{window_in, body_in};
 ghost use Rattle.c_records.specs.Asked.{asked};
 
+use crate::query::query_in;
 use c_answers::edge_number;
-use c_records::question_in;
 use questions::Judgement;
 use world::Point;
 
@@ -32,12 +32,12 @@ pub extern "C" fn walkprint_edge(
 ) -> u64
     ensures { result ≡ judged (window_in window.now) cells.now shapes.now boxes.now (asked window.now request.now body.now) (body_in body.now) 3 1 4 (check_number (edge_check (space (window_in window.now) cells.now permissions.now shapes.now boxes.now) (asked window.now request.now body.now) (body_in body.now) (record { x = from_x; y = from_y; z = from_z }) (record { x = to_x; y = to_y; z = to_z }))) }
 {
-    let q = question_in(window, request, body);
-    match questions::judge(q.window, cells, shapes, boxes, q.request, q.body) {
-        Judgement::BadWorld => 3,
-        Judgement::Invalid => 1,
-        Judgement::TooLarge => 4,
-        Judgement::Good => {
+    let query = query_in(window, cells, permissions, shapes, boxes, request, body);
+    match questions::judge(query) {
+        Err(Judgement::BadWorld) => 3,
+        Err(Judgement::Invalid) => 1,
+        Err(Judgement::TooLarge) => 4,
+        Ok(()) => {
             let from = Point {
                 x: from_x,
                 y: from_y,
@@ -48,18 +48,7 @@ pub extern "C" fn walkprint_edge(
                 y: to_y,
                 z: to_z,
             };
-            let a = edges::edge_check(
-                q.window,
-                cells,
-                permissions,
-                shapes,
-                boxes,
-                q.request,
-                q.body,
-                from,
-                to,
-            );
-            edge_number(a)
+            edge_number(edges::edge_check(query, from, to))
         }
     }
 }

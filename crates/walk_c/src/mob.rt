@@ -39,17 +39,12 @@ pub extern "C" fn walkprint_find_path(
 {
     let m = mob_in(policy, jump_height, window, ends, body);
     let a = find_path::find_path(
-        m.policy,
-        m.in_water,
+        m,
         flags,
-        m.window,
         cells,
         permissions,
         shapes,
         boxes,
-        m.start,
-        m.goal,
-        m.body,
         nodes,
         front,
         index,

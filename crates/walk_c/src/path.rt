@@ -6,8 +6,8 @@ ghost use Rattle.c_records.specs.Records.{window_in, body_in};
 ghost use Rattle.c_records.specs.Asked.{asked};
 ghost use Rattle.c_answers.specs.Answers.{answer_written};
 
+use crate::query::query_in;
 use c_answers::put_answer;
-use c_records::question_in;
 
 // The outcome's number, 0 to 5: the list goes to `out`; `nodes`, `front` and `index` are the search's rooms, and `answer` gets the outcome, the list's count,
 // and the retained and closed nodes.
@@ -33,19 +33,7 @@ pub extern "C" fn walkprint_find_walk_path(
     ensures index { index.new ≡ index_after (window_in window.now) cells.now permissions.now shapes.now boxes.now (asked window.now request.now body.now) (body_in body.now) nodes.old front.old index.old out.old }
     ensures out { out.new ≡ out_after (window_in window.now) cells.now permissions.now shapes.now boxes.now (asked window.now request.now body.now) (body_in body.now) nodes.old front.old index.old out.old }
 {
-    let q = question_in(window, request, body);
-    let a = search::find_walk_path(
-        q.window,
-        cells,
-        permissions,
-        shapes,
-        boxes,
-        q.request,
-        q.body,
-        nodes,
-        front,
-        index,
-        out,
-    );
+    let query = query_in(window, cells, permissions, shapes, boxes, request, body);
+    let a = search::find_walk_path(query, nodes, front, index, out);
     put_answer(a, answer)
 }

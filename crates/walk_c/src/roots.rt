@@ -4,7 +4,7 @@ ghost use Rattle.root.specs.Distance.{square_root};
 ghost use Rattle.root.specs.Method.{answer};
 ghost use Rattle.walk_c.specs.Answers.{root_number, root_written};
 
-use root::Root;
+use crate::float::put_float;
 
 // 0, and the root in the first 8 bytes of `root`; or 9 BadNumber, and nothing is written.
 #[unsafe(no_mangle)]
@@ -12,13 +12,7 @@ pub extern "C" fn walkprint_root(x: f64, root: &mut [u8]) -> u64
     ensures value { result ≡ root_number (answer x) }
     ensures root_after { root.new ≡ root_written (answer x) root.old }
 {
-    match root::root(x) {
-        Root::Of(r) => {
-            stores::put_u64(root, 0, floats::bits_of(r));
-            0
-        }
-        Root::Refused => 9,
-    }
+    put_float(root::root(x), 9, root)
 }
 
 // The root, or NaN where there is none; the infinity's is itself.

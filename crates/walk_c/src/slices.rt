@@ -2,8 +2,8 @@
 ghost use Rattle.std.specs.Prelude.{◌≡◌};
 ghost use Rattle.walk_c.specs.Slices.{begun_in, continued_in, Sliced};
 
+use crate::query::query_in;
 use c_answers::put_tick;
-use c_records::question_in;
 use rooms::Counts;
 
 // 1 to 5 without a search, nothing written; or 100, still searching, with the start retained. Of `out` only the length counts; `progress` gets the number, a
@@ -24,19 +24,8 @@ pub extern "C" fn walkprint_begin(
 ) -> u64
     ensures { Sliced (begun_in window.now cells.now permissions.now shapes.now boxes.now request.now body.now nodes.old front.old out.now) result progress.old progress.new nodes.new front.new out.now }
 {
-    let q = question_in(window, request, body);
-    let t = openings::begin_search(
-        q.window,
-        cells,
-        permissions,
-        shapes,
-        boxes,
-        q.request,
-        q.body,
-        nodes,
-        front,
-        out,
-    );
+    let query = query_in(window, cells, permissions, shapes, boxes, request, body);
+    let t = openings::begin_search(query, nodes, front, out);
     put_tick(t, progress)
 }
 
@@ -63,26 +52,13 @@ pub extern "C" fn walkprint_continue(
 ) -> u64
     ensures { Sliced (continued_in window.now cells.now permissions.now shapes.now boxes.now request.now body.now nodes.old front.old out.old (record { retained = retained; closed = closed; pushed = pushed; dropped = dropped }) expansions) result progress.old progress.new nodes.new front.new out.new }
 {
-    let q = question_in(window, request, body);
+    let query = query_in(window, cells, permissions, shapes, boxes, request, body);
     let c = Counts {
         retained: retained as usize,
         closed,
         pushed,
         dropped,
     };
-    let t = search::continue_search(
-        q.window,
-        cells,
-        permissions,
-        shapes,
-        boxes,
-        q.request,
-        q.body,
-        c,
-        expansions,
-        nodes,
-        front,
-        out,
-    );
+    let t = search::continue_search(query, c, expansions, nodes, front, out);
     put_tick(t, progress)
 }

@@ -5,8 +5,8 @@ ghost use Rattle.c_records.specs.Records.{window_in, body_in};
 ghost use Rattle.c_records.specs.Asked.{asked};
 ghost use Rattle.c_answers.specs.Answers.{place_written};
 
+use crate::query::query_in;
 use c_answers::put_walked;
-use c_records::question_in;
 
 // Whether a list of waypoint records is a route: 0 yes, 3 BadWorld, 4 TooLarge, or the first reason why it is none: 101 to 109, 117 and 118 of a pair, whose later
 // point's place is then in the first 8 bytes of `place`, where they fit, and 111 to 116 and 119.
@@ -25,16 +25,6 @@ pub extern "C" fn walkprint_walk_back(
     ensures number { result ≡ walked_number (walked (window_in window.now) cells.now permissions.now shapes.now boxes.now (asked window.now request.now body.now) (body_in body.now) list.now) }
     ensures place { place.new ≡ place_written (walked_places (walked (window_in window.now) cells.now permissions.now shapes.now boxes.now (asked window.now request.now body.now) (body_in body.now) list.now)) place.old }
 {
-    let q = question_in(window, request, body);
-    let a = walk_back::walk_back(
-        q.window,
-        cells,
-        permissions,
-        shapes,
-        boxes,
-        q.request,
-        q.body,
-        list,
-    );
-    put_walked(a, place)
+    let query = query_in(window, cells, permissions, shapes, boxes, request, body);
+    put_walked(walk_back::walk_back(query, list), place)
 }

@@ -1,21 +1,23 @@
 -- `walk_c::apex::walkprint_jump_apex` meets its contract. Assumes nothing.
-use Rattle.std.proofs.Common.{refl, sym, ap, ◌∙◌, List, ℕ, Float}
-use Rattle.fields.specs.Little.{with_field}
+use Rattle.std.proofs.Common.{◌≡◌, refl, ◌∙◌, ap, List, ℕ, Float, Option, Some, None}
 use Rattle.jump.specs.Answers.{apex_answer}
-use Rattle.c_answers.specs.Laws.{told}
-use Rattle.walk_c.specs.Answers.{first_written}
+use Rattle.walk_c.specs.Answers.{float_number, float_written, first_written}
 use Rattle.walk_c.proofs.apex.walkprint_jump_apex.Goals as goal
 
-abbrev number : ℕ × List Float → ℕ
-number a = a.0
+-- the height's number and bytes are those of the answer
+same_number : (o : Option Float) → float_number 6 o ≡ (apex_answer o).0
+same_number (Some h) = refl
+same_number None = refl
 
-abbrev written : ℕ × List Float → List ℕ → List ℕ
-written a old = first_written a.1 old
+same_bytes : (o : Option Float) (old : List ℕ) → float_written o old ≡ first_written (apex_answer o).1 old
+same_bytes (Some h) old = refl
+same_bytes None old = refl
 
-pub returns-in-Height : goal.returns-in-Height
-returns-in-Height c =
-    let w = let old = c.args.height.now in
-    told number written old (ap apex_answer (sym c.in-Height.is) ∙ c.jump_apex.ensures) (refl, c.put_u64.ensures ∙ ap (with_field 8 old 0) c.bits_of.ensures) in record { value = w.0; height_after = w.1 }
-
-pub returns-in-Endless : goal.returns-in-Endless
-returns-in-Endless c = let w = told number written c.args.height.now (ap apex_answer (sym c.in-Endless.is) ∙ c.jump_apex.ensures) (refl, refl) in record { value = w.0; height_after = w.1 }
+pub returns : goal.returns
+returns c =
+    let e = c.jump_apex.ensures in
+    let old = c.args.height.now in
+    record {
+      value = c.put_float.ensures.value ∙ same_number c.jump_apex.result ∙ ap (λ (a : ℕ × List Float). a.0) e;
+      height_after = c.put_float.ensures.to_after ∙ same_bytes c.jump_apex.result old ∙ ap (λ (a : ℕ × List Float). first_written a.1 old) e;
+    }
