@@ -27,6 +27,7 @@ pub fn edge_check(query: Query, from: Point, to: Point) -> Result<Waypoint, Reas
 }
 
 // The edge from one point to another.
+#[tactic(auto, using(crate::proofs::Laws::check_is))]
 pub fn edge(query: Query, from: Point, to: Point) -> Option<Waypoint>
     ensures { result ≡ edge (space_of query.entry.world) query.entry.request query.entry.body from to }
 {

@@ -20,6 +20,7 @@ pub fn in_range(r: Request, p: Point) -> bool
     ensures { result ≡ in_range r p }
 {
     let most = r.max_range + floats::E;
+    // `&`: floats are compared with no branch between them
     near(most, p.x, r.start.x) & near(most, p.y, r.start.y) & near(most, p.z, r.start.z)
 }
 

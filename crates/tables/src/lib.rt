@@ -77,7 +77,7 @@ fn off_rule(boxes: &[u8], i: usize) -> bool
     !box_good(world::box_at(boxes, 48 * i).unwrap())
 }
 
-// Whether one of the box records is.
+// Whether one of the box records is. Its twin is as short: the two read other records, by other definitions.
 fn bad_boxes(boxes: &[u8]) -> bool
     ensures { result ≡ some (off_rule boxes.now) (length boxes.now / 48) }
 {

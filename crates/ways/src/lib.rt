@@ -45,6 +45,7 @@ pub fn way_check(
         y: lift,
         z: 0.0,
     };
+    // a yes or no has no `ok_or`: these tests return their reasons by `if`
     if !places::in_range(r, to) {
         return Err(Reason::TargetOutOfRange);
     }
