@@ -7,6 +7,7 @@ ghost use Rattle.world.specs.Boxes.{corner, plus, minus, span};
 use world::{Aabb, Point};
 
 // A cell's least corner.
+#[inline(always)]
 pub fn corner_of(x: i64, y: i64, z: i64) -> Point
     ensures { result ≡ corner x y z }
 {

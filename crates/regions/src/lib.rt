@@ -71,6 +71,7 @@ pub fn first_in(r: Region) -> Option<Spot>
 }
 
 // The cell after one, if there is one: a row goes along x, the rows of a layer along z, the layers along y.
+#[inline(always)]
 pub fn next_in(r: Region, at: Spot) -> Option<Spot>
     ensures { result ≡ next_in r at }
 {
@@ -127,6 +128,8 @@ impl Iterator for Cells {
 
     ghost remaining = { item_count (λ rest. rest) };
 
+    // Put into each loop: a call for each cell would cost more than most cells do.
+    #[inline(always)]
     fn next(&mut self) -> Option<Spot> {
         let at = self.next?;
         self.next = next_in(self.region, at);

@@ -15,6 +15,7 @@ pub struct Run<'a> {
 }
 
 // The part of a table from an offset on; where the table ends before it, the part is empty.
+#[inline(always)]
 fn part_from(s: &[u8], at: usize) -> &[u8]
     ensures { result.now ≡ drop at s.now }
 {
@@ -40,7 +41,8 @@ impl<'a> Iterator for Run<'a> {
 
     ghost remaining = { item_count boxes_left };
 
-    // The table's end ends a run too.
+    // The table's end ends a run too. Inlined, since each column and way goes over many runs.
+    #[inline(always)]
     fn next(&mut self) -> Option<Aabb> {
         if self.left == 0 {
             return None;
