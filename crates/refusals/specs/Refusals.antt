@@ -10,6 +10,7 @@ use Rattle.tables.specs.BadWorld.{bad_world}
 use Rattle.request.specs.Request.{valid_request, too_large}
 use Rattle.ends.specs.Ends.{ends_good}
 use Rattle.outcomes.specs.declared.Outcome.{Outcome}
+use Rattle.outcomes.specs.Outcomes.{outcome_number}
 use Rattle.outcomes.specs.declared.Outcome.TheVariants.{Unreachable, BudgetExceeded, BadWorld, TooLarge, NoRoom}
 
 -- "5 NoRoom: node or frontier room under node_budget records, output under node_budget + 1"; 02, No. 5: "Rooms are counted in the new sizes". Of
@@ -40,6 +41,16 @@ without_search w cells perms shapes boxes r body nodes front out wrong_index =
     (cond (not (ends_good (space w cells perms shapes boxes) r body)) (some Unreachable)
     (cond (eqb r.node_budget 0) (some BudgetExceeded)
     none))
+
+-- the number of that, where there is one
+abbrev pub number_if : Option Outcome → Option ℕ
+number_if (some o) = some (outcome_number o)
+number_if none = none
+
+-- the number of what the code answers; its cases have no other values
+abbrev pub judged_number : Result (Unit {0}) Outcome → Option ℕ
+judged_number (Err o) = some (outcome_number o)
+judged_number (Ok u) = none
 
 -- ---- what the code answers of a query: nothing where there is no such answer, else that answer as its refusal
 

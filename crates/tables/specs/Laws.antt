@@ -1,6 +1,6 @@
 -- Laws of bad worlds: what the loops go by, that the order of the tests does not matter, and what a world that is not bad is.
 use Prim.Native.Nat.{ℕ, zero, suc, ◌+◌, ◌*◌, ◌%◌, ◌<◌}
-use Rattle.std.proofs.Common.{arith, add-zero, zero-add, sym, ap, ◌∙◌, eq-eqb, ne_eqb, eqb-true}
+use Rattle.std.proofs.Common.{add-one, arith, add-zero, zero-add, sym, ap, ◌∙◌, eq-eqb, ne_eqb, eqb-true}
 use Rattle.std.specs.List.{list_any, range_with_len}
 use Rattle.std.specs.Prelude.{◌≡◌, Some, Bool, ◌&&◌, ◌||◌, List, eqb, length, Float}
 use Rattle.std.proofs.Math.Path.{refl}
@@ -58,6 +58,14 @@ rule_is b = sym (go (each finite b) (ordered b) (each from_to b) (of_box b))
 -- ---- one of the numbers below n
 
 module _ (f : ℕ → Bool) where
+  pub none_below : some f 0 ≡ false
+  unfolding some
+  none_below = refl
+
+  pub none_more : (n : ℕ) → some f n ≡ false → f n ≡ false → some f (n + 1) ≡ false
+  unfolding some
+  none_more n e h = rw (add-one, e, h)
+
   -- the last one is it, or one before
   last : (n i : ℕ) → i < suc n → f i ≡ true → (i < n → some f n ≡ true) → some f n || f n ≡ true
   last n i h e below = go (eqb i n) refl
