@@ -9,7 +9,8 @@ use policy::BadTable;
 use world::{Query, World};
 
 // A way for a mob from its start to its goal. `perms` is filled by the flags of the states, unless the two differ in length, and stays filled whatever the
-// search answers; the list is written to `out`; `nodes`, `front` and `index` are the search's rooms.
+// search answers; the list is written to `out`; `nodes`, `front` and `index` are the search's rooms. The tables
+// come one by one, since `perms` is written before there is a world.
 pub fn find_path(
     mob: Mob,
     flags: &[u8],

@@ -12,7 +12,7 @@ use digest::Digest;
 fn next(rt: &impl Input, place: u32, flags: &[u8; 256]) -> Digest {
     let mut record = [0u8; 72];
     input::take(rt, 72, &mut record);
-    let d = policies::with_policy(numbers::made(&record), place % 256, flags);
+    let d = policies::with_policy(numbers::made(&record), u64::from(place % 256), flags);
     jumps::with_jump(d, &record)
 }
 

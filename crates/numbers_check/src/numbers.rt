@@ -13,7 +13,7 @@ struct Row {
 }
 
 // A pattern, or that of its number's square, or of the square of the point half way to the next number: the square of r + 2^-53 is r * r + r * 2^-52 and a
-// little more.
+// little more. The kind is a number of the record, as the stored answers have it.
 fn raised(kind: u64, pattern: u64) -> u64 {
     let r = floats::float_of(pattern);
     match kind {

@@ -1,23 +1,18 @@
 // A policy, asked about every flag byte.
 use digest::Digest;
-use policy::{Flags, Passage, WalkPolicy};
-
-// Whether the bit of this weight is set in a policy's number.
-fn said(number: u32, weight: u32) -> bool {
-    number & weight != 0
-}
+use policy::{Flags, Passage, WalkPolicy, has_bit};
 
 // The policy of a number: bit k is the k-th yes or no from `avoid_water` on.
-fn numbered(number: u32) -> WalkPolicy {
+fn numbered(number: u64) -> WalkPolicy {
     WalkPolicy {
-        avoid_water: said(number, 1),
-        avoid_damage_blocks: said(number, 2),
-        can_jump: said(number, 4),
+        avoid_water: has_bit(number, 1),
+        avoid_damage_blocks: has_bit(number, 2),
+        can_jump: has_bit(number, 4),
         jump_height: 0.0,
-        can_pass_doors: said(number, 8),
-        can_open_doors: said(number, 16),
-        can_open_iron_doors: said(number, 32),
-        door_breaker: said(number, 64),
+        can_pass_doors: has_bit(number, 8),
+        can_open_doors: has_bit(number, 16),
+        can_open_iron_doors: has_bit(number, 32),
+        door_breaker: has_bit(number, 64),
     }
 }
 
@@ -31,11 +26,11 @@ fn passage_number(passage: Passage) -> u64 {
 }
 
 // How a combination, which is a policy's number, and in water from 128 on, meets each flag byte, and its permission byte.
-pub(crate) fn with_policy(d: Digest, combination: u32, flags: &[u8; 256]) -> Digest {
+pub(crate) fn with_policy(d: Digest, combination: u64, flags: &[u8; 256]) -> Digest {
     let policy = numbered(combination);
     let mut table = [0u8; 256];
     // Both tables have 256 bytes, so there is no bad table.
-    let _ = policy.fill_permissions(said(combination, 128), flags, &mut table);
+    let _ = policy.fill_permissions(has_bit(combination, 128), flags, &mut table);
     let mut sum = d;
     for (bits, permission) in flags.iter().zip(&table) {
         let passage = policy.door_passage(Flags { bits: *bits });

@@ -45,6 +45,7 @@ pub fn print_scene<R: Input + Print>(rt: &R, bytes: usize) {
     let mut record = [0u8; 64];
     let mut progress = scene::begin(&cells, &perms, &shapes, &boxes);
     let mut left = bytes;
+    // until the input ends: how many records come is not known before
     loop {
         let count = input::take(rt, left, &mut record);
         if count == 0 {

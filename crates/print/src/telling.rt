@@ -54,7 +54,8 @@ fn told_of(a: Answer, out: &[u8]) -> Told
     }
 }
 
-// The end of the input: a whole scene is searched, with tables of exactly the sizes in use, and its list written to `out`.
+// The end of the input: a whole scene is searched, with tables of exactly the sizes in use, and its list written to `out`. The tables come one by one,
+// since a scene that was not read has no window, and so no world.
 pub fn tell(
     answer: Result<Scene, SceneError>,
     cells: &[u8],

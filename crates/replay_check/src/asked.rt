@@ -1,5 +1,5 @@
 // What reading a scene and the functions asked about it answer.
-use crate::{digest, sheet, trial, two_points};
+use crate::{sheet, sum, trial, two_points};
 use scene_state::{Scene, SceneError};
 use world::{Query, World};
 
@@ -13,11 +13,8 @@ fn read(
 ) -> u64 {
     let mut made = [0u8; 168];
     let number = c_scene::put_answer(answer, &mut made);
-    let d = digest::with_words(digest::with_words(number, &made), cells);
-    digest::with_words(
-        digest::with_words(digest::with_words(d, perms), shapes),
-        boxes,
-    )
+    let d = sum::with_words(sum::with_words(number, &made), cells);
+    sum::with_words(sum::with_words(sum::with_words(d, perms), shapes), boxes)
 }
 
 // The walk-back of the sheet's list, as the C interface answers it: its number, and the place that goes with a pair's reason, or 0. Then the list's length.
@@ -26,8 +23,8 @@ fn walked(query: Query, asked: &[u8], d: u64) -> u64 {
     let a = walk_back::walk_back(query, list);
     let mut place = [0u8; 8];
     let number = c_answers::put_walked(a, &mut place);
-    let walked = digest::with_words(digest::with(d, number), &place);
-    digest::with_float(walked, lengths::length_of(list))
+    let walked = sum::with_words(sum::with(d, number), &place);
+    sum::with_float(walked, lengths::length_of(list))
 }
 
 // All answers. A whole scene is asked about over the part of each table that it made.

@@ -1,5 +1,5 @@
 // The nodes that a search retained, in the index once more, and what is found of them there. Of the index room a search was lent x bytes.
-use crate::{digest, sheet};
+use crate::{sheet, sum};
 use rooms::Feet;
 
 // How many of n nodes are entered into the first x bytes of a room; none where it has not so many.
@@ -20,7 +20,7 @@ fn with_nodes(d: u64, index: &[u8], nodes: &[u8], m: usize, n: usize) -> u64 {
     let mut sum = d;
     for k in 0..n {
         let j = index::find(index, nodes, m, n, rooms::get_feet(nodes, k));
-        sum = digest::with(sum, j as u64);
+        sum = sum::with(sum, j as u64);
     }
     sum
 }
@@ -37,7 +37,7 @@ pub(crate) fn with_found(
 ) -> u64 {
     let lent = sheet::front(index, x);
     let j = index::find(lent, nodes, m, n, goal);
-    let e = digest::with(digest::with(d, m as u64), j as u64);
+    let e = sum::with(sum::with(d, m as u64), j as u64);
     let f = with_nodes(with_nodes(e, lent, nodes, m, n), lent, nodes, m / 2, n);
-    digest::with_words(f, index)
+    sum::with_words(f, index)
 }

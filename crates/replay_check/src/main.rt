@@ -5,9 +5,9 @@
 
 mod asked;
 mod case;
-mod digest;
 mod lookups;
 mod sheet;
+mod sum;
 mod trial;
 mod two_points;
 

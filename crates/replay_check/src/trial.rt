@@ -1,6 +1,6 @@
 // A search in rooms of the sheet's sizes, full of the sheet's byte, and then its nodes in the index. Before it one slot of the index looks free: where none
 // does, a search that reads old slots enters no node, scans them all, and answers as it must.
-use crate::{digest, lookups, sheet};
+use crate::{lookups, sheet, sum};
 use world::{Query, World};
 
 pub(crate) fn searched(query: Query, asked: &[u8], d: u64) -> u64 {
@@ -25,7 +25,7 @@ pub(crate) fn searched(query: Query, asked: &[u8], d: u64) -> u64 {
         &mut index[..x],
         &mut out[..o],
     );
-    let e = digest::with_search(d, a, &nodes, &front, &index, &out);
+    let e = sum::with_search(d, a, &nodes, &front, &index, &out);
     let m = lookups::entered(&mut index, x, &nodes, a.retained);
     let goal = words::feet_of(query.request.goal);
     lookups::with_found(e, &index, x, &nodes, m, a.retained, goal)

@@ -1,5 +1,5 @@
 // What the proved functions say of two points and of a column around the first.
-use crate::{digest, sheet};
+use crate::{sheet, sum};
 use heights::Shaft;
 use sides::Sides;
 use world::{Aabb, Point, Query};
@@ -32,7 +32,7 @@ fn column(query: Query, asked: &[u8], from: Point, d: u64) -> u64 {
     let last = fields::f64_at(asked, sheet::AFTER);
     let first = heights::next_height(query.world, shaft, None);
     let next = heights::next_height(query.world, shaft, Some(last));
-    digest::with_height(digest::with_height(d, first), next)
+    sum::with_height(sum::with_height(d, first), next)
 }
 
 // Of the two points: whether the first is in range and standable, the box between them clear, and its door, the segment supported; the edge check, and the first's
@@ -47,11 +47,11 @@ fn pair(query: Query, a: Point, b: Point, d: u64) -> u64 {
     let standable = places::standable(world, body, a);
     let area = clear::corridor_of(world, Aabb { min: a, max: b });
     let supported = segments::supported_segment(world, body.width, a, b);
-    let e = digest::with_yes(digest::with_yes(d, in_range), standable);
-    let f = digest::with_yes(digest::with_corridor(e, area), supported);
+    let e = sum::with_yes(sum::with_yes(d, in_range), standable);
+    let f = sum::with_yes(sum::with_corridor(e, area), supported);
     let to = edges::edge_check(query, a, b);
     let end = edges::connector(query, a);
-    digest::with_edge(digest::with_check(f, to), end)
+    sum::with_edge(sum::with_check(f, to), end)
 }
 
 // All of it, and first whether the graph looks at the column.
@@ -60,6 +60,6 @@ pub(crate) fn answered(query: Query, asked: &[u8], d: u64) -> u64 {
     let b = world::point_at(asked, sheet::TO);
     let n = sheet::number(asked, sheet::COLUMN);
     let looked = is_looked_at(asked, n, sides::is_level(a, b));
-    let e = pair(query, a, b, digest::with_yes(d, looked));
+    let e = pair(query, a, b, sum::with_yes(d, looked));
     column(query, asked, a, e)
 }

@@ -33,6 +33,7 @@ fn record_of(number: u64, bad: u64) -> u64
 }
 
 // The number given back, the record that a refusal names, how many waypoints the list has, how many nodes were retained and closed, and the length.
+// A number and no enum: the line of a refusal prints it, and `line_told` goes by it.
 #[derive(Clone, Copy)]
 pub struct Told {
     pub number: u64,

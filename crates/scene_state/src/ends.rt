@@ -52,14 +52,9 @@ fn empty() -> Reading
     }
 }
 
-// The state before the first record, if the lent tables have room for any scene; nothing is written.
+// The state before the first record, if the lent tables have room for any scene; nothing is written. There is no window yet, and so no world.
 #[tactic(auto, unfolding(crate::specs::Answers::begun))]
-pub fn begin(
-    cells: &[u8],
-    perms: &[u8],
-    shapes: &[u8],
-    boxes: &[u8],
-) -> Result<Reading, SceneError>
+pub fn begin(cells: &[u8], perms: &[u8], shapes: &[u8], boxes: &[u8]) -> Result<Reading, SceneError>
     ensures { progress_answer result ≡ begun cells.now perms.now shapes.now boxes.now }
 {
     let room = (32768 <= cells.len()) & (256 <= perms.len());

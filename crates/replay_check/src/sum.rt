@@ -1,15 +1,12 @@
 // The digest of a case's answers (oracle/README.md, `store`).
+use digest::Digest;
 use moves::{Reason, Waypoint};
 use outcomes::Answer;
 use world::NO_DOOR;
 
-// One more number, stirred by Marsaglia's xorshift of 64 bits: two rows that differ in one number have two digests.
-// `numbers_check` stirs alike: two programs, and no crate below both that a digest belongs to.
+// One more number.
 pub(crate) fn with(d: u64, x: u64) -> u64 {
-    let w = std::num::wrapping_add_u64(d, x ^ 0x9e37_79b9_7f4a_7c15);
-    let a = w ^ (w << 13);
-    let b = a ^ (a >> 7);
-    b ^ (b << 17)
+    Digest { value: d }.with(x).value
 }
 
 pub(crate) fn with_yes(d: u64, yes: bool) -> u64 {
@@ -17,7 +14,7 @@ pub(crate) fn with_yes(d: u64, yes: bool) -> u64 {
 }
 
 pub(crate) fn with_float(d: u64, x: f64) -> u64 {
-    with(d, floats::bits_of(x))
+    Digest { value: d }.with_float(x).value
 }
 
 // Every byte of a room, 8 to a number.
