@@ -1,5 +1,5 @@
 -- `walk_c::edge::walkprint_edge` meets its contract. Assumes nothing.
-use Rattle.std.proofs.Common.{ℕ, ◌≡◌, sym, ◌∙◌, ap, Result}
+use Rattle.std.proofs.Common.{ℕ, ◌≡◌, sym, ◌∙◌, ap, Result, Err}
 use Rattle.moves.specs.Moves.{check_number}
 use Rattle.questions.specs.declared.Judgement.{Judgement}
 use Rattle.questions.specs.Questions.{judged}
@@ -18,10 +18,10 @@ pub returns-in-Ok : goal.returns-in-Ok
 returns-in-Ok c = (c.edge_number.ensures ∙ ap check_number (rw c.query_in-query.ensures at c.edge_check.ensures)) ∙ judged_so (goal.at.returns-in-Ok c).After-judge _ c.in-Ok.is
 
 pub returns-in-Err-BadWorld : goal.returns-in-Err-BadWorld
-returns-in-Err-BadWorld c = judged_so (goal.at.returns-in-Err-BadWorld c).After-judge _ c.in-Err-BadWorld.is
+returns-in-Err-BadWorld c = judged_so (goal.at.returns-in-Err-BadWorld c).After-judge _ (c.in-Err-BadWorld.is ∙ ap Err c.in-Err-BadWorld.field-0-is)
 
 pub returns-in-Err-Invalid : goal.returns-in-Err-Invalid
-returns-in-Err-Invalid c = judged_so (goal.at.returns-in-Err-Invalid c).After-judge _ c.in-Err-Invalid.is
+returns-in-Err-Invalid c = judged_so (goal.at.returns-in-Err-Invalid c).After-judge _ (c.in-Err-Invalid.is ∙ ap Err c.in-Err-Invalid.field-0-is)
 
 pub returns-in-Err-TooLarge : goal.returns-in-Err-TooLarge
-returns-in-Err-TooLarge c = judged_so (goal.at.returns-in-Err-TooLarge c).After-judge _ c.in-Err-TooLarge.is
+returns-in-Err-TooLarge c = judged_so (goal.at.returns-in-Err-TooLarge c).After-judge _ (c.in-Err-TooLarge.is ∙ ap Err c.in-Err-TooLarge.field-0-is)
