@@ -71,7 +71,8 @@ pub fn put_tick(t: Result<Slice, Refusal>, progress: &mut [u8]) -> u64
     }
 }
 
-// The number of an edge check: 130 Walk, 131 Step, 132 Jump, 133 Drop, or 101 to 109, the first reason why there is no edge.
+// The number of an edge check: 130 Walk, 131 Step, 132 Jump, 133 Drop, or 101 to 109, the first reason why there is no edge. (No From: the types are those of
+// other crates.)
 pub fn edge_number(a: Result<Waypoint, Reason>) -> u64
     ensures { result ≡ check_number a }
 {
@@ -81,7 +82,8 @@ pub fn edge_number(a: Result<Waypoint, Reason>) -> u64
     }
 }
 
-// The number of the reason why a list is no route; with a pair's reason its later point's place in the first 8 bytes of `place`, where they fit.
+// The number of the reason why a list is no route; with a pair's reason its later point's place in the first 8 bytes of `place`, where they fit. By hand and not
+// by From, since the place goes with the number.
 fn put_fault(fault: Fault, place: &mut [u8]) -> u64
     ensures value { result ≡ fault_number fault }
     ensures place_after { place.new ≡ place_written (fault_places fault) place.old }

@@ -12,6 +12,7 @@ use crate::made::put_scene;
 use scene_state::{Scene, SceneError};
 
 // 0, and the scene's record, where it fits; 7 BadScene, and the bad record's number in the first 8 bytes; or 5 NoRoom, and nothing is written.
+// The numbers are given by hand, since each goes with what is written.
 pub fn put_answer(a: Result<Scene, SceneError>, made: &mut [u8]) -> u64
     ensures value { result ≡ scene_number (scene_answer a) }
     ensures made_after { made.new ≡ scene_written (scene_answer a) made.old }

@@ -9,6 +9,7 @@ use crate::{Shaft, is_beyond};
 use world::World;
 
 // So many tops at the front of a room, and the place of the one that is next. A batch that is as long as its room may have left tops out.
+// The room is the caller's, lent anew at each call, and so no part of it.
 #[derive(Clone, Copy)]
 pub struct Batch {
     pub count: usize,

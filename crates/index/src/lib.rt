@@ -96,7 +96,7 @@ pub fn find(index: &[u8], nodes: &[u8], m: usize, n: usize, q: Feet) -> usize
     scans::seek(nodes, m, n, q)
 }
 
-// The first free slot from a point's own on, or the number of slots where none is free.
+// The first free slot from a point's own on, or the number of slots where none is free, as `free_for` counts. It goes as `probe` does, and asks no node.
 fn free_slot(index: &[u8], q: Feet) -> usize
     ensures { result ≡ free_for index.now q }
 {

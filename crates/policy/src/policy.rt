@@ -27,7 +27,7 @@ pub struct WalkPolicy {
     pub avoid_water: bool,
     pub avoid_damage_blocks: bool,
     pub can_jump: bool,
-    // The lift of one jump.
+    // The lift of one jump: beside the yes or no and no Option of it, as 01 names both.
     pub jump_height: f64,
     pub can_pass_doors: bool,
     pub can_open_doors: bool,

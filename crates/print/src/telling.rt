@@ -8,7 +8,7 @@ use print_lines::Told;
 use scene_state::{Scene, SceneError};
 use world::{Query, World};
 
-// The first n bytes of a table, or all.
+// The first n bytes of a table, or all. (`replay_check` has the same: no crate below both is about parts of tables.)
 fn front_of(s: &[u8], n: usize) -> &[u8]
     ensures { result.now ≡ take n s.now }
 {
@@ -29,7 +29,7 @@ fn refusal(number: u64, bad: u64) -> Told
     }
 }
 
-// The number of a scene's refusal, and its record.
+// The number of a scene's refusal, and its record: by hand and not by From, since the record goes with the number.
 fn refused(error: SceneError) -> Told
     ensures { result ≡ told_error error }
 {

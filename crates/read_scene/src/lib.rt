@@ -9,7 +9,7 @@ ghost use Rattle.read_scene.specs.Whole.{read};
 use scene_state::{Scene, SceneError};
 
 // A scene and the part of each lent table that it made; the first bad record, and the tables hold what those before it made; or no room, and nothing is
-// written.
+// written. The tables come one by one, as each is lent for writing.
 pub fn read_scene(
     bytes: &[u8],
     cells: &mut [u8],

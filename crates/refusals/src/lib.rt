@@ -20,6 +20,7 @@ pub fn judge_call(
     ensures { result ≡ call_answer query.entry nodes front out wrong_index }
 {
     let r = query.request;
+    // not by `questions::judge`: that says Invalid where a search says Unreachable, and judges no budget
     if tables::bad_world(query.world) {
         return Err(Outcome::BadWorld);
     }

@@ -1,5 +1,6 @@
 -- Laws of regions: a loop begins with all cells, and each turn of it takes one of them.
 use Prim.Native.Nat.{ℕ, zero, suc, ◌+◌, ◌<◌}
+use Rattle.std.proofs.Math.ListN.{length}
 use Rattle.std.specs.List.{All}
 use Rattle.std.specs.Prelude.{◌≡◌, Option, Some, None, Bool, ◌&&◌, cond, ℤ, ◌+ℤ◌, ◌-ℤ◌}
 use Rattle.std.proofs.Common.{arith, sym, ◌∙◌}
@@ -164,6 +165,24 @@ module _ (r : Region) where
 
 pub turn : (r : Region) (c d : Option Spot) (p : Spot) → c ≡ Some p → Proper r c → d ≡ next_in r p → (to_come r c ≡ p ∷ to_come r d) × Proper r d
 turn r c d p e h n = let i : Inside r p = rw e at h in rw (e, n) (follows r p i)
+
+-- the same, one by one: the beginning, the end, and a turn
+
+pub begun : (r : Region) (c : Option Spot) → c ≡ first_in r → (to_come r c ≡ cells_of r) × Proper r c
+begun r c e = rw e (begins r)
+
+pub ended : (r : Region) (c : Option Spot) → c ≡ None → to_come r c ≡ []
+ended r c e = rw e refl
+
+module _ (r : Region) (c d : Option Spot) (p : Spot) (more : c ≡ Some p) (proper : Proper r c) (next : d ≡ next_in r p) where
+  pub taken : to_come r c ≡ p ∷ to_come r d
+  taken = (turn r c d p more proper next).0
+
+  pub still_proper : Proper r d
+  still_proper = (turn r c d p more proper next).1
+
+  pub fewer : length (to_come r d) < length (to_come r c)
+  fewer = rw taken (omega arith)
 
 -- ---- every cell of a region lies in it
 

@@ -29,7 +29,7 @@ pub fn reached(least: f64, greatest: f64, below: u8) -> Range
     Range { first, last }
 }
 
-// From so many cells below floor(low) to floor(high).
+// From so many cells below floor(low) to floor(high). (01 names the two kinds of ends apart, so there are two functions.)
 pub fn floors(low: f64, high: f64, below: u8) -> Range
     ensures { result ≡ range (floor_cell low -ℤ pos below) (floor_cell high) }
 {

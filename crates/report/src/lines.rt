@@ -68,7 +68,7 @@ pub fn first_line(out: &mut [u8], told: Told) -> usize
     )
 }
 
-// The fields of a waypoint's line.
+// The fields of a waypoint's line: seven words of a record, in the line's order, as its definition takes them.
 fn waypoint_fields(
     out: &mut [u8],
     place: u64,

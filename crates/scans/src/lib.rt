@@ -15,7 +15,7 @@ use rooms::{Entry, Feet, get_entry, get_feet};
 const NODES: usize = 4294967296;
 
 // Passes over nodes from `from` on that are not at a point, by their x alone: most nodes differ there. In a room that has not n nodes it passes over none.
-// The room's length is judged once, so that the loop need not.
+// The room's length is judged once, so that the loop need not. (Not one with `next_waiting`: they promise other things of other rooms.)
 fn next_near(nodes: &[u8], from: usize, n: usize, q: Feet) -> usize
     requires { from ≤ n }
     ensures { (from ≤ result) × (result ≤ n) × (first_of (is_at nodes.now q) from (n - from) ≡ first_of (is_at nodes.now q) result (n - result)) }

@@ -10,7 +10,7 @@ pub(crate) fn zeros_from(bytes: &[u8], from: usize) -> bool
     bytes.iter().skip(from).all(|byte| *byte == 0)
 }
 
-// Where the bytes begin that a kind does not use.
+// Where the bytes begin that a kind, a byte (`in_order`), does not use.
 #[tactic(auto, unfolding(scene_records::specs::Layout::unused_from, scene_records::specs::Layout::by_kind))]
 pub(crate) fn unused_from(kind: u8) -> usize
     ensures { result ≡ unused_from kind }

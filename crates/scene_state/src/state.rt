@@ -2,7 +2,7 @@
 use scene_rules::Counts;
 use world::{Body, Request, Window};
 
-// What the good records so far say: how many they are, the last one's kind (0 before the first), what kinds 1 to 3 gave, and how much of each table
+// What the good records so far say: how many they are, the last one's kind (its byte; 0 before the first), what kinds 1 to 3 gave, and how much of each table
 // is made. What no record has given is zero.
 #[derive(Clone, Copy)]
 pub struct Reading {

@@ -23,7 +23,7 @@ fn with_box_counted(c: Counts, n: u32) -> Counts
     }
 }
 
-// The number of the record behind this one begins again past the last u64.
+// The number of the record behind this one begins again past the last u64. A kind is the record's byte (`in_order` of scene_rules).
 #[tactic(auto, unfolding(crate::specs::Next::next, crate::specs::Next::request_after, crate::specs::Next::body_after, crate::specs::Next::window_after, crate::specs::Next::counts_after))]
 pub(crate) fn next(state: Reading, bytes: &[u8], kind: u8) -> Reading
     requires { Allowed kind state.counts bytes.now }

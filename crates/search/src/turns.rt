@@ -56,8 +56,8 @@ pub(crate) fn expand(
     Turn::Going(columns(task, nodes, front, entered, room, at, shut))
 }
 
-// So many expansions of the search that the rooms and the counts hold, or fewer where it ends. No node is entered in the index yet; into one without slots none
-// is, and every lookup scans.
+// So many expansions of the search that the rooms (slices side by side, as a call lends them) and the counts hold, or fewer where it ends. No node is
+// entered in the index yet; into one without slots none is, and every lookup scans.
 pub(crate) fn spin(
     task: Task,
     nodes: &mut [u8],

@@ -26,7 +26,7 @@ fn carries(world: World, way: Way, region: Region) -> bool
     ensures { result ≡ carried way.under way.from way.to (shapes_at (space_of world.entry) (cells_of region)) }
 {
     let mut covered = 0.0;
-    let mut passes: u8 = 0;
+    let mut passes: u8 = 0; // counted up to PATIENCE alone: how many passes there are is not known
     loop {
         let Some(to) = pass::reach_all(world, way, region, covered) else {
             return false;

@@ -7,7 +7,7 @@ ghost use Rattle.support.specs.Joints.{Gathers, Joined};
 use std::marker::Model;
 use support::Interval;
 
-// How many parts the room has places for.
+// How many parts the room has places for: fixed memory, since the search has no heap.
 const PLACES: usize = 1024;
 
 // The parts that are kept, the nearest last: contracts see them as their list.

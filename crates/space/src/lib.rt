@@ -9,7 +9,7 @@ ghost use Rattle.space.specs.Laws.{far};
 use world::{Cell, Window, World};
 
 // How far a number is from an origin, or 256, which no place in a row is, where it is outside. A size above 256, which no window of a good world
-// has, holds nothing: so no index below can wrap.
+// has, holds nothing: so no index below can wrap. (256 and no Option: three of them are compared with no branch between.)
 fn along(origin: i32, size: u32, at: i64) -> usize
     ensures { result ≡ far (place (at -ℤ origin) size) }
 {

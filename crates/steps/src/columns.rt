@@ -21,7 +21,7 @@ pub const NEIGHBOURS: [Offset; 9] = [
     Offset(1, -1),
 ];
 
-// The centre of a column, in x and z.
+// The centre of a column, in x and z. (No `Shaft`: a point has one band, and each column its centre.)
 #[derive(Clone, Copy)]
 pub struct Centre {
     pub x: f64,

@@ -83,6 +83,7 @@ fn walk_list(query: Query, list: &[u8]) -> Result<(), Fault>
 {
     let start = query.request.start;
     let goal = query.request.goal;
+    // a yes or no has no `ok_or`: the tests return their reasons by `if`
     if listed::is_bad(list) {
         return Err(Fault::BadList);
     }

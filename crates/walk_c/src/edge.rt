@@ -33,6 +33,7 @@ pub extern "C" fn walkprint_edge(
     ensures { result ≡ judged (window_in window.now) cells.now shapes.now boxes.now (asked window.now request.now body.now) (body_in body.now) 3 1 4 (check_number (edge_check (space (window_in window.now) cells.now permissions.now shapes.now boxes.now) (asked window.now request.now body.now) (body_in body.now) (record { x = from_x; y = from_y; z = from_z }) (record { x = to_x; y = to_y; z = to_z }))) }
 {
     let query = query_in(window, cells, permissions, shapes, boxes, request, body);
+    // these numbers are this call's own: the walk-back tells an invalid request otherwise
     match questions::judge(query) {
         Err(Judgement::BadWorld) => 3,
         Err(Judgement::Invalid) => 1,

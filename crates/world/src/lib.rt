@@ -76,7 +76,7 @@ pub struct Query<'a> {
 }
 
 // What the tables say of a cell that they know: whether a body may be in it, whether a body may stand on it, its run of box records, which has none where the
-// cell does not collide, whether it is such a cell, and the number of its state, which is its door then (02, No. 5).
+// cell does not collide, whether it is such a cell, and the number of its state, which is its door then (02, No. 5). Each cell has a state, so it is no Option.
 #[derive(Clone, Copy)]
 pub struct Cell {
     pub occupied: bool,
