@@ -16,9 +16,9 @@ Reaches a k = (m : ℕ) × (parents_back a m k ≡ 0)
 abbrev pub MarksSound : List ℕ → List Bool → Type 0
 MarksSound a done = (k : ℕ) → get_or done k false ≡ true → Reaches a k
 
--- where a climb ends: so many parents back, at node 0 or a marked one; or n parents back it has come to neither
+-- where a climb ends: so many parents back, n or fewer, at node 0 or a marked one; or n parents back it has come to neither
 abbrev pub Climbed : List ℕ → List Bool → ℕ → ℕ → Option ℕ → Type 0
-Climbed a done n k r = MatchOption r (parents_back a n k ≢ 0) (λ m. MarksSound a done → Reaches a k)
+Climbed a done n k r = MatchOption r (parents_back a n k ≢ 0) (λ m. (m ≤ n) × (MarksSound a done → Reaches a k))
 
 -- what comes of a chain that is followed: it ends, or n parents back it has not; and each marked node reaches node 0
 pub record ChainMarked (a : List ℕ) (n k : ℕ) (done : List Bool) (r : Bool) : Type 0 where

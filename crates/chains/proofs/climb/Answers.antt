@@ -10,13 +10,13 @@ pub loop-m-init : goal.loop-m-init
 loop-m-init c = (refl, λ i h. absurd (omega arith))
 
 pub returns-then-at-eq0 : goal.returns-then-at-eq0
-returns-then-at-eq0 c = λ s. (c.loop-m.m, sym c.loop-m.invariant.0 ∙ c.if-at-eq0.true)
+returns-then-at-eq0 c = (omega arith, λ s. (c.loop-m.m, sym c.loop-m.invariant.0 ∙ c.if-at-eq0.true))
 
 pub bounds-done-at : goal.bounds-done-at
 bounds-done-at c = omega (arith, c.loop-m.invariant.0, back_inside c.args.nodes.now c.args.n c.requires.0 c.loop-m.m c.args.k c.requires.1)
 
 pub returns-then-done-at : goal.returns-then-done-at
-returns-then-done-at c = reaches_marked c.args.nodes.now c.args.done.now c.loop-m.m c.loop-m.at c.args.k c.loop-m.invariant.0 c.if-done-at.true
+returns-then-done-at c = (omega arith, reaches_marked c.args.nodes.now c.args.done.now c.loop-m.m c.loop-m.at c.args.k c.loop-m.invariant.0 c.if-done-at.true)
 
 pub loop-m-preserved : goal.loop-m-preserved
 loop-m-preserved c =

@@ -21,7 +21,7 @@ pub returns-in_default : goal.returns-in_default
 returns-in_default c = marked_not c.requires.3 c.in_default.ensures
 
 pub mark-requires : goal.mark-requires
-mark-requires c = (c.requires.0, c.requires.1, c.requires.2, c.requires.3, c.in-Some.ensures c.requires.3)
+mark-requires c = (c.requires.0, c.requires.1, c.requires.2, c.requires.3, c.in-Some.ensures.1 c.requires.3)
 
 pub returns : goal.returns
-returns c = marked_end c.mark.ensures (c.in-Some.ensures c.requires.3)
+returns c = marked_end c.mark.ensures (c.in-Some.ensures.1 c.requires.3)
