@@ -4,17 +4,18 @@
 // An area that is clear answers its door, as a number: a state's, or `NO_DOOR`; one that is not answers None.
 #![tactic(auto)]
 
-ghost use Rattle.std.specs.Prelude.{◌≡◌, ◌*◌, cond, map, drop};
+ghost use Rattle.std.specs.Prelude.{◌≡◌, cond, map};
 ghost use Rattle.regions.specs.Regions.{cells_of};
 ghost use Rattle.world.specs.declared.Aabb.{Aabb};
 ghost use Rattle.world.specs.Boxes.{moved, corner};
-ghost use Rattle.world.specs.Space.{run, no_door, space_of};
+ghost use Rattle.world.specs.Run.{boxes_left};
+ghost use Rattle.world.specs.Space.{no_door, space_of};
 ghost use Rattle.clear.specs.Clear.{hits, clear};
 ghost use Rattle.clear.specs.Corridors.{or_else, corridor};
 ghost use Rattle.clear.specs.Laws.{cell_corridor, corridor_along};
 
 use regions::Region;
-use world::{Aabb, Cell, NO_DOOR, Point, World};
+use world::{Aabb, Cell, NO_DOOR, Point, Run, World};
 
 // The first of two doors: the second where the first is none. No door is a number, as 02 gives it (No. 5), and a state may have it: `first_door` of Corridors. That
 // there is no second one, as with most cells, is asked first.
@@ -33,10 +34,11 @@ fn door_if(there: bool, door: u32) -> u32
 }
 
 // Whether one of the boxes of a run, moved by a point, intersects an area.
-fn run_hits(boxes: &[u8], first: u32, count: u32, by: Point, area: Aabb) -> bool
-    ensures { result ≡ hits area (map (λ (b : Aabb). moved b by) (run count (drop (48 * first) boxes.now) 0)) }
+fn run_hits(run: Run, by: Point, area: Aabb) -> bool
+    ensures { result ≡ hits area (map (λ (b : Aabb). moved b by) (boxes_left run.entry)) }
 {
-    world::boxes_in(boxes, first, count).any(|b| boxes::intersects(boxes::offset(b, by), area))
+    let mut left = run;
+    left.any(|b| boxes::intersects(boxes::offset(b, by), area))
 }
 
 // The door of a cell that is free for an area: it has one only where its voxel intersects the area. Of air, as most cells are, nothing is worked out.
@@ -67,7 +69,8 @@ fn cell_corridor(world: World, area: Aabb, x: i64, y: i64, z: i64) -> Option<u32
     if meets & !occupied {
         return None;
     }
-    let hit = run_hits(world.boxes, first, count, p, area);
+    let run = world::boxes_in(world.boxes, first, count);
+    let hit = run_hits(run, p, area);
     (!hit).then_some(door_if(meets & through, state))
 }
 

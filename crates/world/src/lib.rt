@@ -8,7 +8,7 @@ mod records;
 mod run;
 
 pub use records::{box_at, entry_at, point_at, size_above};
-pub use run::{Run, boxes_in};
+pub use run::{Run, boxes_from, boxes_in};
 
 // A place in the world, or a difference of two.
 #[derive(Clone, Copy)]

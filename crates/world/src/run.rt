@@ -24,12 +24,21 @@ fn part_from(s: &[u8], at: usize) -> &[u8]
     &s[start..]
 }
 
+// The part of the box table that starts at a shape's first record; where the table ends before it, the part is empty.
+pub fn boxes_from(boxes: &[u8], first: u32) -> &[u8]
+    ensures { result.now ≡ drop (48 * first) boxes.now }
+{
+    part_from(boxes, 48 * (first as usize))
+}
+
 // The run of a shape: so many boxes from its first one on, or as many as the table has.
 pub fn boxes_in(boxes: &[u8], first: u32, count: u32) -> Run<'_>
-    ensures { boxes_left result ≡ run count (drop (48 * first) boxes.now) 0 }
+    ensures part { result.part.now ≡ drop (48 * first) boxes.now }
+    ensures left { result.left ≡ count }
+    ensures boxes { boxes_left result ≡ run count (drop (48 * first) boxes.now) 0 }
 {
     Run {
-        part: part_from(boxes, 48 * (first as usize)),
+        part: boxes_from(boxes, first),
         left: count,
     }
 }

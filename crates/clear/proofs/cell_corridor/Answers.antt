@@ -58,4 +58,4 @@ unfolding space
 returns c =
     c.then_some-2.ensures
     ∙ rw (c.door_if.ensures, cell (goal.at.returns c).After-cell_at ∙ c.in-Some.is)
-    (may_be _ _ _ (met-2 (goal.at.returns c).After-intersects-meets-2) _ c.if-meets-occupied.false (rw (point-2 (goal.at.returns c).After-intersects-meets-2) at c.run_hits-hit.ensures))
+    (may_be _ _ _ (met-2 (goal.at.returns c).After-intersects-meets-2) _ c.if-meets-occupied.false (rw (c.boxes_in-run.ensures.boxes, point-2 (goal.at.returns c).After-intersects-meets-2) at c.run_hits-hit.ensures))

@@ -33,7 +33,7 @@ unfolding space
 returns-then-cell-clause-result_after c =
     let a = c.args in
     let at = goal.at.returns-then-cell-clause-result_after c in
-    rw (cell at.After-cell_at ∙ c.in-Some.is) (rw (c.boxes_in-run.ensures, point at.After-corner_of-by) at c.run_lowest.ensures.result_after ∙ sym (supports a.shaft.band a.shaft.x a.shaft.z (taken a.after) _ _ _ c.in-Some.cell c.if-cell.true))
+    rw (cell at.After-cell_at ∙ c.in-Some.is) (rw (c.boxes_in-run.ensures.boxes, point at.After-corner_of-by) at c.run_lowest.ensures.result_after ∙ sym (supports a.shaft.band a.shaft.x a.shaft.z (taken a.after) _ _ _ c.in-Some.cell c.if-cell.true))
 
 pub returns-clause-result_after : goal.returns-clause-result_after
 unfolding space

@@ -18,4 +18,4 @@ returns c =
     let h : SFits w64 c.args.at.z = search rules in
     let cell = simp (to_z-of_z, f, g, h) at c.cell_at.ensures in
     let point = simp (to_z-of_z, f, g, h) at c.corner_of-by.ensures in
-    rw (sym cell ∙ c.in-Some.is, found_known c.args.way _ _ _) (rw (c.boxes_in-run.ensures, point) at c.keep_run.ensures)
+    rw (sym cell ∙ c.in-Some.is, found_known c.args.way _ _ _) (rw (c.boxes_in-run.ensures.boxes, point) at c.keep_run.ensures)

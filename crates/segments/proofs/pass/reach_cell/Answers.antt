@@ -37,4 +37,4 @@ returns c =
     let s = (goal.at.returns c).Start in
     let cell = simp (to_z-of_z, x-fits s, y-fits s, z-fits s) at c.cell_at.ensures in
     let point = simp (to_z-of_z, x-fits s, y-fits s, z-fits s) at c.corner_of-by.ensures in
-    rw (sym cell ∙ c.in-Some.is) ((rw (c.boxes_in-run.ensures, point) at c.reach_run.ensures) ∙ sym (pass_known _ _ _ _ _))
+    rw (sym cell ∙ c.in-Some.is) ((rw (c.boxes_in-run.ensures.boxes, point) at c.reach_run.ensures) ∙ sym (pass_known _ _ _ _ _))
