@@ -67,7 +67,10 @@ pub fn put_words(number: u64, out: &mut [u8]) -> u64
     let words = words(number);
     let size = words.len();
     if size <= out.len() {
-        out[..size].copy_from_slice(words);
+        // byte by byte: `copy_from_slice`, of words that a `match` chose, is a call of `memmove`, which nothing else in the library for C asks for
+        for k in 0..size {
+            out[k] = words[k];
+        }
     }
     size as u64
 }

@@ -38,8 +38,11 @@ fn fill_region(w: Window, region: Region, state: u32, shape: u32, cells: &mut [u
     requires { Clipped w region }
     ensures { cells.new ≡ foldl (with_cell w.sx w.sz state shape) cells.old (cells_of region) }
 {
-    for at in region.cells() {
+    // not `for at in region.cells()`: that looks one cell ahead, which makes a fill slower (docs/DESIGN-PASS.md)
+    let mut next = regions::first_in(region);
+    while let Some(at) = next {
         scene_tables::put_entry(cells, number(w.sx, w.sz, at), state, shape);
+        next = regions::next_in(region, at);
     }
 }
 

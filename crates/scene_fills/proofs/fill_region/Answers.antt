@@ -1,30 +1,38 @@
 -- `scene_fills::fill_region` meets its contract. Assumes nothing.
-use Rattle.std.proofs.Common.{refl, sym, ap, ◌∙◌}
-use Rattle.std.proofs.lemmas.List.Elements.{All-head, All-same, All-rest}
+use Rattle.std.proofs.Common.{List, refl, sym, ap, ◌∙◌}
 use mathlib.Core.List.{foldl}
-use Rattle.regions.specs.Regions.{Inside}
-use Rattle.regions.specs.RegionLaws.{cells_inside}
+use Rattle.regions.specs.Regions.{to_come}
+use Rattle.regions.specs.RegionLaws.{begun, taken, still_proper, fewer, ended}
 use Rattle.scene_fills.specs.Fills.{with_cell}
 use Rattle.scene_fills.specs.Laws.{few}
 use Rattle.scene_fills.proofs.fill_region.Goals as goal
 
-pub loop-at-init : goal.loop-at-init
-loop-at-init c = rw (c.into_iter-at-iterator.ensures.into_iter_gives, c.cells-at-items.ensures) (record { inside = cells_inside c.args.region; fills = refl })
+pub loop-next-init : goal.loop-next-init
+loop-next-init c =
+    let a = c.args in
+    let b = begun a.region c.first_in-next.result c.first_in-next.ensures in
+    record { proper = b.1; fills = ap (foldl (with_cell a.w.sx a.w.sz a.state a.shape) _) (sym b.0) }
 
 pub number-requires : goal.number-requires
-number-requires c =
-    let i = All-head (Inside c.args.region) _ _ (All-same (Inside c.args.region) _ _ (sym c.in-Some.ensures.steps) c.loop-at.invariant.inside) in
-    (c.requires.sx, c.requires.sz, few c.args.w c.args.region _ c.requires i)
+number-requires c = (c.requires.sx, c.requires.sz, few c.args.w c.args.region _ c.requires (rw c.in-Some.is at c.loop-next.invariant.proper))
 
-pub loop-at-preserved : goal.loop-at-preserved
-loop-at-preserved c =
+pub loop-next-smaller : goal.loop-next-smaller
+loop-next-smaller c = fewer c.args.region c.loop-next.next c.next_in-next.result _ c.in-Some.is c.loop-next.invariant.proper c.next_in-next.ensures
+
+pub loop-next-preserved : goal.loop-next-preserved
+loop-next-preserved c =
     let a = c.args in
+    let l = c.loop-next in
+    let next = taken a.region l.next c.next_in-next.result _ c.in-Some.is l.invariant.proper c.next_in-next.ensures in
     record {
-      inside = All-rest (Inside a.region) _ _ _ c.in-Some.ensures.steps c.loop-at.invariant.inside;
-      fills = rw (c.put_entry.ensures, c.number.ensures) (c.loop-at.invariant.fills ∙ ap (foldl (with_cell a.w.sx a.w.sz a.state a.shape) c.loop-at.cells) c.in-Some.ensures.steps);
+      proper = still_proper a.region l.next c.next_in-next.result _ c.in-Some.is l.invariant.proper c.next_in-next.ensures;
+      fills =
+          l.invariant.fills ∙ ap (foldl (with_cell a.w.sx a.w.sz a.state a.shape) l.cells) next
+              ∙ ap (λ (t : List _). foldl (with_cell a.w.sx a.w.sz a.state a.shape) t (to_come a.region c.next_in-next.result)) (sym (rw c.number.ensures at c.put_entry.ensures));
     }
 
 pub returns : goal.returns
 returns c =
     let a = c.args in
-    sym (c.loop-at.invariant.fills ∙ ap (foldl (with_cell a.w.sx a.w.sz a.state a.shape) c.loop-at.cells) c.in-None.ensures.steps.0)
+    let l = c.loop-next in
+    sym (l.invariant.fills ∙ ap (foldl (with_cell a.w.sx a.w.sz a.state a.shape) l.cells) (ended a.region l.next c.in_default.is))
