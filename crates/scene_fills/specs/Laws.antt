@@ -88,6 +88,9 @@ module _ (k : ℤ) (h : Low k) where
   pub low_is : to_z w64 (of_z w64 k) ≡ k
   low_is = to_z-of_z (low_fits k h)
 
+  pub as_natural : T (non_neg (to_z w64 (of_z w64 k))) × Fits w32 (nat_abs (to_z w64 (of_z w64 k)))
+  as_natural = rw low_is (h.0, record { fits = omega (arith, h.1) })
+
 -- the numbers of a layer's first row and of a row's first cell
 module _ (sx sz y z : ℕ) (a : sx < 257) (b : sz < 257) (c : y < 256) (d : z < 256) where
   pub layer_small : sz * y ≤ 256 * 256
@@ -105,12 +108,18 @@ wide z = to_z w64 (of_z w64 (to_z w32 (of_z w32 z)))
 wide_is : (z : ℤ) → SFits w32 z → wide z ≡ z
 wide_is z f = rw (to_z-of_z f) (to_z-of_z (sfits_widen {w = w32} {w' = w64} tt f))
 
+pub wide_fits : (z : ℤ) → SFits w32 z → SFits w64 (to_z w32 (of_z w32 z))
+wide_fits z f = rw (to_z-of_z f) (sfits_widen {w = w32} {w' = w64} tt f)
+
 module _ (k o : ℤ) (f : SFits w32 k) (g : SFits w32 o) where
   apart : SFits w64 (k -ℤ o)
   apart =
       within w64 (k -ℤ o)
       (omega (arith, difference k o, lower w32 o g, upper w32 k f))
       (omega (arith, difference k o, upper w32 o g, lower w32 k f))
+
+  pub apart_fits : SFits w64 (wide k -ℤ wide o)
+  apart_fits = rw (wide_is k f, wide_is o g) apart
 
   pub apart_is : to_z w64 (of_z w64 (wide k -ℤ wide o)) ≡ k -ℤ o
   apart_is = rw (wide_is k f, wide_is o g) (to_z-of_z apart)
@@ -120,8 +129,11 @@ module _ (n : ℕ) (h : Fits w32 n) where
   less : SFits w64 (pos n -ℤ pos 1)
   less = within w64 (pos n -ℤ pos 1) (omega (arith, h.fits, difference (pos n) (pos 1))) (omega (arith, difference (pos n) (pos 1)))
 
-  size_is : to_z w64 n ≡ pos n
+  pub size_is : to_z w64 n ≡ pos n
   size_is = to_z_pos w64 {n = n} (omega (arith, h.fits))
+
+  pub less_fits : SFits w64 (to_z w64 n -ℤ pos 1)
+  less_fits = rw size_is less
 
   pub less_is : to_z w64 (of_z w64 (to_z w64 n -ℤ pos 1)) ≡ pos n -ℤ pos 1
   less_is = rw size_is (to_z-of_z less)
