@@ -1,11 +1,12 @@
 -- The list of the node room, turn by turn: counted back from its last node, and written from its end.
 use Rattle.std.specs.Prelude.{◌≡◌, refl, ℕ, zero, suc, ◌+◌, ◌*◌, ◌/◌, ◌-◌, ◌≤◌, ◌<◌, take}
 use Rattle.std.proofs.Math.Path.{sym, ap}
-use Rattle.std.proofs.Common.{◌∙◌, ⊎_elim, arith, add-zero, take-append-drop, take-take, drop_at, length-take-le}
+use Rattle.std.proofs.Common.{◌∙◌, ⊎_elim, arith, add-zero, take-append-drop, take-take, drop_at, length-take-le, Fits}
 use mathlib.Core.List.{List, [], ◌∷◌, ◌++◌, append_assoc, append-nil, reverse_aux}
 use Rattle.std.proofs.Math.ListN.{length, drop, length-reverse_aux}
 use Rattle.std.proofs.lemmas.List.{take-append-le}
 use borrow.Author.Tests.{le-leb, lt-leb}
+use Rattle.std.specs.Int.{w64}
 use Rattle.fields.proofs.RecordLaws.{record_in, with_record_is}
 use Rattle.rooms.specs.declared.Feet.{Feet}
 use Rattle.rooms.specs.declared.Label.{Label}
@@ -14,6 +15,9 @@ use Rattle.rooms.specs.Lists.{node_waypoint, walk, list_of, waypoint_bytes, list
 use Rattle.rooms.proofs.Laws.Lists.{walk_on, walk_off, in_or_out}
 
 -- ---- in a loop that counts
+
+pub next_fits : {m n : ℕ} → m < n → Fits w64 n → Fits w64 (m + 1)
+next_fits h f = omega arith
 
 pub count_on : (a : List ℕ) (n k m at : ℕ) → m < n → at < n → length (walk n a n k) ≡ m + length (walk (n - m) a n at) → length (walk n a n k) ≡ m + 1 + length (walk (n - (m + 1)) a n (node_at a at).parent)
 count_on a n k m at h l e = omega (arith, e, ap length (walk_on (n - m) (n - (m + 1)) a n at (omega arith) l))
