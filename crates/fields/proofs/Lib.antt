@@ -2,3 +2,4 @@
 pub mod Laws
 pub mod Pieces
 pub mod RecordLaws
+pub mod Signed
