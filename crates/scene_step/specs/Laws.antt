@@ -5,12 +5,15 @@ use Rattle.std.proofs.Math.Path.{refl}
 use borrow.Author.Tests.{leb-true, ltb-true, ltb-false, eqb-true, not-true}
 use Rattle.world.specs.Sizes.{size_above}
 use Rattle.tables.specs.BadWorld.{box_rule}
+use Rattle.world.specs.declared.Request.{Request}
+use Rattle.world.specs.declared.Body.{Body}
+use Rattle.world.specs.declared.Window.{Window}
 use Rattle.scene_rules.specs.declared.Counts.{Counts}
 use Rattle.scene_records.specs.Layout.{by_kind, kind_of, number_of, three_zeros, zeros, unused_from, window_of, cell_count, box_of, permission_of}
 use Rattle.scene_rules.specs.Rules.{in_order, room_in_shape, shape_rule, state_rule, window_rule, rule, good}
 use Rattle.scene_state.specs.declared.state.Reading.{Reading}
 use Rattle.scene_state.specs.Answers.{given, refused}
-use Rattle.scene_step.specs.Next.{count_after, with_box_counted, counts_after, next, good_in, step, ShapeFits, Allowed}
+use Rattle.scene_step.specs.Next.{request_after, body_after, window_after, count_after, with_box_counted, counts_after, next_number, next, good_in, step, ShapeFits, Allowed}
 
 -- both of two tests pass
 pub left_true : (a b : Bool) → a && b ≡ true → a ≡ true
@@ -110,6 +113,13 @@ module _ (r : Reading) (s : List ℕ) where
   unfolding step
   left n m e true g = absurd (let z : ◌≡◌ {A = ℕ} 0 1 = cc (rw g at e) in omega arith)
   left n m e false g = g
+
+-- the state behind a record by its parts
+pub parts : (k : ℕ) (r : Reading) (s : List ℕ) {n : ℕ} {q : Request} {b : Body} {w : Window} {c : Counts} →
+    n ≡ next_number r.number → q ≡ request_after k r.request s → b ≡ body_after k r.body s → w ≡ window_after k r.window s → c ≡ counts_after k r.counts s →
+    ◌≡◌ {A = Reading} (record { number = n; kind = k; request = q; body = b; window = w; counts = c }) (next k r s)
+unfolding next
+parts k r s en eq eb ew ec = rw (en, eq, eb, ew, ec)
 
 -- behind kind 3 the cells are the window's
 pub cells_counted : (k : ℕ) (r : Reading) (s : List ℕ) → k ≡ 3 → (next k r s).counts.cells ≡ cell_count (window_of s)
