@@ -9,5 +9,5 @@ pub mod question;
 pub(crate) mod whole;
 pub(crate) mod wishes;
 
-pub use mob::mob_in;
+pub use mob::{Mob, mob_in};
 pub use question::{Question, question_in};

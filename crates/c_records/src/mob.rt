@@ -5,7 +5,7 @@ ghost use Rattle.c_records.specs.Asked.{mob_in};
 
 use crate::whole::{all_whole, end_in};
 use crate::wishes::policy_in;
-use mob_request::Mob;
+pub use mob_request::Mob;
 use policy::has_bit;
 use scene_records::{body_at, window_at};
 
