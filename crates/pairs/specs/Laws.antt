@@ -1,6 +1,6 @@
 -- What the code goes by: each of its paths, in the words of the definitions.
-use Rattle.std.specs.Prelude.{ℕ, ◌+◌, ◌≤◌, ◌<◌, ◌≡◌, Bool, ◌&&◌, ◌||◌, List, [], ◌∷◌, ◌++◌, map, eqb, Option, Some, None}
-use Rattle.std.proofs.Common.{arith, sym, ap, ◌∙◌, eq-eqb, ne_eqb, eqb-true}
+use Rattle.std.specs.Prelude.{ℕ, ◌+◌, ◌≤◌, ◌<◌, ◌≡◌, Bool, not, ◌&&◌, ◌||◌, cond, List, [], ◌∷◌, ◌++◌, map, eqb, ltb, Option, Some, None, is_some}
+use Rattle.std.proofs.Common.{arith, sym, ap, ◌∙◌, eq-eqb, ne_eqb, eqb-true, ltb-true}
 use Rattle.std.proofs.Math.Path.{refl}
 use Rattle.std.proofs.Math.Bool.{true, false}
 use Rattle.std.proofs.lemmas.Bool.{eqb-false}
@@ -32,6 +32,13 @@ use Rattle.listed.specs.Compared.{leads_to, labelled_by}
 abbrev pub Noted : WaypointRecord → Point → List Waypoint → Option Bool → List Waypoint → Type 0
 Noted v from ws None left = has (leads_to v) ws ≡ true
 Noted v from ws (Some noted) left = (has (leads_to v) ws ≡ has (leads_to v) left) × (level from ws ≡ (noted || level from left))
+
+-- a column that is not looked at, or of which an edge has led to the record, is not gone through further
+pub noted_over : (v : WaypointRecord) (from : Point) (ws : List Waypoint) (looked : Bool) (noted : Option Bool) (left : List Waypoint) →
+    Noted v from ws noted (cond looked left []) → (looked && is_some noted) ≡ false → Noted v from ws noted []
+noted_over v from ws true None left h e = h
+noted_over v from ws true (Some noted) left h e = absurd (let z : ◌≡◌ {A = ℕ} 0 1 = cc in omega arith)
+noted_over v from ws false noted left h e = h
 
 module _ (v : WaypointRecord) (from : Point) (ws : List Waypoint) (noted : Bool) {left : List Waypoint} (h : Noted v from ws (Some noted) left) where
   pub noted_all : left ≡ [] → Noted v from ws (Some noted) []
@@ -86,6 +93,14 @@ module _ (sp : Space) (r : Request) (body : Body) (from : Point) (n : ℕ) where
   begun v e o = rw (column_begins sp r body from n (sym e ∙ o)) (refl, refl)
 
 -- ---- column after column
+
+-- a column is looked for while there is one and none before it has met the record
+pub in_turn_lem : (n : ℕ) (met : Bool) → (ltb n 9 && not met) ≡ true → n < 9
+in_turn_lem n met g = go (ltb n 9) refl g
+  where
+    go : (l : Bool) → ltb n 9 ≡ l → (l && not met) ≡ true → n < 9
+    go true e g = ltb-true n 9 e
+    go false e g = absurd (let z : ◌≡◌ {A = ℕ} 0 1 = cc in omega arith)
 
 -- what the columns before column n have said: none of their steps leads to the record; and their side answers
 pub record Tried (sp : Space) (r : Request) (body : Body) (from : Point) (v : WaypointRecord) (s : Sides) (n : ℕ) : Type 0 where
@@ -161,3 +176,12 @@ module _ (sp : Space) (r : Request) (body : Body) (p : Feet) (v : WaypointRecord
       go false true false true = refl
       go false true false false = refl
       go false false b c = refl
+
+  -- a graph step suffices, and where there is none the connector decides
+  module _ (last : Bool) where
+    pub joined_step : has (leads_to v) (steps_from sp r body (point_of p)) ≡ true → true ≡ joined (graph sp r body) last p (entry v)
+    joined_step e = rw e at joined_is last
+
+    pub joined_else : has (leads_to v) (steps_from sp r body (point_of p)) ≡ false →
+        ((last && same_point (feet_of r.goal) v.feet) && connector_to sp r body (point_of p) v) ≡ joined (graph sp r body) last p (entry v)
+    joined_else e = rw e at joined_is last
