@@ -1,4 +1,4 @@
--- What the code goes by: a list, pair by pair, and what is judged before it.
+-- What the code goes by: a list, pair by pair, the tests before the pairs, and what is judged before it.
 use Rattle.std.specs.Prelude.{ℕ, suc, ◌+◌, ◌-◌, ◌/◌, ◌≤◌, ◌<◌, ◌≡◌, refl, Bool, true, false, not, cond, List, [], ◌∷◌, eqb, length, Result, Ok, Err}
 use Rattle.std.proofs.Common.{arith, sym, eqb-true}
 use Rattle.std.proofs.Math.Numerals.{add-one}
@@ -16,17 +16,19 @@ use Rattle.rooms.specs.Records.{waypoint_at}
 use Rattle.rooms.specs.Waypoints.{same_point}
 use Rattle.words.specs.Words.{feet_of}
 use Rattle.steps.specs.Graph.{graph}
-use Rattle.listed.specs.Listed.{entry, entries_from}
+use Rattle.places.specs.Places.{in_range, standable}
+use Rattle.listed.specs.Listed.{entry, entries_from, bad_list}
+use Rattle.listed.specs.Compared.{starts}
 use Rattle.pairs.specs.Laws.{turned}
 use Rattle.tables.specs.BadWorld.{bad_world}
 use Rattle.request.specs.Request.{valid_request, sizes_too_large}
 use Rattle.questions.specs.declared.Judgement.{Judgement}
 use Rattle.questions.specs.declared.Judgement.TheVariants as judgements
 use Rattle.questions.specs.Questions.{question}
-use Rattle.walk_back.specs.declared.Fault.TheVariants.{InvalidRequest}
+use Rattle.walk_back.specs.declared.Fault.TheVariants.{InvalidRequest, BadList, GoalOutOfRange, StartNotStandable, GoalNotStandable, WrongStart}
 use Rattle.walk_back.specs.declared.Denied.{Denied}
 use Rattle.walk_back.specs.declared.Denied.TheVariants.{BadWorld, TooLarge, Fault as No}
-use Rattle.walk_back.specs.WalkBack.{walked_list, denied, denied_by, walked}
+use Rattle.walk_back.specs.WalkBack.{walked_by, going_on, walked_list, denied, denied_by, walked}
 
 -- the records from record k on
 abbrev pub rest : List ℕ → ℕ → List (Feet × Label)
@@ -72,6 +74,37 @@ module _ (sp : Space) (r : Request) (body : Body) (s : List ℕ) (p : Feet) (k :
 
       pub breaks : false ≡ joined (graph sp r body) (eqb (k + 1) (length s / 48)) p (entry v) → going_from ≡ Broken k p (entry v) (eqb (k + 1) (length s / 48))
       breaks e = rw (rest_on s k h, here, ← last_is) (pair_broken (graph sp r body) k p (entry (waypoint_at s k)) (rest s (k + 1)) (rw (last_is, ← here) (sym e)))
+
+-- ---- the tests before the pairs: what is answered at the first that fails
+
+module _ (sp : Space) (r : Request) (body : Body) (s : List ℕ) where
+  pub bad_list_lem : bad_list s ≡ true → Err BadList ≡ walked_list sp r body s
+  unfolding walked_list
+  bad_list_lem a = rw a
+
+  module _ (a : bad_list s ≡ false) where
+    pub goal_out : in_range r r.goal ≡ false → Err GoalOutOfRange ≡ walked_list sp r body s
+    unfolding walked_list
+    goal_out b = rw (a, b)
+
+    module _ (b : in_range r r.goal ≡ true) where
+      pub start_falls : standable sp body r.start ≡ false → Err StartNotStandable ≡ walked_list sp r body s
+      unfolding walked_list
+      start_falls c = rw (a, b, c)
+
+      module _ (c : standable sp body r.start ≡ true) where
+        pub goal_falls : standable sp body r.goal ≡ false → Err GoalNotStandable ≡ walked_list sp r body s
+        unfolding walked_list
+        goal_falls d = rw (a, b, c, d)
+
+        module _ (d : standable sp body r.goal ≡ true) where
+          pub wrong_start : starts r.start (waypoint_at s 0) ≡ false → Err WrongStart ≡ walked_list sp r body s
+          unfolding walked_list
+          wrong_start e = rw (a, b, c, d, e)
+
+          pub pairs_decide : starts r.start (waypoint_at s 0) ≡ true → walked_by sp r body (going_on sp r body s) ≡ walked_list sp r body s
+          unfolding walked_list
+          pairs_decide e = rw (a, b, c, d, e)
 
 -- ---- what is judged first
 
