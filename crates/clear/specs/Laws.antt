@@ -1,19 +1,22 @@
 -- Laws that the code goes by: a run of boxes, a cell by the tests on it, and the cells of a region one after the other, with x and z exchanged.
-use Rattle.std.specs.Prelude.{ℕ, ◌*◌, ◌≡◌, Bool, not, ◌&&◌, ◌||◌, List, [], ◌∷◌, map, drop, Option, Some, None, option_map, is_some}
+use Rattle.std.specs.Prelude.{ℕ, ◌+◌, ◌-◌, ◌*◌, ◌<◌, ◌≡◌, Bool, not, ◌&&◌, ◌||◌, List, [], ◌∷◌, map, ltb, drop, Option, Some, None, option_map, is_some}
 use Rattle.std.specs.List.{list_any}
 use Rattle.std.specs.Bool.{then_some}
 use Rattle.std.proofs.Math.Path.{refl, sym, ap}
-use Rattle.std.proofs.Common.{arith, ◌∙◌}
+use Rattle.std.proofs.Common.{arith, ◌∙◌, true≢false}
 use Rattle.std.proofs.Math.Bool.{true, false, cond}
 use borrow.Author.Tests.{eqb-true, not-true}
 use Rattle.std.proofs.Math.Dec.{eqb}
+use Rattle.regions.specs.declared.Region.{Region}
 use Rattle.regions.specs.declared.Spot.{Spot}
+use Rattle.regions.specs.Regions.{to_come}
+use Rattle.regions.specs.RegionLaws.{ended}
 use Rattle.world.specs.declared.Point.{Point}
 use Rattle.world.specs.declared.Aabb.{Aabb}
 use Rattle.world.specs.declared.Cell.{Cell}
 use Rattle.world.specs.Boxes.{meets, moved, cube, corner, voxel}
-use Rattle.world.specs.Laws.{both, run_none as boxes_none}
-use Rattle.world.specs.Space.{Space, Block, run, no_door, door_of, block_of}
+use Rattle.world.specs.Laws.{both, run_none as boxes_none, run_end as boxes_end, run_more as boxes_more, turns_end}
+use Rattle.world.specs.Space.{Space, Block, run, box_here, no_door, door_of, block_of}
 use Rattle.clear.specs.Clear.{hits, free, all_free, clear}
 use Rattle.clear.specs.Corridors.{or_else, first_door, cell_door, door_at, door_in, corridor}
 
@@ -27,6 +30,27 @@ pub hits_any : (area : Aabb) (by : Point) (bs : List Aabb) → list_any (λ (b :
 unfolding hits
 hits_any area by [] = refl
 hits_any area by (b ∷ bs) = rw (hits_any area by bs)
+
+module _ (area : Aabb) (by : Point) (s : List ℕ) (at left : ℕ) where
+  -- the table ends here
+  pub run_end : box_here s at ≡ None → run_hits area by s left at ≡ false
+  unfolding hits
+  run_end e = rw (boxes_end s at left e)
+
+  -- a box is hit, or the rest says
+  pub run_on : (b : Aabb) (hit : Bool) → 0 < left → box_here s at ≡ Some b → meets (moved b by) area ≡ hit →
+      run_hits area by s left at ≡ hit || run_hits area by s (left - 1) (at + 48)
+  unfolding hits
+  run_on b hit h e t = rw (boxes_more s at left b h e, t)
+
+  -- no box is left, or one is hit
+  pub run_stops : (hit : Bool) → (ltb 0 left && not hit) ≡ false → hit || run_hits area by s left at ≡ hit
+  unfolding hits
+  run_stops hit t = turns_end 0 left hit t (λ h. let z : left ≡ 0 = omega arith in rw (z, boxes_none s at) (same hit)) (λ e. rw e)
+    where
+      same : (b : Bool) → (b || false) ≡ b
+      same true = refl
+      same false = refl
 
 -- ---- a cell, by the tests on it
 
@@ -142,6 +166,27 @@ module _ (sp : Space) (area : Aabb) where
 
   abbrev pub corridor_along : List Spot → Option ℕ
   corridor_along ps = then_some (free_along ps) (door_along ps)
+
+  -- turn by turn, the two questions apart
+  pub turn : (more free : Bool) → (more && free) ≡ true → (more ≡ true) × (free ≡ true)
+  turn true true t = (refl, refl)
+  turn true false t = (refl, t)
+  turn false free t = (t, absurd (let z : ◌≡◌ {A = ℕ} 0 1 = cc in omega arith))
+
+  pub free_on : (ps qs : List Spot) (p : Spot) (free next : Bool) → free ≡ true → ps ≡ p ∷ qs → free_at (exchanged p) ≡ next → free && free_along ps ≡ next && free_along qs
+  unfolding all_free
+  free_on ps qs p free next t e f = rw (t, e, f)
+
+  pub doors_on : (ps qs : List Spot) (p : Spot) (door next : ℕ) → ps ≡ p ∷ qs → door_at sp area (exchanged p) ≡ next → or_else door (door_along ps) ≡ or_else (or_else door next) (door_along qs)
+  unfolding first_door
+  doors_on ps qs p door next e f = rw (e, f) (or_assoc door next (door_along qs))
+
+  pub turns_over : (r : Region) (c : Option Spot) (free : Bool) (door : ℕ) (ps : List Spot) → (is_some c && free) ≡ false → free_along ps ≡ free && free_along (to_come r c) →
+      door_along ps ≡ or_else door (door_along (to_come r c)) → then_some free door ≡ corridor_along ps
+  unfolding all_free first_door
+  turns_over r None true door ps t f d = rw (f, d) (ap Some (sym (or_none door)))
+  turns_over r (Some p) true door ps t f d = absurd (true≢false t)
+  turns_over r c false door ps t f d = rw f
 
   -- the same behind a door that was met before
   abbrev pub corridor_behind : ℕ → List Spot → Option ℕ
