@@ -112,10 +112,10 @@ pub record Further (is : List Interval) (b c : Float) : Type 0 where
   pub no_less : le b c ≡ true
 
 module _ {is : List Interval} where
-  further_none : {c : Float} → CoversTo is c → Further is c c
+  pub further_none : {c : Float} → CoversTo is c → Further is c c
   further_none {c} h = record { covered = h; no_less = le_refl c (le_right _ c (not_below h)) }
 
-  further_one : {b c : Float} (i : Interval) → Memᴰ i is → joins c i ≡ true → Further is b c → Further is b (larger i.end c)
+  pub further_one : {b c : Float} (i : Interval) → Memᴰ i is → joins c i ≡ true → Further is b c → Further is b (larger i.end c)
   unfolding larger
   further_one {b} {c} i m j f = record { covered = joint f.covered m j; no_less = go (lt c i.end) refl }
     where

@@ -1,22 +1,26 @@
 -- A pass over the shapes is a round over the intervals of those that count, unless one refuses; and what the loops of a pass go by.
-use Rattle.std.specs.Prelude.{ℕ, ◌*◌, ◌<◌, ◌≡◌, Bool, ◌&&◌, ◌||◌, cond, Option, Some, None, drop, Float}
-use Rattle.std.proofs.Common.{arith, sym, ◌∙◌, subst}
+use Rattle.std.specs.Prelude.{ℕ, ◌+◌, ◌-◌, ◌*◌, ◌≤◌, ◌<◌, ◌≡◌, Bool, ◌&&◌, ◌||◌, cond, ltb, Option, Some, None, is_some, drop, Float}
+use Rattle.std.proofs.Common.{arith, sym, ◌∙◌, subst, ltb-true, ltb-false}
 use Rattle.std.proofs.Math.Path.{refl, ap}
 use Rattle.std.proofs.Math.Bool.{true, false, not}
 use mathlib.Core.List.{List, [], ◌∷◌, foldl-append}
-use Rattle.std.specs.Float.Ieee.{lt}
+use Rattle.std.specs.Float.{binary64}
+use Rattle.std.specs.Float.Ieee.{lt, le, add}
+use Rattle.floats.specs.Floats.{E, larger}
 use Rattle.floats.specs.Order.{false_true, le_trans}
 use Rattle.regions.specs.RangeLaws.{fold_stays}
+use Rattle.regions.specs.Regions.{to_come}
+use Rattle.regions.specs.declared.Region.{Region}
 use Rattle.regions.specs.declared.Spot.{Spot}
 use Rattle.world.specs.declared.Point.{Point}
 use Rattle.world.specs.declared.Aabb.{Aabb}
 use Rattle.world.specs.declared.Cell.{Cell}
 use Rattle.world.specs.Boxes.{moved, cube}
-use Rattle.world.specs.Laws.{run_none, unknown_block, known_block}
-use Rattle.world.specs.Space.{Space, run, block_of}
+use Rattle.world.specs.Laws.{run_none as boxes_none, run_end as boxes_end, run_more as boxes_more, both, unknown_block, known_block}
+use Rattle.world.specs.Space.{Space, run, box_here, block_of}
 use Rattle.support.specs.declared.Interval.{Interval}
 use Rattle.support.specs.declared.Way.{Way}
-use Rattle.support.specs.Cover.{round, enough, covers, CoversTo}
+use Rattle.support.specs.Cover.{joins, reach_one, round, enough, covers, CoversTo}
 use Rattle.support.specs.Rounds.{beyond, falls, settles}
 use Rattle.support.specs.Laws.{round_covers, not_below, within, covers_sound, covers_complete}
 use Rattle.support.specs.Support.{Shape, counts, interval, counting, ahead, intervals, all_support, carried, shapes_of, shapes_at}
@@ -24,7 +28,7 @@ use Rattle.support.specs.Pass.{reach_by, step, pass, run_shapes}
 
 -- ---- a pass as a round
 
-refused_stays : (w : Way) (ss : List Shape) → pass w None ss ≡ None
+pub refused_stays : (w : Way) (ss : List Shape) → pass w None ss ≡ None
 unfolding step
 refused_stays w ss = fold_stays (step w) None (λ s. refl) ss
 
@@ -52,6 +56,80 @@ pass_is w c (s ∷ ss) = go (λ d. pass_is w d ss) (counts w.under s.box) refl s
     go f true p false q = rw (p, q) (refused_stays w ss)
     go f true p true q = rw (p, q, round_ahead c (interval s.box w.from w.to) (found w ss)) (f (reach_by c (interval s.box w.from w.to)))
 
+-- ---- one shape, by the tests on it
+
+-- an interval that begins at most E behind what is covered, and one that does not
+module _ (c : Float) (i : Interval) where
+  pub covers_more : le i.begin (add binary64 c E) ≡ true → reach_by c (Some i) ≡ larger i.end c
+  unfolding reach_one joins
+  covers_more e = rw e
+
+  pub covers_none : le i.begin (add binary64 c E) ≡ false → reach_by c (Some i) ≡ c
+  unfolding reach_one joins
+  covers_none e = rw e
+
+-- one that begins at most at its end, and one that does not
+module _ (i : Interval) where
+  abbrev proper : Option Interval
+  proper = cond (le i.begin i.end) (Some i) None
+
+  pub is_proper : le i.begin i.end ≡ true → proper ≡ Some i
+  is_proper e = rw e
+
+  pub not_proper : le i.begin i.end ≡ false → proper ≡ None
+  not_proper e = rw e
+
+module _ (w : Way) (c : Float) (support : Bool) (b : Aabb) where
+  abbrev shape : Shape
+  shape = record { support = support; box = b }
+
+  -- one that counts and is a support covers more; any other covers nothing, and refuses if it counts
+  pub reaches : {t : Bool} → counts w.under b ≡ t → (t && support) ≡ true → step w (Some c) shape ≡ Some (reach_by c (interval b w.from w.to))
+  unfolding step
+  reaches {t} e h = go t support refl e h
+    where
+      go : (t s : Bool) → support ≡ s → counts w.under b ≡ t → (t && s) ≡ true → step w (Some c) shape ≡ Some (reach_by c (interval b w.from w.to))
+      go true true p q r = rw (p, q)
+      go true false p q r = cc
+      go false s p q r = cc
+
+  pub stops : {t : Bool} → counts w.under b ≡ t → (t && support) ≡ false → step w (Some c) shape ≡ cond t None (Some c)
+  unfolding step
+  stops {t} e h = go t support refl e h
+    where
+      go : (t s : Bool) → support ≡ s → counts w.under b ≡ t → (t && s) ≡ false → step w (Some c) shape ≡ cond t None (Some c)
+      go true true p q r = cc
+      go true false p q r = rw (p, q)
+      go false s p q r = rw q
+
+-- ---- a run of box records
+
+module _ (w : Way) (support : Bool) (by : Point) (s : List ℕ) (at : ℕ) where
+  -- what a pass is behind n of them
+  abbrev pub after : Option Float → ℕ → Option Float
+  after r n = pass w r (run_shapes support by (run n s at))
+
+  -- the table ends here
+  pub run_end : (r : Option Float) (left : ℕ) → box_here s at ≡ None → after r left ≡ r
+  run_end r left e = rw (boxes_end s at left e)
+
+  -- a box, then the rest
+  pub run_more : (r q : Option Float) (left : ℕ) (b : Aabb) → 0 < left → box_here s at ≡ Some b → step w r (record { support = support; box = moved b by }) ≡ q →
+      after r left ≡ pass w q (run_shapes support by (run (left - 1) s (at + 48)))
+  run_more r q left b h e t = rw (boxes_more s at left b h e) (ap (λ (x : Option Float). pass w x (run_shapes support by (run (left - 1) s (at + 48)))) t)
+
+  -- no box is left, or the pass is refused
+  pub run_none : (r : Option Float) (left : ℕ) → left ≤ 0 → after r left ≡ r
+  run_none r left h = let z : left ≡ 0 = omega arith in rw (z, boxes_none s at)
+
+  pub run_stops : (r : Option Float) (left : ℕ) → (ltb 0 left && is_some r) ≡ false → after r left ≡ r
+  run_stops None left e = refused_stays w (run_shapes support by (run left s at))
+  run_stops (Some c) left e = go (ltb 0 left) refl e
+    where
+      go : (t : Bool) → ltb 0 left ≡ t → (t && true) ≡ false → after (Some c) left ≡ Some c
+      go true p q = absurd (let z : ◌≡◌ {A = ℕ} 0 1 = cc in omega arith)
+      go false p q = run_none (Some c) left (ltb-false 0 left p)
+
 -- ---- a box of a run, then the rest, which changes nothing where the box refuses the pass
 
 pub run_on : (w : Way) (support : Bool) (by : Point) (bs cs : List Aabb) (b : Aabb) (r q : Option Float) → bs ≡ b ∷ cs → step w r (record { support = support; box = moved b by }) ≡ q →
@@ -75,7 +153,7 @@ module _ (w : Way) (r : Option Float) (boxes : List ℕ) (p : Point) where
     pass_known = rw (known_block boxes p c.occupied c.support c.first c.count c.through c.state)
 
     pub pass_empty : c.count ≡ 0 → pass w r (shapes_of (block_of boxes (Some c) p)) ≡ r
-    pass_empty e = rw (pass_known, e, run_none (drop (48 * c.first) boxes) 0)
+    pass_empty e = rw (pass_known, e, boxes_none (drop (48 * c.first) boxes) 0)
 
 -- ---- the same of the cells: what one makes of the pass, then the rest
 
@@ -87,6 +165,21 @@ pass_on w sp ps qs p r q e f = rw e (foldl-append (step w) r (shapes_of (sp p.x 
 pub pass_refused : (w : Way) (sp : Space) (ps qs : List Spot) (p : Spot) (r : Option Float) → ps ≡ p ∷ qs → pass w r (shapes_of (sp p.x p.y p.z)) ≡ None → pass w r (shapes_at sp ps) ≡ None
 pass_refused w sp ps qs p r e f = pass_on w sp ps qs p r None e f ∙ refused_stays w (shapes_at sp qs)
 
+-- the end of a region, or a pass that is refused
+pub pass_stops : (w : Way) (sp : Space) (region : Region) (c : Option Spot) (r : Option Float) → (is_some c && is_some r) ≡ false → pass w r (shapes_at sp (to_come region c)) ≡ r
+unfolding shapes_at
+pass_stops w sp region None r e = refl
+pass_stops w sp region (Some p) None e = refused_stays w (shapes_at sp (to_come region (Some p)))
+pass_stops w sp region (Some p) (Some c) e = absurd (let z : ◌≡◌ {A = ℕ} 0 1 = cc in omega arith)
+
+-- ---- a turn of a loop is taken: there is one more, and nothing has refused the pass
+
+pub turned : (more : Bool) (r : Option Float) → (more && is_some r) ≡ true → (more ≡ true) × (is_some r ≡ true)
+turned more r e = both more (is_some r) e
+
+pub turns : (k n : ℕ) (r : Option Float) → (ltb k n && is_some r) ≡ true → (k < n) × (is_some r ≡ true)
+turns k n r e = let t = turned (ltb k n) r e in (ltb-true k n t.0, t.1)
+
 -- ---- passes, as long as they cover more
 
 module _ (w : Way) (ss : List Shape) where
@@ -95,6 +188,13 @@ module _ (w : Way) (ss : List Shape) where
   left c = beyond c (found w ss)
 
   -- a pass that a shape refuses
+  told_refused : (c : Float) → pass w (Some c) ss ≡ None → firm w ss ≡ false
+  told_refused c e = go (firm w ss) refl (sym (pass_is w c ss) ∙ e)
+    where
+      go : (b : Bool) → firm w ss ≡ b → cond b (Some (round c (found w ss))) None ≡ None → firm w ss ≡ false
+      go true p q = absurd (let z : ◌≡◌ {A = ℕ} 0 1 = cc in omega arith)
+      go false p q = p
+
   pub refused_not : (c : Float) → pass w (Some c) ss ≡ None → carried w.under w.from w.to ss ≡ false
   unfolding carried
   refused_not c e = go (firm w ss) refl (sym (pass_is w c ss) ∙ e)
