@@ -1,5 +1,5 @@
 -- Laws that the code's loops and branches go by.
-use Rattle.std.specs.Prelude.{Option, Some, None, ℕ, ◌*◌, ◌≡◌, Bool, ◌&&◌, cond, ltb, drop, Float, map}
+use Rattle.std.specs.Prelude.{Option, Some, None, ℕ, ◌+◌, ◌-◌, ◌*◌, ◌≤◌, ◌<◌, ◌≡◌, Bool, ◌&&◌, cond, ltb, drop, Float, map}
 use Rattle.std.proofs.Common.{arith, sym, true≢false, List, [], ◌∷◌, ltb-false}
 use Rattle.std.proofs.Math.Path.{refl}
 use Rattle.std.proofs.Math.Bool.{true, false}
@@ -12,12 +12,12 @@ use Rattle.world.specs.declared.Point.{Point}
 use Rattle.world.specs.declared.Aabb.{Aabb}
 use Rattle.world.specs.declared.Cell.{Cell}
 use Rattle.world.specs.Boxes.{moved}
-use Rattle.world.specs.Laws.{run_none as boxes_none}
-use Rattle.world.specs.Space.{Space, Block, run, block_of}
+use Rattle.world.specs.Laws.{run_none as boxes_none, run_end as boxes_end, run_more as boxes_more}
+use Rattle.world.specs.Space.{Space, Block, run, box_here, block_of}
 use Rattle.heights.specs.declared.Band.{Band}
 use Rattle.heights.specs.Heights.{reaches, tops_of, tops_in, tops}
 use Rattle.heights.proofs.Next.{Numbers, numbers_gather}
-use Rattle.heights.specs.Laws.{with_box}
+use Rattle.heights.specs.Laws.{run_fold, with_box}
 
 module _ {S : Type 0} (band : Band) (x z : Float) (g : S → Float → S) where
   -- ---- a run of boxes, moved by a point, over any fold of tops
@@ -29,6 +29,21 @@ module _ {S : Type 0} (band : Band) (x z : Float) (g : S → Float → S) where
       pick : (r : Bool) → foldl g t (cond r (b.max.y ∷ tops_of band x z bs) (tops_of band x z bs)) ≡ foldl g (cond r (g t b.max.y) t) (tops_of band x z bs)
       pick true = refl
       pick false = refl
+
+  module _ (by : Point) (t : S) (s : List ℕ) (at left : ℕ) where
+    -- the table ends here
+    pub run_end : box_here s at ≡ None → run_fold band x z g by t s left at ≡ t
+    unfolding tops_of
+    run_end e = rw (boxes_end s at left e)
+
+    -- one box more
+    pub run_on : (b : Aabb) → 0 < left → box_here s at ≡ Some b → run_fold band x z g by t s left at ≡ run_fold band x z g by (with_box band x z g t (moved b by)) s (left - 1) (at + 48)
+    run_on b h e = rw (boxes_more s at left b h e) (fold_cons t (moved b by) _)
+
+    -- no box is left
+    pub run_none : left ≤ 0 → run_fold band x z g by t s left at ≡ t
+    unfolding tops_of
+    run_none h = let y : left ≡ 0 = omega arith in rw (y, boxes_none s at)
 
   -- ---- a cell, by the tests on it
 

@@ -1,11 +1,11 @@
 -- A top put in its place among the lowest of a room, turn by turn; and that so, of a column's tops in any order, the room has the lowest.
 use Rattle.std.specs.Prelude.{min, Option, ℕ, zero, suc, ◌+◌, ◌-◌, ◌≤◌, ◌<◌, refl, Bool, true, false, cond, ltb, get_or, drop, set}
-use Rattle.std.proofs.Common.{arith, add-one, sym, ◌∙◌, ltb-true, ltb-false, lt-ltb, take-append-drop, length-append, length-drop, take-suc, length-take-le, take_at, take_all, drop-drop, List, [], ◌∷◌, ◌++◌, append-nil, append_assoc}
+use Rattle.std.proofs.Common.{arith, add-one, sym, ◌∙◌, ltb-true, ltb-false, lt-ltb, take-append-drop, length-append, length-drop, drop-cons, take-suc, get_or-append-add, get_or-drop, length-take-le, take_at, take_all, drop-drop, List, [], ◌∷◌, ◌++◌, append-nil, append_assoc}
 use Rattle.std.proofs.Math.Path.{◌≡◌, ap}
 use mathlib.Core.List.{foldl}
 use Rattle.std.proofs.Math.ListN.{length, take, length-take, get_or-append}
-use Rattle.std.proofs.lemmas.List.{set_at, take-append-le, drop-append-le}
-use Rattle.std.proofs.Math.Seq.{paste, take-append-add, drop-append_seam, drop-append-add, take-nil}
+use Rattle.std.proofs.lemmas.List.{set_at, get_or_at, take-append-le, drop-append-le}
+use Rattle.std.proofs.Math.Seq.{append_snoc, paste, take-append-add, drop-append_seam, drop-append-add, take-nil}
 use Rattle.std.specs.Float.Ieee.{Float, lt, le, is_nan}
 use Rattle.std.specs.Float.{nan}
 use Rattle.floats.specs.Order.{false_true, le_trans, lt_le, lt_turned, not_lt, not_le, le_not_lt, lt_le_trans}
@@ -80,6 +80,38 @@ module _ (t : Float) (room : List Float) (p : ℕ) where
         let front : take e (put_before p t room) ≡ before ++ (t ∷ above) = ap (λ (n : ℕ). take n (put_before p t room)) width ∙ take-append-add before (t ∷ drop p room) (suc (e - 1 - p)) in
         ap (λ (s : List Float). set s p t) there ∙ set_at before (get_or room p nan) (above ++ drop e room) t p long
         ∙ sym (ap (λ (s : List Float). s ++ drop e room) front ∙ append_assoc before (t ∷ above) (drop e room))
+
+-- the same place after place: each of those above it takes what stood before it
+
+module _ (t : Float) (room : List Float) (p : ℕ) (h : p ≤ length room) where
+  abbrev goal : List Float
+  goal = put_before p t room
+
+  pub carry_begins : room ≡ with_front p goal room
+  carry_begins = sym (ap (λ (l : List Float). l ++ drop p room) (take_at (take p room) (t ∷ drop p room) p (length-take-le p room h)) ∙ take-append-drop p room)
+
+  pub carried_first : t ≡ get_or goal p nan
+  carried_first = sym (get_or_at (take p room) t (drop p room) nan p (length-take-le p room h))
+
+  module _ (i : ℕ) (l : p ≤ i) (m : i < length room) where
+    front : length (take i goal) ≡ i
+    front = length-take-le i goal (omega (arith, goal_length t room p h))
+
+    parts : with_front i goal room ≡ take i goal ++ (get_or room i nan ∷ drop (suc i) room)
+    parts = ap (λ (x : List Float). take i goal ++ x) (drop-cons room i nan m)
+
+    pub carry_on : set (with_front i goal room) i (get_or goal i nan) ≡ with_front (i + 1) goal room
+    carry_on =
+        ap (λ (x : List Float). set x i (get_or goal i nan)) parts ∙ set_at (take i goal) (get_or room i nan) (drop (suc i) room) (get_or goal i nan) i front
+        ∙ sym (append_snoc (take i goal) (get_or goal i nan) (drop (suc i) room))
+        ∙ ap (λ (x : List Float). x ++ drop (suc i) room) (sym (take-suc goal i nan (omega (arith, goal_length t room p h)))) ∙ rw add-one
+
+    pub carried_on : get_or (with_front i goal room) i nan ≡ get_or goal (i + 1) nan
+    carried_on =
+        let n : i + 1 ≡ length (take p room) + suc (i - p) = omega (arith, length-take-le p room h) in
+        let z : p + (i - p) ≡ i = omega arith in
+        ap (λ (x : List Float). get_or x i nan) parts ∙ get_or_at (take i goal) (get_or room i nan) (drop (suc i) room) nan i front
+        ∙ sym (ap (λ (k : ℕ). get_or goal k nan) n ∙ get_or-append-add (take p room) (t ∷ drop p room) (suc (i - p)) nan ∙ get_or-drop p room (i - p) nan ∙ ap (λ (k : ℕ). get_or room k nan) z)
 
 no_two : {X : Type 0} {b : Bool} → b ≡ true → b ≡ false → X
 no_two e f = false_true (sym f ∙ e)
