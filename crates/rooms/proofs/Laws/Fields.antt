@@ -1,6 +1,6 @@
 -- A record that the code reads field by field is the record of the definition, and one past the room's end reads as one at its end: all zero.
-use Rattle.std.specs.Prelude.{◌≡◌, refl, Bool, true, false, cond, List, [], ◌∷◌, ℕ, zero, suc, ◌+◌, ◌≤◌, length}
-use Rattle.std.proofs.Common.{sym, ap, ◌∙◌, ⊎_elim, arith, add-zero}
+use Rattle.std.specs.Prelude.{◌≡◌, refl, Bool, true, false, cond, List, [], ◌∷◌, ℕ, zero, suc, ◌+◌, ◌*◌, ◌/◌, ◌≤◌, ◌<◌, length}
+use Rattle.std.proofs.Common.{sym, ap, ◌∙◌, ⊎_elim, arith, add-zero, le-div_iff_mul-le, div-lt_iff_lt-mul, mul_comm}
 use Rattle.std.proofs.lemmas.Bool.{cases_lt}
 use Rattle.fields.specs.Little.{fits_at, field}
 use Rattle.fields.specs.Records.{fields_at, record_at}
@@ -38,6 +38,16 @@ offset_least a at {r} l inside end =
       within = l;
       reads = λ ws. ⊎_elim (λ h. fields_end ws a r at 0 (omega (arith, end (omega arith))) (omega arith)) (λ h. ap (record_at ws a) (inside h)) (cases_lt (length a) at);
     }
+
+-- record k, at so many bytes a record, starts past the end or not
+module _ (a : List ℕ) (size k : ℕ) (some : 0 < size) where
+  pub offset_end : length a / size < k → Offset a (size * k) (length a)
+  offset_end h =
+      let l : length a < size * k = rw mul_comm ((div-lt_iff_lt-mul some).0 h) in
+      record { within = omega arith; reads = λ ws. fields_end ws a (length a) (size * k) 0 (omega arith) (omega arith) }
+
+  pub offset_in : k ≤ length a / size → Offset a (size * k) (size * k)
+  offset_in h = record { within = rw mul_comm ((le-div_iff_mul-le some).0 h); reads = λ ws. refl }
 
 -- ---- field by field
 
