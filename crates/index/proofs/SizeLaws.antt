@@ -1,7 +1,7 @@
 -- What a right size is, in 02's words: 4 bytes a slot, a power of two of slots, and at least twice the budget of them. And powers of two found by doubling.
 use Rattle.std.specs.Prelude.{◌≡◌, ℕ, zero, suc, ◌*◌, ◌/◌, ◌%◌, ◌^◌, ◌<◌, ◌≤◌, Bool, true, false, ◌&&◌, ◌==◌, nat_eq, nat_le, refl, count_ones, ◌+◌, ◌⊎◌}
-use Rattle.std.proofs.Common.{sym, ap, ◌∙◌, ⊎_elim, inl, inr, arith, eq-eqb, ne_eqb, eqb-true, le-leb, leb-true, leb-false}
-use Rattle.std.proofs.Math.Nat.{pow-succ'}
+use Rattle.std.proofs.Common.{sym, ap, subst, ◌∙◌, ⊎_elim, inl, inr, arith, eq-eqb, ne_eqb, eqb-true, le-leb, leb-true, leb-false}
+use Rattle.std.proofs.Math.Nat.{pow-succ', pow-le-pow_right}
 use Rattle.std.proofs.lemmas.Nat.{ones_cat, zero_from_ones, ones_le_self}
 use Rattle.std.specs.Int.Count.{ones_step}
 use Rattle.std.proofs.lemmas.Bool.{lt-leb, not-false}
@@ -32,6 +32,17 @@ power_is n h = below_is n n h
 pub is_power_lem : (j : ℕ) → is_power (2 ^ j) ≡ true
 unfolding is_power
 is_power_lem j = below_finds j (2 ^ j) (below_power j)
+
+-- the first power of two that is not below n is n itself exactly where n is one
+pub doubled : (n p k : ℕ) → p ≡ 2 ^ k → ((j : ℕ) → j < k → 2 ^ j < n) → n ≤ p → (p == n) ≡ is_power n
+doubled n p k e h l = go (is_power n) refl
+  where
+    at_least : (j : ℕ) → n ≡ 2 ^ j → p ≤ n
+    at_least j i = ⊎_elim (λ t. absurd (omega (arith, h j t, i))) (λ t. let x = pow-le-pow_right {n = 2} (omega arith) t in omega (arith, x, i, e)) (in_or_out j k)
+
+    go : (b : Bool) → is_power n ≡ b → (p == n) ≡ b
+    go true i = let w = power_is n i in eq-eqb p n (omega (arith, at_least w.0 w.1))
+    go false i = ne_eqb p n (λ x. true_false (subst (λ (m : ℕ). is_power m ≡ true) (sym e ∙ x) (is_power_lem k)) i)
 
 -- a power of two has one set digit, and no other number has
 ones_power : (k n : ℕ) → n < 2 ^ k → count_ones n ≡ 1 → (j : ℕ) × (n ≡ 2 ^ j)
