@@ -30,6 +30,17 @@ pub record ChainMarked (a : List ℕ) (n k : ℕ) (done : List Bool) (r : Bool) 
 pub reaches_marked : (a : List ℕ) (done : List Bool) (m at k : ℕ) → at ≡ parents_back a m k → get_or done at false ≡ true → MarksSound a done → Reaches a k
 reaches_marked a done m at k e d s = let r = s at d in (m + r.0, laws.back_add a m r.0 k ∙ ap (parents_back a r.0) (sym e) ∙ r.1)
 
+-- where a climb has come to node 0, to a marked node, or to neither n parents back
+module _ (a : List ℕ) (done : List Bool) (n k m at : ℕ) where
+  pub climbed_first : m ≤ n → at ≡ parents_back a m k → at ≡ 0 → Climbed a done n k (Some m)
+  climbed_first h e d = λ s. (m, sym e ∙ d)
+
+  pub climbed_marked : m ≤ n → at ≡ parents_back a m k → get_or done at false ≡ true → Climbed a done n k (Some m)
+  climbed_marked h e d = reaches_marked a done m at k e d
+
+pub climbed_none : (a : List ℕ) (done : List Bool) (n k : ℕ) → parents_back a n k ≢ 0 → Climbed a done n k None
+climbed_none a done n k d = d
+
 -- ---- marks
 
 -- a node that reaches node 0 does so from each node of its chain

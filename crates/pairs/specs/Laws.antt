@@ -88,6 +88,13 @@ module _ (sp : Space) (r : Request) (body : Body) (from : Point) (n : ℕ) where
   pub begun_not : (v : WaypointRecord) {looked : Bool} → looked ≡ looked_by (sides_before sp r body from n) n → looked ≡ false → Noted v from (column_if sp r body from n) (Some false) []
   begun_not v e o = rw (skipped sp r body from n (sym e ∙ o)) (refl, refl)
 
+  column_is : column_if sp r body from n ≡ cond (looked_by (sides_before sp r body from n) n) (steps_after sp r body from n None) []
+  column_is = go (looked_by (sides_before sp r body from n) n) refl
+    where
+      go : (b : Bool) → looked_by (sides_before sp r body from n) n ≡ b → column_if sp r body from n ≡ cond b (steps_after sp r body from n None) []
+      go true e = column_begins sp r body from n e
+      go false e = skipped sp r body from n e
+
   pub begun : (v : WaypointRecord) {looked : Bool} → looked ≡ looked_by (sides_before sp r body from n) n → looked ≡ true →
       Noted v from (column_if sp r body from n) (Some false) (steps_after sp r body from n None)
   begun v e o = rw (column_begins sp r body from n (sym e ∙ o)) (refl, refl)

@@ -22,6 +22,10 @@ use Rattle.regions.specs.RangeLaws.{along_more, along_none, along_empty}
 abbrev Follows : Region → Spot → Option Spot → Type 0
 Follows r p c = (from r p ≡ p ∷ to_come r c) × Proper r c
 
+-- where a loop has no next cell, nothing is asked of one
+none_left : (r : Region) → Proper r None
+none_left r = tt
+
 -- ---- the number after one of a range, and the first of a range
 
 module _ (r : Range) (k : ℤ) where

@@ -2,7 +2,7 @@
 -- gathered, and in whatever order.
 use Rattle.std.specs.Prelude.{ℕ, ◌*◌, ◌≡◌, Bool, true, false, cond, List, [], ◌∷◌, ◌++◌, map, drop, Option, Some, None, Float}
 use Rattle.std.specs.List.{All}
-use Rattle.std.proofs.Common.{sym, ap, refl}
+use Rattle.std.proofs.Common.{sym, ap, refl, ◌∙◌, subst}
 use Rattle.std.proofs.lemmas.List.Elements.{All-nil, All-cons, All-head, All-tail}
 use mathlib.Core.List.{Memᴰ}
 use Rattle.std.specs.Float.Ieee.{lt, le}
@@ -77,6 +77,27 @@ module _ (w : Way) where
   unfolding shapes_of
   found_known boxes p c = rw (known_block boxes p c.occupied c.support c.first c.count c.through c.state) (sym (found_supports c.support (map (λ (b : Aabb). moved b p) (run c.count (drop (48 * c.first) boxes) 0))))
 
+-- ---- a list that has the intervals of some shapes has those of the first, where it counts, and of the others
+
+pub among_none : (is : List Interval) → Among is []
+among_none is = All-nil (λ i. Memᴰ i is)
+
+of_first : (w : Way) (s : Shape) (ss : List Shape) (i : Interval) → cond (counts w.under s.box) (interval s.box w.from w.to) None ≡ Some i → found w (s ∷ ss) ≡ i ∷ found w ss
+of_first w s ss i e = found_append w (s ∷ []) ss ∙ ap (λ (l : List Interval). l ++ found w ss) (found_part w s ∙ ap (λ (o : Option Interval). ahead o []) e)
+
+module _ (w : Way) {is : List Interval} where
+  pub among_first : (s : Shape) (ss : List Shape) → Among is (found w (s ∷ ss)) → (i : Interval) → cond (counts w.under s.box) (interval s.box w.from w.to) None ≡ Some i → Memᴰ i is
+  among_first s ss f i e = All-head (λ i. Memᴰ i is) i (found w ss) (subst (Among is) (of_first w s ss i e) f)
+
+  pub among_rest : (s : Shape) (ss : List Shape) → Among is (found w (s ∷ ss)) → Among is (found w ss)
+  among_rest s ss f = all_right (λ i. Memᴰ i is) (found w (s ∷ [])) (found w ss) (subst (Among is) (found_append w (s ∷ []) ss) f)
+
+  pub among_left : (ss ts : List Shape) → Among is (found w (ss ++ ts)) → Among is (found w ss)
+  among_left ss ts f = all_left (λ i. Memᴰ i is) (found w ss) (found w ts) (subst (Among is) (found_append w ss ts) f)
+
+  pub among_right : (ss ts : List Shape) → Among is (found w (ss ++ ts)) → Among is (found w ts)
+  among_right ss ts f = all_right (λ i. Memᴰ i is) (found w ss) (found w ts) (subst (Among is) (found_append w ss ts) f)
+
 -- ---- what the functions that gather promise
 
 -- parts that were all of a list are so afterwards, where some more are of that list, too
@@ -89,6 +110,15 @@ gathers_none js a = record { all = λ is f o. o }
 -- one after the other
 pub gathers_append : {js ks a b d : List Interval} → Gathers js a b → Gathers ks b d → Gathers (js ++ ks) a d
 gathers_append {js} {ks} x y = record { all = λ is f o. y.all is (all_right (λ i. Memᴰ i is) js ks f) (x.all is (all_left (λ i. Memᴰ i is) js ks f) o) }
+
+pub gathers_more : {js ks a b d : List Interval} (ls : List Interval) → ((is : List Interval) → Among is ls → Among is js) → ((is : List Interval) → Among is ls → Among is ks) →
+    Gathers js a b → Gathers ks b d → Gathers ls a d
+gathers_more ls f g x y = record { all = λ is w o. y.all is (g is w) (x.all is (f is w) o) }
+
+-- a shape's own interval
+pub gathers_first : (w : Way) {a b : List Interval} (s : Shape) (i : Interval) → cond (counts w.under s.box) (interval s.box w.from w.to) None ≡ Some i → Gathers (i ∷ []) a b → Gathers (found w (s ∷ [])) a b
+unfolding intervals counting
+gathers_first w s i e x = record { all = λ is f o. x.all is (subst (Among is) (of_first w s [] i e) f) o }
 
 module _ (w : Way) {a b d : List Interval} where
   gathers_shapes : (ss ts : List Shape) → Gathers (found w ss) a b → Gathers (found w ts) b d → Gathers (found w (ss ++ ts)) a d

@@ -1,5 +1,5 @@
 -- A pass over the shapes is a round over the intervals of those that count, unless one refuses; and what the loops of a pass go by.
-use Rattle.std.specs.Prelude.{ℕ, ◌+◌, ◌-◌, ◌*◌, ◌≤◌, ◌<◌, ◌≡◌, Bool, ◌&&◌, ◌||◌, cond, ltb, Option, Some, None, is_some, drop, Float}
+use Rattle.std.specs.Prelude.{ℕ, ◌+◌, ◌-◌, ◌*◌, ◌≤◌, ◌<◌, ◌≡◌, Bool, ◌&&◌, ◌||◌, cond, ltb, Option, Some, None, is_some, unwrap_or, drop, Float}
 use Rattle.std.proofs.Common.{arith, sym, ◌∙◌, subst, ltb-true, ltb-false}
 use Rattle.std.proofs.Math.Path.{refl, ap}
 use Rattle.std.proofs.Math.Bool.{true, false, not}
@@ -36,6 +36,11 @@ round_ahead : (c : Float) (o : Option Interval) (is : List Interval) → round c
 unfolding round
 round_ahead c None is = refl
 round_ahead c (Some i) is = refl
+
+-- one that nothing has refused is told by how far it covers
+pub unrefused : (r : Option Float) (c : Float) → is_some r ≡ true → Some (unwrap_or r c) ≡ r
+unrefused (Some d) c e = refl
+unrefused None c e = cc
 
 -- the intervals of the shapes that count, and whether all of those are supports
 abbrev pub found : Way → List Shape → List Interval
