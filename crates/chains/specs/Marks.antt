@@ -16,7 +16,7 @@ Reaches a k = (m : ℕ) × (parents_back a m k ≡ 0)
 abbrev pub MarksSound : List ℕ → List Bool → Type 0
 MarksSound a done = (k : ℕ) → get_or done k false ≡ true → Reaches a k
 
--- where a climb ends: so many parents back, n or fewer, at node 0 or a marked one; or n parents back it has come to neither
+-- where a climb ends: so many parents back, at most n, at node 0 or a marked one; or n parents back it has come to neither
 abbrev pub Climbed : List ℕ → List Bool → ℕ → ℕ → Option ℕ → Type 0
 Climbed a done n k r = MatchOption r (parents_back a n k ≢ 0) (λ m. (m ≤ n) × (MarksSound a done → Reaches a k))
 
@@ -33,10 +33,10 @@ reaches_marked a done m at k e d s = let r = s at d in (m + r.0, laws.back_add a
 -- where a climb has come to node 0, to a marked node, or to neither n parents back
 module _ (a : List ℕ) (done : List Bool) (n k m at : ℕ) where
   pub climbed_first : m ≤ n → at ≡ parents_back a m k → at ≡ 0 → Climbed a done n k (Some m)
-  climbed_first h e d = λ s. (m, sym e ∙ d)
+  climbed_first h e d = (h, λ s. (m, sym e ∙ d))
 
   pub climbed_marked : m ≤ n → at ≡ parents_back a m k → get_or done at false ≡ true → Climbed a done n k (Some m)
-  climbed_marked h e d = reaches_marked a done m at k e d
+  climbed_marked h e d = (h, reaches_marked a done m at k e d)
 
 pub climbed_none : (a : List ℕ) (done : List Bool) (n k : ℕ) → parents_back a n k ≢ 0 → Climbed a done n k None
 climbed_none a done n k d = d
