@@ -2,12 +2,15 @@
 ghost use Rattle.std.specs.Prelude.{◌≡◌, drop};
 ghost use Rattle.scene_records.specs.Layout.{zeros, unused_from};
 
-// Whether every byte from an offset on is zero.
-#[tactic(auto, unfolding(scene_records::specs::Layout::zeros))]
+// Whether every byte from an offset on is zero. Each is looked at, and not `all`: in a good record they all are zero, and so the compiler can look at many at once.
 pub(crate) fn zeros_from(bytes: &[u8], from: usize) -> bool
     ensures { result ≡ zeros (drop from bytes.now) }
 {
-    bytes.iter().skip(from).all(|byte| *byte == 0)
+    let mut all = true;
+    for i in from..bytes.len() {
+        all = all & (bytes[i] == 0);
+    }
+    all
 }
 
 // Where the bytes begin that a kind, a byte (`in_order`), does not use.
