@@ -54,5 +54,5 @@ pub fn judge(
     if query.request.node_budget == 0 {
         return Err(Outcome::BudgetExceeded);
     }
-    Ok(())
+    Ok(()) // the search begins
 }
