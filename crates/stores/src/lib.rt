@@ -18,6 +18,7 @@ fn put<const N: usize>(s: &mut [u8], at: usize, bytes: [u8; N])
 }
 
 // The u32 at an offset set to v.
+#[tactic(auto, using(crate::proofs::Low::low_bytes), unfolding(fields::specs::Little::with_field))]
 pub fn put_u32(s: &mut [u8], at: usize, v: u32)
     ensures { s.new ≡ with_field 4 s.old at v }
 {
@@ -25,6 +26,7 @@ pub fn put_u32(s: &mut [u8], at: usize, v: u32)
 }
 
 // The u64 at an offset set to v.
+#[tactic(auto, using(crate::proofs::Low::low_bytes), unfolding(fields::specs::Little::with_field))]
 pub fn put_u64(s: &mut [u8], at: usize, v: u64)
     ensures { s.new ≡ with_field 8 s.old at v }
 {
