@@ -1,8 +1,8 @@
 -- `records::put_record` meets its contract. Assumes nothing.
 use Rattle.std.specs.Option.{SomeIff, unwrap_or}
 use Rattle.std.specs.Prelude.{Option, Some, None}
-use Rattle.std.proofs.Common.{arith, ℕ, ◌+◌, ◌*◌, ◌/◌, ◌<◌, ◌≤◌, ◌≡◌, refl, sym, ap, ◌∙◌, length}
-use Rattle.records.specs.Laws.{rest, rest_all, rest_more, rest_none, none_out}
+use Rattle.std.proofs.Common.{arith, ℕ, ◌*◌, ◌/◌, ◌<◌, ◌≤◌, ◌≡◌, refl, sym, ◌∙◌, length}
+use Rattle.records.specs.Laws.{rest_all, rest_more, rest_none, none_out}
 use Rattle.records.proofs.put_record.Goals as goal
 use Rattle.records.proofs.put_record.Goals.{Then-inside}
 
@@ -27,11 +27,8 @@ loop-i-init c = let a = c.args in (refl, rest_all a.s.now a.k a.words.now)
 
 pub loop-i-preserved : goal.loop-i-preserved
 loop-i-preserved c =
-    let a = c.args in let l = c.loop-i in (
-      c.put_u64.auto.s ∙ l.invariant.0,
-      l.invariant.1 ∙ rest_more a.s.now a.k a.words.now l.i l.s c.loop-i-test.true (one (goal.at.loop-i-preserved c).Then-inside)
-          ∙ ap (rest a.s.now a.k a.words.now (l.i + 1)) (sym c.put_u64.ensures),
-    )
+    let r = rest_more c.args.s.now c.args.k c.args.words.now c.loop-i.i c.loop-i.s c.loop-i-test.true (one (goal.at.loop-i-preserved c).Then-inside) in
+    grind (arith, r, c.loop-i.invariant)
 
 pub returns-after-loop-i : goal.returns-after-loop-i
 returns-after-loop-i c =
