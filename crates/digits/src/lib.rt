@@ -49,6 +49,7 @@ fn put_digits(out: &mut [u8], at: usize, base: u64, width: usize, v: u64, end: u
 }
 
 // How many decimal digits a number has.
+#[tactic(auto, using(crate::specs::Laws::places_by_power, crate::specs::Laws::places_from_one))]
 fn places_of(v: u64) -> usize
     ensures { (result ≡ places v) × (result ≤ 20) }
 {
