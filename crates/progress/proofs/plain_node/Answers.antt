@@ -1,5 +1,5 @@
 -- `progress::plain_node` meets its contract. Assumes nothing.
-use Rattle.std.proofs.Common.{add-zero, refl, ◌*◌}
+use Rattle.std.proofs.Common.{add-zero, arith, refl, ◌*◌}
 use Rattle.exploration.proofs.Laws.Lists.{true_false}
 use Rattle.rooms.specs.Records.{node_at, entry_at}
 use Rattle.progress.specs.Progress.{good_node}
@@ -10,7 +10,4 @@ returns-then-not-is_number c e = absurd (true_false e refl)
 
 pub returns : goal.returns
 unfolding good_node node_at entry_at
-returns c e =
-    let a = c.args in
-    rw (add-zero (64 * a.k))
-    (rw (c.words_good.ensures, c.u64_at-waiting.ensures, c.u32_at-closed.ensures, c.u64_at-cost.ensures, c.u64_at-movement.ensures, c.u64_at-z.ensures, c.u64_at-y.ensures, c.u64_at-x.ensures) at e)
+returns c e = let a = c.args in rw (add-zero (64 * a.k)) (grind (arith, e, c.words_good.ensures, c.u64_at-waiting.ensures, c.u32_at-closed.ensures, c.u64_at-cost.ensures, c.u64_at-movement.ensures, c.u64_at-z.ensures, c.u64_at-y.ensures, c.u64_at-x.ensures))
