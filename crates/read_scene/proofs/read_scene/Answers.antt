@@ -1,5 +1,5 @@
 -- `read_scene::read_scene` meets its contract: what reading all records comes to is what taking in the rest comes to, from the progress so far.
-use Rattle.std.proofs.Common.{◌≡◌, length, min, sym, ap, ◌∙◌}
+use Rattle.std.proofs.Common.{◌≡◌, length, min, sym, ap, ◌∙◌, arith, take_all}
 use Rattle.std.specs.Slice.Iter.{chunks_rest}
 use Rattle.scene.specs.Scene.{Read}
 use Rattle.scene_state.specs.Answers.{progress_answer}
@@ -13,9 +13,10 @@ pub loop-piece-init : goal.loop-piece-init
 loop-piece-init c =
     let a = c.args in
     let t = tables_of a.cells.now a.perms.now a.shapes.now a.boxes.now in
+    let all : chunks_rest c.chunks-piece-items.result ≡ a.bytes.now = grind (arith, c.chunks-piece-items.ensures.rest, take_all) in
     rw c.into_iter-piece-iterator.ensures.into_iter_gives (record {
       size = c.chunks-piece-items.ensures.size;
-      so_far = rw c.chunks-piece-items.ensures.rest (sym (takes_whole t (records a.bytes.now) (progress_answer c.begin-so_far.result) c.begin-so_far.ensures));
+      so_far = rw all (sym (takes_whole t (records a.bytes.now) (progress_answer c.begin-so_far.result) c.begin-so_far.ensures));
     })
 
 pub loop-piece-preserved : goal.loop-piece-preserved
