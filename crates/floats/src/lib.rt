@@ -11,6 +11,7 @@ ghost use Rattle.floats.specs.Floats.{smaller, larger, absolute};
 pub const E: f64 = 1.0e-7;
 
 // The float of a bit pattern: every NaN pattern is the one NaN.
+#[tactic(auto, using(crate::proofs::NoNumber::nan_read, crate::specs::Patterns::number_pattern))]
 pub fn float_of(n: u64) -> f64
     ensures { result ≡ of_bits binary64 n }
 {
@@ -18,6 +19,7 @@ pub fn float_of(n: u64) -> f64
 }
 
 // The bit pattern of a float: of a NaN the one that IEEE calls the default.
+#[tactic(auto, using(crate::proofs::NoNumber::nan_written))]
 pub fn bits_of(x: f64) -> u64
     ensures { result ≡ to_bits binary64 x }
 {
@@ -49,6 +51,7 @@ pub fn abs(x: f64) -> f64
 }
 
 // Whether a float is a number: neither an infinity nor a NaN.
+#[tactic(auto, using(crate::specs::Laws::is_finite, crate::proofs::NoNumber::infinity_no_number))]
 pub fn finite(x: f64) -> bool
     ensures { result ≡ finite x }
 {

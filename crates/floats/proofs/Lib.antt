@@ -1,0 +1,2 @@
+-- Theorems on what is no number.
+pub mod NoNumber
