@@ -10,7 +10,6 @@ use Rattle.std.proofs.Math.Dec.{eqb}
 use Rattle.regions.specs.declared.Region.{Region}
 use Rattle.regions.specs.declared.Spot.{Spot}
 use Rattle.regions.specs.Regions.{to_come}
-use Rattle.regions.specs.RegionLaws.{ended}
 use Rattle.world.specs.declared.Point.{Point}
 use Rattle.world.specs.declared.Aabb.{Aabb}
 use Rattle.world.specs.declared.Cell.{Cell}
