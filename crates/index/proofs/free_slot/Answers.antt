@@ -1,5 +1,5 @@
 -- `index::free_slot` meets its contract. Assumes nothing.
-use Rattle.std.proofs.Common.{◌≡◌, ℕ, ◌-◌, ◌+◌, eqb, sym, ap, ◌∙◌, arith, eq-eqb, ne_eqb}
+use Rattle.std.proofs.Common.{◌≡◌, ◌-◌, ◌+◌, sym, ◌∙◌, arith, eq-eqb, ne_eqb}
 use Rattle.index.specs.Index.{slots, slot_at, free_from, free_for}
 use Rattle.index.proofs.Turns.{home_less, next_slot_less, free_here, free_goes_on, free_ends}
 use Rattle.index.proofs.free_slot.Goals as goal
@@ -25,7 +25,8 @@ returns-then-u32_at-eq0 c =
     let a = c.args in
     let at = c.loop-turn in
     let left = slots a.index.now - at.turn in
-    sym (at.invariant.1 ∙ free_here a.index.now at.s left (omega (arith, c.loop-turn-test.true)) (sym (ap (λ (e : ℕ). eqb e 0) c.u32_at.ensures) ∙ eq-eqb _ _ c.if-u32_at-eq0.true))
+    let none : slot_at a.index.now at.s ≡ 0 = omega (arith, c.u32_at.ensures, c.if-u32_at-eq0.true) in
+    sym (at.invariant.1 ∙ free_here a.index.now at.s left (omega (arith, c.loop-turn-test.true)) (eq-eqb _ _ none))
 
 pub next_slot-s-requires : goal.next_slot-s-requires
 next_slot-s-requires c = c.loop-turn.invariant.0
@@ -37,9 +38,10 @@ loop-turn-preserved c =
     let at = c.loop-turn in
     let left = slots a.index.now - at.turn in
     let d : left - 1 ≡ slots a.index.now - (at.turn + 1) = omega arith in
-    let e = c.next_slot-s.ensures in (
+    let e = c.next_slot-s.ensures in
+    let some : slot_at a.index.now at.s ≡ 0 → ⊥ = λ z. omega (arith, z, c.u32_at.ensures, c.if-u32_at-eq0.false) in (
       rw e (next_slot_less _ at.s at.invariant.0),
-      at.invariant.1 ∙ free_goes_on a.index.now at.s left (omega (arith, c.loop-turn-test.true)) (sym (ap (λ (e : ℕ). eqb e 0) c.u32_at.ensures) ∙ ne_eqb _ _ c.if-u32_at-eq0.false)
+      at.invariant.1 ∙ free_goes_on a.index.now at.s left (omega (arith, c.loop-turn-test.true)) (ne_eqb _ _ some)
           ∙ (λ i. free_from a.index.now (d i) (sym e i)),
     )
 
