@@ -1,5 +1,5 @@
 -- `search::turns::spin` meets its contract. The loop's invariant: the rooms are the state after so many expansions, with what the last of them came to.
-use Rattle.std.proofs.Common.{◌≤◌, ◌≡◌, refl, ◌∙◌, arith, le_trans, lt_of_lt_of_le}
+use Rattle.std.proofs.Common.{◌<◌, ◌≤◌, ◌≡◌, refl, ◌∙◌, arith, le_trans, lt_of_lt_of_le}
 use Rattle.std.specs.Float.{binary64}
 use Rattle.std.specs.Float.Ieee.{of_bits}
 use lib.ListN.{length-replicate}
@@ -49,9 +49,10 @@ pub expand-turn-requires : goal.expand-turn-requires
 expand-turn-requires c =
     let u = rw c.in-Going.is at c.loop.invariant.spun in
     let x = entered (goal.at.expand-turn-requires c).After-extend-known in
+    let less : c.loop.counter < c.args.n = grind (arith, c.loop-test.true) in
     record {
       room_nonzero = omega (arith, c.loop.invariant.tops);
-      ready = ready_after c.requires.ready u.near (omega (arith, c.loop-test.true)) c.loop.auto.nodes c.loop.auto.front;
+      ready = ready_after c.requires.ready u.near (omega (arith, less)) c.loop.auto.nodes c.loop.auto.front;
       goal_value = c.requires.goal_value;
       indexed = (rw (c.extend-known.ensures.1, c.extend-known.ensures.0) x.indexed, rw c.extend-known.ensures.0 x.most, (settled (goal.at.expand-turn-requires c).After-first_busy-low).0);
     }
@@ -75,8 +76,10 @@ loop-preserved c =
 
 pub returns-after-loop : goal.returns-after-loop
 returns-after-loop c =
-    let e : c.loop.counter ≡ c.args.n = omega (arith, c.loop-test.false, c.loop.auto.counter-end) in
+    let e : c.loop.counter ≡ c.args.n = grind (arith, c.loop-test.false, c.loop.auto.counter-end) in
     rw e at c.loop.invariant.spun
 
 pub returns-in_default : goal.returns-in_default
-returns-in_default c = spun_over c.loop.turn c.loop.counter c.args.n c.loop.auto.counter-end (ended c.loop.turn c.in_default.not-Going) c.loop.invariant.spun
+returns-in_default c =
+    let most : c.loop.counter ≤ c.args.n = grind (arith, c.loop.auto.counter-end) in
+    spun_over c.loop.turn c.loop.counter c.args.n most (ended c.loop.turn c.in_default.not-Going) c.loop.invariant.spun
