@@ -7,8 +7,8 @@ ghost use Rattle.strides.specs.Strides.{Strode};
 
 use moves::Waypoint;
 use rooms::{Counts, WaypointRecord};
-pub use visits::Place;
 use visits::Aim;
+pub use visits::Place;
 
 // What a column has come to: the counts, and whether an edge so far does not climb.
 #[derive(Clone, Copy)]

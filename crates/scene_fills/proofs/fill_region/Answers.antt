@@ -1,5 +1,5 @@
 -- `scene_fills::fill_region` meets its contract. Assumes nothing.
-use Rattle.std.proofs.Common.{List, refl, sym, ap, ◌∙◌}
+use Rattle.std.proofs.Common.{List, sym, ap, ◌∙◌}
 use mathlib.Core.List.{foldl}
 use Rattle.regions.specs.Regions.{to_come}
 use Rattle.regions.specs.RegionLaws.{begun, taken, still_proper, fewer, ended}
@@ -28,7 +28,7 @@ loop-next-preserved c =
       proper = still_proper a.region l.next c.next_in-next.result _ c.in-Some.is l.invariant.proper c.next_in-next.ensures;
       fills =
           l.invariant.fills ∙ ap (foldl (with_cell a.w.sx a.w.sz a.state a.shape) l.cells) next
-              ∙ ap (λ (t : List _). foldl (with_cell a.w.sx a.w.sz a.state a.shape) t (to_come a.region c.next_in-next.result)) (sym (rw c.number.ensures at c.put_entry.ensures));
+          ∙ ap (λ (t : List _). foldl (with_cell a.w.sx a.w.sz a.state a.shape) t (to_come a.region c.next_in-next.result)) (sym (rw c.number.ensures at c.put_entry.ensures));
     }
 
 pub returns : goal.returns
