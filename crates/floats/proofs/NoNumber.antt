@@ -1,4 +1,4 @@
--- What is no number: a NaN as it is read and written, and an infinity. The goals of src/lib.rt are given them, so that an edit of it is refused by its value alone.
+-- What is no number: a NaN as it is read and written, and an infinity. The goals of src/lib.rt are given them, so that of an edit the right value is proved, and a wrong one is refused for what it is.
 use Rattle.std.specs.Prelude.{ℕ, ◌%◌, ◌<◌, ◌≡◌, refl, true, false, T, Float}
 use Rattle.std.proofs.Common.{sym, ap, subst}
 use Rattle.std.specs.Float.{nan, inf, fin, binary64}
